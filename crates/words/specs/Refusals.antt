@@ -1,0 +1,19 @@
+-- The thirteen rows of document 01's table "Refusals and trays": the number of each. Assumes nothing.
+use Prim.Native.Nat.{ℕ}
+use Rattle.words.specs.declared.refusal.Refusal.{Refusal}
+use Rattle.words.specs.declared.refusal.Refusal.the-variants.{Ragged, Crowded, ShortTray, Misplaced, NotFinite, Inverted, NoDirection, OutOfRange, NoArea, LostUnion, BadU, BrokenTree, TooWide}
+
+abbrev pub number : Refusal → ℕ
+number Ragged = 1
+number Crowded = 2
+number ShortTray = 3
+number Misplaced = 4
+number NotFinite = 5
+number Inverted = 6
+number NoDirection = 7
+number OutOfRange = 8
+number NoArea = 9
+number LostUnion = 10
+number BadU = 11
+number BrokenTree = 12
+number TooWide = 13
