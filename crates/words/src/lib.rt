@@ -1,1 +1,2 @@
+pub mod floats;
 pub mod refusal;
