@@ -1,0 +1,50 @@
+// Functions that choose among their arguments.
+ghost use mathlib.Core.Path.{_≡_};
+ghost use Rattle.ieee.specs.Choose.{fmin, fmax, clamp as clamped, fabs};
+
+// The lesser. A NaN loses to the other value; of equal values the first is given.
+pub fn min(x: f32, y: f32) -> f32
+    ensures { λ r. ⌜ r ≡ fmin x y ⌝ }
+{
+    if x != x {
+        y
+    } else if y < x {
+        y
+    } else {
+        x
+    }
+}
+
+// The greater, likewise.
+pub fn max(x: f32, y: f32) -> f32
+    ensures { λ r. ⌜ r ≡ fmax x y ⌝ }
+{
+    if x != x {
+        y
+    } else if x < y {
+        y
+    } else {
+        x
+    }
+}
+
+// lo where x is below it, hi where x is above it, else x; a NaN stays.
+pub fn clamp(x: f32, lo: f32, hi: f32) -> f32
+    ensures { λ r. ⌜ r ≡ clamped x lo hi ⌝ }
+{
+    let y = if x < lo { lo } else { x };
+    if hi < y { hi } else { y }
+}
+
+// The value without its sign.
+pub fn abs(x: f32) -> f32
+    ensures { λ r. ⌜ r ≡ fabs x ⌝ }
+{
+    if x < 0.0 {
+        -x
+    } else if x == 0.0 {
+        0.0
+    } else {
+        x
+    }
+}

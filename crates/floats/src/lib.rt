@@ -1,0 +1,7 @@
+// Document 01's library functions on floats, at every bit pattern: NaN, infinities, both zeros and subnormals included. Each promise is an equation with
+// a definition of crates/ieee/specs, which reads as document 01's sentence.
+pub mod choose;
+pub mod narrow;
+pub mod root;
+pub mod sqrt;
+pub mod whole;

@@ -1,0 +1,7 @@
+pub mod Choose
+pub mod ChooseLaws
+pub mod Whole
+pub mod Sqrt
+pub mod Narrow
+pub mod Patterns
+pub mod Rounding

@@ -1,0 +1,129 @@
+-- Bit patterns without their sign. `magnitude f a` is what the pattern a stands for, in units of the format's smallest value 2 ^ -low, and a
+-- finite value of u units has the pattern `pattern f u`. Over the format. Assumes nothing.
+use Prim.Native.Nat.{ℕ, zero, suc, _+_, _-_, _*_, _/_, _%_, _^_, _≤_, _<_}
+use mathlib.Core.Path.{_≡_, refl, sym, _∙_, ap, subst}
+use mathlib.Core.Bool.{Bool, true, false, cond}
+use mathlib.Core.Logic.{_≢_, _⊎_, inl, inr}
+use native.Mathlib.Nat.{mod-mod-of-dvd, dvd-mul-right, mod-eq-of-lt, mul-one, one-mul, mul-div-cancel, le-div-iff-mul-le, lt-irrefl, lt-of-not-le, not-le-of-lt, le-refl, le-antisymm, eq-or-lt-of-le, lt-of-le-of-lt, le-of-suc-le-suc, zero-lt-suc, add-assoc, sub-eq-zero-of-le, mul-le-mul-right, pow-succ', mul-left-comm, mul-assoc}
+use native.Mathlib.Omega.{arith}
+use lib.Dec.{T, ltb, leb, eqb}
+use lib.Pow.{pow-pos, pow-mono, pow-lt, pow-add, shl-lt}
+use lib.Ieee.{Format, binary32, binary64, Float, nan, inf, fin, prec, emax, low, hid, ones, top, up, down, size, ofBits, ofFields, toBits, odd}
+use lib.Ieee.Digits.{size-lt, size-reaches, size-le}
+use lib.Ieee.Exact.{HasValue, odd-sign}
+use lib.Ieee.Fits.{two, down-pos}
+use borrow.Author.Tests.{lt-ltb, le-ltb, ne-eqb}
+
+-- ---- reading a pattern
+
+-- A field of 0 has no leading digit and counts as a field of 1.
+unfoldable pub magnitude : Format → ℕ → ℕ
+magnitude f a = cond (ltb a (hid f)) a ((hid f + a % hid f) * 2 ^ (a / hid f - 1))
+
+pub magnitude-small : (f : Format) (a : ℕ) → a < hid f → magnitude f a ≡ a
+unfolding magnitude
+magnitude-small f a h = rw (lt-ltb a (hid f) h)
+
+pub magnitude-large : (f : Format) (a : ℕ) → hid f ≤ a → magnitude f a ≡ (hid f + a % hid f) * 2 ^ (a / hid f - 1)
+unfolding magnitude
+magnitude-large f a h = rw (le-ltb a (hid f) h)
+
+pub hid-pos : (f : Format) → 0 < hid f
+hid-pos f = pow-pos (prec f - 1)
+
+-- a pattern's fields, and its value. Not at a field of all ones, an infinity's or a NaN's.
+fields : (f : Format) (s : Bool) (x t a : ℕ) → a / hid f ≡ x → a % hid f ≡ t → x ≢ ones f → HasValue (ofFields f s x t) s (magnitude f a) (2 ^ low f)
+unfolding ofFields
+fields f s zero t a p q n =
+    let small : a < hid f = lt-of-not-le (λ (h : hid f ≤ a). lt-irrefl 0 (subst (λ (z : ℕ). 0 < z) p (le-div-iff-mul-le (hid-pos f) .1 (subst (λ (z : ℕ). z ≤ a) (sym (one-mul (hid f))) h)))) in
+    subst (λ (z : ℕ). HasValue (odd (prec f) s t 0 (low f)) s z (2 ^ low f)) (mul-one t ∙ sym q ∙ mod-eq-of-lt small ∙ sym (magnitude-small f a small))
+    (odd-sign (prec f) s t 0 (low f))
+fields f s (suc y) t a p q n =
+    let large : hid f ≤ a = subst (λ (z : ℕ). z ≤ a) (one-mul (hid f)) (le-div-iff-mul-le (hid-pos f) .0 (subst (λ (z : ℕ). 1 ≤ z) (sym p) (zero-lt-suc y))) in
+    rw (ne-eqb (suc y) (ones f) n)
+    (subst (λ (z : ℕ). HasValue (odd (prec f) s (hid f + t) y (low f)) s z (2 ^ low f)) (sym (magnitude-large f a large ∙ ap (λ (z : ℕ). (hid f + z) * 2 ^ (a / hid f - 1)) q ∙ ap (λ (z : ℕ). (hid f + t) * 2 ^ (z - 1)) p ∙ ap (λ (z : ℕ). (hid f + t) * 2 ^ z) (pred-suc y)))
+    (odd-sign (prec f) s (hid f + t) y (low f)))
+  where
+    pred-suc : (y : ℕ) → suc y - 1 ≡ y
+    pred-suc y = omega arith
+
+pub decode : (f : Format) (w : ℕ) → w % top f / hid f ≢ ones f → HasValue (ofBits f w) (leb (top f) w) (magnitude f (w % top f)) (2 ^ low f)
+unfolding ofBits
+decode f w n = fields f (leb (top f) w) (w % top f / hid f) (w % hid f) (w % top f) refl (mod-mod-of-dvd (hid f) w (dvd-mul-right (hid f) (suc (ones f)))) n
+
+-- ---- writing a value
+
+-- the pattern of u units: the leading prec digits, and a field that says how many were dropped
+unfoldable pub pattern : Format → ℕ → ℕ
+pattern f u = (size u - prec f) * hid f + u / 2 ^ (size u - prec f)
+
+pub toBits-value : (f : Format) (v : Float) (s : Bool) (u : ℕ) → HasValue v s u (2 ^ low f) → toBits f v ≡ cond s (top f) 0 + pattern f u
+unfolding toBits pattern
+toBits-value f nan s u h = absurd h
+toBits-value f (inf t) s u h = absurd h
+toBits-value f (fin t m e) s u h =
+    let n : m * up e * 2 ^ low f / down e ≡ u = ap (λ (z : ℕ). z / down e) (h .1) ∙ mul-div-cancel u (down-pos e) in
+    ap (λ (z : ℕ). cond t (top f) 0 + (size z - prec f) * hid f + z / 2 ^ (size z - prec f)) n
+    ∙ ap (λ (b : Bool). cond b (top f) 0 + (size u - prec f) * hid f + u / 2 ^ (size u - prec f)) (h .0)
+    ∙ add-assoc (cond s (top f) 0) ((size u - prec f) * hid f) (u / 2 ^ (size u - prec f))
+
+-- ---- powers of two
+
+pub pow-le-inv : (a b : ℕ) → 2 ^ a ≤ 2 ^ b → a ≤ b
+pow-le-inv a b h = le-of-suc-le-suc (lt-of-not-le (λ (g : suc b ≤ a). not-le-of-lt (pow-lt g) h))
+
+pub pow-lt-inv : (a b : ℕ) → 2 ^ a < 2 ^ b → a < b
+pow-lt-inv a b h = lt-of-not-le (λ (g : b ≤ a). not-le-of-lt h (pow-mono g))
+
+pub size-is : (n j : ℕ) → 2 ^ j ≤ n → n < 2 ^ suc j → size n ≡ suc j
+size-is n j lo hi = le-antisymm (size-le n (suc j) hi) (pow-lt-inv j (size n) (lt-of-le-of-lt lo (size-lt n)))
+
+-- twice the weight of the leading digit
+pub two-hid : (f : Format) → 2 ^ prec f ≡ 2 * hid f
+two-hid binary32 = refl
+two-hid binary64 = refl
+
+-- ---- q * 2 ^ k units have the pattern k * hid + q, also where q has been carried to 2 ^ prec
+
+-- q is what a rounding that drops k digits keeps: where it drops any, the leading digit is there
+abbrev pub Digits : Format → ℕ → ℕ → Type 0
+Digits f q k = (q ≤ 2 ^ prec f) × ((k ≡ 0) ⊎ (hid f ≤ q))
+
+pattern-dropped : (f : Format) (u k : ℕ) → size u - prec f ≡ k → pattern f u ≡ k * hid f + u / 2 ^ k
+unfolding pattern
+pattern-dropped f u k h = ap (λ (z : ℕ). z * hid f + u / 2 ^ z) h
+
+pattern-whole : (f : Format) (q : ℕ) → q < 2 ^ prec f → pattern f (q * 2 ^ 0) ≡ 0 * hid f + q
+pattern-whole f q h =
+    let one : q * 2 ^ 0 ≡ q = mul-one q in
+    let short : size (q * 2 ^ 0) ≤ prec f = subst (λ (z : ℕ). size z ≤ prec f) (sym one) (size-le q (prec f) h) in
+    pattern-dropped f (q * 2 ^ 0) 0 (sub-eq-zero-of-le short) ∙ ap (λ (z : ℕ). 0 * hid f + z) (mul-div-cancel q (pow-pos 0))
+
+pattern-cut : (f : Format) (q k : ℕ) → q < 2 ^ prec f → hid f ≤ q → pattern f (q * 2 ^ k) ≡ k * hid f + q
+pattern-cut f q k hi lo =
+    let P : 2 ≤ prec f = two f in
+    let e : suc (prec f - 1 + k) ≡ prec f + k = omega arith in
+    let below : 2 ^ (prec f - 1 + k) ≤ q * 2 ^ k = rw (pow-add 2 (prec f - 1) k) (mul-le-mul-right (2 ^ k) lo) in
+    let above : q * 2 ^ k < 2 ^ suc (prec f - 1 + k) = subst (λ (z : ℕ). q * 2 ^ k < 2 ^ z) (sym e) (shl-lt (prec f) k hi) in
+    let n : size (q * 2 ^ k) ≡ suc (prec f - 1 + k) = size-is (q * 2 ^ k) (prec f - 1 + k) below above in
+    let d : size (q * 2 ^ k) - prec f ≡ k = omega arith in
+    pattern-dropped f (q * 2 ^ k) k d ∙ ap (λ (z : ℕ). k * hid f + z) (mul-div-cancel q (pow-pos k))
+
+double-mono : (a h : ℕ) → 0 < h → h < 2 * h
+double-mono a h p = omega arith
+
+pattern-carried : (f : Format) (k : ℕ) → pattern f (2 ^ prec f * 2 ^ k) ≡ k * hid f + 2 ^ prec f
+pattern-carried f k =
+    let same : hid f * 2 ^ suc k ≡ 2 ^ prec f * 2 ^ k = ap (λ (z : ℕ). hid f * z) (pow-succ' 2 k) ∙ mul-left-comm (hid f) 2 (2 ^ k) ∙ sym (mul-assoc 2 (hid f) (2 ^ k)) ∙ ap (λ (z : ℕ). z * 2 ^ k) (sym (two-hid f)) in
+    let small : hid f < 2 ^ prec f = subst (λ (z : ℕ). hid f < z) (sym (two-hid f)) (double-mono 0 (hid f) (hid-pos f)) in
+    let d : suc k * hid f + hid f ≡ k * hid f + 2 * hid f = omega arith in
+    subst (λ (z : ℕ). pattern f z ≡ k * hid f + 2 ^ prec f) same
+    (pattern-cut f (hid f) (suc k) small (le-refl (hid f)) ∙ d ∙ ap (λ (z : ℕ). k * hid f + z) (sym (two-hid f)))
+
+pub pattern-at : (f : Format) (q k : ℕ) → Digits f q k → pattern f (q * 2 ^ k) ≡ k * hid f + q
+pattern-at f q k d = go (eq-or-lt-of-le (d .0)) (d .1)
+  where
+    go : (q ≡ 2 ^ prec f) ⊎ (q < 2 ^ prec f) → (k ≡ 0) ⊎ (hid f ≤ q) → pattern f (q * 2 ^ k) ≡ k * hid f + q
+    go (inl e) c = subst (λ (z : ℕ). pattern f (z * 2 ^ k) ≡ k * hid f + z) (sym e) (pattern-carried f k)
+    go (inr l) (inl z) = subst (λ (j : ℕ). pattern f (q * 2 ^ j) ≡ j * hid f + q) (sym z) (pattern-whole f q l)
+    go (inr l) (inr h) = pattern-cut f q k l h
