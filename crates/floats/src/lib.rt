@@ -3,5 +3,6 @@
 pub mod choose;
 pub mod narrow;
 pub mod root;
+pub mod shift;
 pub mod sqrt;
 pub mod whole;

@@ -2,6 +2,7 @@
 ghost use mathlib.Core.Path.{_≡_};
 ghost use lib.Ieee.{binary32, binary64, ofBits, toBits};
 ghost use Rattle.ieee.specs.Narrow.{narrow as narrowed};
+use super::shift::shifted_to_even;
 use words::floats::f32_of_word;
 use words::floats::word_of_f64;
 
@@ -35,8 +36,7 @@ fn narrow_word(w: u64) -> u32
     }
     // normal: 2^-126 and up. 29 digits go; a carry runs into the exponent, and from the largest exponent into the infinity's pattern
     if a >= 0x3810_0000_0000_0000 {
-        let b = a - 0x3800_0000_0000_0000;
-        return sign + ((b + 0x0fff_ffff + b / 0x2000_0000 % 2) / 0x2000_0000) as u32;
+        return sign + shifted_to_even(a - 0x3800_0000_0000_0000, 29) as u32;
     }
     // too small: below 2^-150, half of the smallest f32
     if a < 0x3690_0000_0000_0000 {
@@ -45,6 +45,5 @@ fn narrow_word(w: u64) -> u32
     // subnormal, or zero at the tie: 30 to 53 digits go
     let gone = 926 - a / 0x10_0000_0000_0000;
     let m = 0x10_0000_0000_0000 + a % 0x10_0000_0000_0000;
-    let half = 1u64 << (gone - 1);
-    sign + ((m + (half - 1) + (m >> gone) % 2) >> gone) as u32
+    sign + shifted_to_even(m, gone) as u32
 }

@@ -4,4 +4,5 @@ pub mod Whole
 pub mod Sqrt
 pub mod Narrow
 pub mod Patterns
+pub mod NarrowLaws
 pub mod Rounding

@@ -4,15 +4,18 @@ use Prim.Native.Nat.{ℕ, zero, suc, _+_, _-_, _*_, _/_, _%_, _^_, _≤_, _<_}
 use mathlib.Core.Path.{_≡_, refl, sym, _∙_, ap, subst}
 use mathlib.Core.Bool.{Bool, true, false, cond}
 use mathlib.Core.Logic.{_≢_, _⊎_, inl, inr}
-use native.Mathlib.Nat.{mod-mod-of-dvd, dvd-mul-right, mod-eq-of-lt, mul-one, one-mul, mul-div-cancel, le-div-iff-mul-le, lt-irrefl, lt-of-not-le, not-le-of-lt, le-refl, le-antisymm, eq-or-lt-of-le, lt-of-le-of-lt, le-of-suc-le-suc, zero-lt-suc, add-assoc, sub-eq-zero-of-le, mul-le-mul-right, pow-succ', mul-left-comm, mul-assoc}
+use native.Mathlib.Nat.{mod-mod-of-dvd, dvd-mul-right, mod-eq-of-lt, mul-one, one-mul, mul-div-cancel, le-div-iff-mul-le, lt-irrefl, lt-of-not-le, not-le-of-lt, le-refl, le-antisymm, eq-or-lt-of-le, lt-of-le-of-lt, le-of-suc-le-suc, zero-lt-suc, add-assoc, sub-eq-zero-of-le, mul-le-mul-right, pow-succ', mul-left-comm, mul-assoc, mul-le-mul-left, mod-lt, div-lt-iff-lt-mul, lt-of-lt-of-le, mul-lt-mul-of-pos-right, le-trans, le-of-eq, mul-le-mul, le-add-right, mul-mod-left, mul-pos, div-eq-of-lt-le, div-eq-of-lt, zero-mul}
+use native.Mathlib.Decide.{decLe}
 use native.Mathlib.Omega.{arith}
-use lib.Dec.{T, ltb, leb, eqb}
-use lib.Pow.{pow-pos, pow-mono, pow-lt, pow-add, shl-lt}
-use lib.Ieee.{Format, binary32, binary64, Float, nan, inf, fin, prec, emax, low, hid, ones, top, up, down, size, ofBits, ofFields, toBits, odd}
+use lib.Dec.{T, ltb, leb, lit<}
+use native.Mathlib.Numerals.{one-add}
+use lib.Pow.{pow-pos, pow-mono, pow-lt, pow-add, shl-lt, shl-exact}
+use lib.Ieee.{Format, binary32, binary64, Float, nan, inf, fin, prec, emax, low, hid, ones, top, up, down, size, ofBits, ofFields, toBits, odd, fits}
 use lib.Ieee.Digits.{size-lt, size-reaches, size-le}
+use lib.Ieee.Bits.{ofBits-toBits}
 use lib.Ieee.Exact.{HasValue, odd-sign}
 use lib.Ieee.Fits.{two, down-pos}
-use borrow.Author.Tests.{lt-ltb, le-ltb, ne-eqb}
+use borrow.Author.Tests.{lt-ltb, le-ltb, le-leb, lt-leb, eq-eqb, ne-eqb}
 
 -- ---- reading a pattern
 
@@ -78,6 +81,10 @@ pow-lt-inv a b h = lt-of-not-le (λ (g : b ≤ a). not-le-of-lt h (pow-mono g))
 pub size-is : (n j : ℕ) → 2 ^ j ≤ n → n < 2 ^ suc j → size n ≡ suc j
 size-is n j lo hi = le-antisymm (size-le n (suc j) hi) (pow-lt-inv j (size n) (lt-of-le-of-lt lo (size-lt n)))
 
+-- a one shifted within its width
+pub one-shifted : (k w : ℕ) → k < w → 1 * 2 ^ k % 2 ^ w ≡ 2 ^ k
+one-shifted k w h = shl-exact 1 k w (lit< tt) (subst (λ (z : ℕ). z ≤ w) (sym (one-add k)) h) ∙ one-mul (2 ^ k)
+
 -- twice the weight of the leading digit
 pub two-hid : (f : Format) → 2 ^ prec f ≡ 2 * hid f
 two-hid binary32 = refl
@@ -127,3 +134,58 @@ pattern-at f q k d = go (eq-or-lt-of-le (d .0)) (d .1)
     go (inl e) c = subst (λ (z : ℕ). pattern f (z * 2 ^ k) ≡ k * hid f + z) (sym e) (pattern-carried f k)
     go (inr l) (inl z) = subst (λ (j : ℕ). pattern f (q * 2 ^ j) ≡ j * hid f + q) (sym z) (pattern-whole f q l)
     go (inr l) (inr h) = pattern-cut f q k l h
+
+-- ---- how large a pattern's value is
+
+pub magnitude-lt : (f : Format) (a x : ℕ) → a < suc x * hid f → magnitude f a < hid f * 2 ^ x
+magnitude-lt f a x h = go (decLe (hid f) a)
+  where
+    H : 0 < hid f
+    H = hid-pos f
+    less : (k : ℕ) → suc k - 1 ≡ k
+    less k = omega arith
+    twice : (k : ℕ) → 1 ≤ k → 2 * hid f * 2 ^ (k - 1) ≡ hid f * 2 ^ k
+    twice zero o = absurd (omega arith)
+    twice (suc k) o = ap (λ (z : ℕ). 2 * hid f * 2 ^ z) (less k) ∙ mul-assoc 2 (hid f) (2 ^ k) ∙ mul-left-comm 2 (hid f) (2 ^ k) ∙ ap (λ (z : ℕ). hid f * z) (sym (pow-succ' 2 k))
+    go : Dec (hid f ≤ a) → magnitude f a < hid f * 2 ^ x
+    go (no n) =
+        let s : a < hid f = lt-of-not-le n in
+        subst (λ (z : ℕ). z < hid f * 2 ^ x) (sym (magnitude-small f a s)) (lt-of-lt-of-le s (subst (λ (z : ℕ). z ≤ hid f * 2 ^ x) (mul-one (hid f)) (mul-le-mul-left (hid f) (pow-pos x))))
+    go (yes l) =
+        let e : a / hid f ≤ x = le-of-suc-le-suc (div-lt-iff-lt-mul H .1 h) in
+        let o : 1 ≤ a / hid f = le-div-iff-mul-le H .1 (subst (λ (z : ℕ). z ≤ a) (sym (one-mul (hid f))) l) in
+        let m : hid f + a % hid f < 2 * hid f = omega (arith, mod-lt a H) in
+        subst (λ (z : ℕ). z < hid f * 2 ^ x) (sym (magnitude-large f a l))
+        (lt-of-lt-of-le (mul-lt-mul-of-pos-right m (pow-pos (a / hid f - 1)))
+        (le-trans (le-of-eq (twice (a / hid f) o)) (mul-le-mul-left (hid f) (pow-mono e))))
+
+pub magnitude-ge : (f : Format) (a x : ℕ) → suc x * hid f ≤ a → hid f * 2 ^ x ≤ magnitude f a
+magnitude-ge f a x h =
+    let l : hid f ≤ a = le-trans (subst (λ (z : ℕ). z ≤ suc x * hid f) (one-mul (hid f)) (mul-le-mul-right (hid f) (zero-lt-suc x))) h in
+    let e : suc x ≤ a / hid f = le-div-iff-mul-le (hid-pos f) .1 h in
+    let k : x ≤ a / hid f - 1 = omega arith in
+    subst (λ (z : ℕ). hid f * 2 ^ x ≤ z) (sym (magnitude-large f a l)) (mul-le-mul (le-add-right (hid f) (a % hid f)) (pow-mono k))
+
+-- ---- the patterns of an infinity, and the sign's bit
+
+pub inf-bits : (f : Format) (w : ℕ) → w % top f ≡ ones f * hid f → ofBits f w ≡ inf (leb (top f) w)
+unfolding ofBits ofFields
+inf-bits f w h = go (w % top f / hid f) (w % hid f) (ap (λ (z : ℕ). z / hid f) h ∙ mul-div-cancel (ones f) (hid-pos f)) (sym (mod-mod-of-dvd (hid f) w (dvd-mul-right (hid f) (suc (ones f)))) ∙ ap (λ (z : ℕ). z % hid f) h ∙ mul-mod-left (ones f) (hid f))
+  where
+    go : (x t : ℕ) → x ≡ ones f → t ≡ 0 → ofFields f (leb (top f) w) x t ≡ inf (leb (top f) w)
+    go zero t p q = absurd (omega arith)
+    go (suc x) t p q = rw (eq-eqb (suc x) (ones f) p, eq-eqb t 0 q)
+
+pub sign-bit : (f : Format) (w x : ℕ) → w < 2 * top f → cond (leb (top f) w) x 0 ≡ w / top f * x
+sign-bit f w x h = go (decLe (top f) w)
+  where
+    P : 0 < top f
+    P = mul-pos (hid-pos f) (zero-lt-suc (ones f))
+    go : Dec (top f ≤ w) → cond (leb (top f) w) x 0 ≡ w / top f * x
+    go (yes l) = rw (le-leb (top f) w l) (sym (ap (λ (z : ℕ). z * x) (div-eq-of-lt-le (top f) (subst (λ (z : ℕ). z ≤ w) (sym (one-mul (top f))) l) h) ∙ one-mul x))
+    go (no n) = rw (lt-leb (top f) w (lt-of-not-le n)) (sym (ap (λ (z : ℕ). z * x) (div-eq-of-lt (lt-of-not-le n)) ∙ zero-mul x))
+
+-- ---- a function on floats, taken by its words
+
+pub by-words : (f g : Format) (F : Float → Float) (x : Float) → fits f x ≡ true → T (fits g (F x)) → ofBits g (toBits g (F (ofBits f (toBits f x)))) ≡ F x
+by-words f g F x h k = ap (λ (y : Float). ofBits g (toBits g (F y))) (ofBits-toBits f x (subst T (sym h) tt)) ∙ ofBits-toBits g (F x) k

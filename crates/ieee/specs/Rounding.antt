@@ -5,7 +5,7 @@ use Prim.Native.Nat.{ℕ, zero, suc, _+_, _-_, _*_, _/_, _%_, _^_, _≤_, _<_, m
 use mathlib.Core.Path.{_≡_, refl, sym, _∙_, ap, subst}
 use mathlib.Core.Bool.{Bool, true, false, cond, not}
 use mathlib.Core.Logic.{_⊎_, inl, inr}
-use native.Mathlib.Nat.{le-trans, le-of-eq, le-of-lt, lt-of-lt-of-le, lt-of-le-of-lt, eq-or-lt-of-le, eq-zero-or-pos, div-div-eq-div-mul, le-div-iff-mul-le, mul-le-mul-right, mul-le-mul-left, mul-assoc, mul-comm, le-of-mul-le-mul-left, lt-of-mul-lt-mul-left, min-eq-left, min-eq-right, pow-succ', mul-left-comm, zero-mul, mul-lt-mul-of-pos-right, div-add-mod', mod-lt, mul-add-div-right, mul-add-mod-self-right, div-eq-of-lt-le, div-eq-of-lt, mod-eq-of-lt, add-zero, add-suc, mul-pos}
+use native.Mathlib.Nat.{le-trans, le-of-eq, le-of-lt, lt-of-lt-of-le, lt-of-le-of-lt, eq-or-lt-of-le, eq-zero-or-pos, div-div-eq-div-mul, le-div-iff-mul-le, mul-le-mul-right, mul-le-mul-left, mul-assoc, mul-comm, le-of-mul-le-mul-left, lt-of-mul-lt-mul-left, min-eq-left, min-eq-right, pow-succ', mul-left-comm, zero-mul, mul-lt-mul-of-pos-right, div-add-mod', mod-lt, mul-add-div-right, mul-add-mod-self-right, div-eq-of-lt-le, div-lt-iff-lt-mul, div-eq-of-lt, mod-eq-of-lt, add-zero, add-suc, mul-pos}
 use native.Mathlib.Numerals.{add-one}
 use lib.Arith.{lt-of-le-ne}
 use native.Mathlib.Omega.{arith}
@@ -165,6 +165,14 @@ closest-shift a d = go (compare (r * 2) u) (cmp (r * 2) u)
         half (suc n) z = at 1 (omega (arith, u-is, H, e, z)) (omega (arith, u-is, H, e, z)) ∙ ap (λ (k : ℕ). q + k) (omega (arith, z))
     go Ordering·gt g = sym (at 1 (omega (arith, u-is, H, g)) (omega (arith, u-is, H, R)) ∙ add-one q)
 
+-- as code has it, with the number of digits that go
+pub closest-gone : (a g : ℕ) → 1 ≤ g → (a + (2 ^ (g - 1) - 1) + a / 2 ^ g % 2) / 2 ^ g ≡ closest a (2 ^ g)
+closest-gone a zero h = absurd (omega arith)
+closest-gone a (suc d) h = ap (λ (z : ℕ). (a + (2 ^ z - 1) + a / 2 ^ suc d % 2) / 2 ^ suc d) (less d) ∙ sym (closest-shift a d)
+  where
+    less : (d : ℕ) → suc d - 1 ≡ d
+    less d = omega arith
+
 -- an even number of whole steps more
 pub closest-add : (j a u : ℕ) → 0 < u → closest (2 * j * u + a) u ≡ 2 * j + closest a u
 closest-add j a u U =
@@ -182,6 +190,10 @@ closest-add j a u U =
 -- the same fraction with both its numbers multiplied
 pub closest-scale : (a u c : ℕ) → 0 < u → 0 < c → closest (a * c) (u * c) ≡ closest a u
 closest-scale a u c U C = closest-same (a * c) (u * c) a u (mul-pos U C) U (mul-assoc a c u ∙ ap (λ (z : ℕ). a * z) (mul-comm c u))
+
+-- below k steps at most k are kept
+pub closest-le : (a u k : ℕ) → 0 < u → a < k * u → closest a u ≤ k
+closest-le a u k U h = le-trans (nearest-le (a / u) (compare (a % u * 2) u)) (div-lt-iff-lt-mul U .1 h)
 
 -- less than half a step
 pub closest-small : (a u : ℕ) → a * 2 < u → closest a u ≡ 0

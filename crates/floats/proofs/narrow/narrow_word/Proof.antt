@@ -1,104 +1,73 @@
+-- `floats::narrow::narrow_word` meets its contract: each branch is a case of NarrowLaws. Assumes nothing.
+use Prim.Native.Nat.{ℕ, _-_, _*_, _%_, _^_, _≤_, _<_}
+use mathlib.Core.Path.{_≡_, ap, sym, subst}
+use native.Mathlib.Omega.{arith}
 use borrow.Author.Needs.{needs}
+use lib.Ieee.{binary32, binary64, toBits}
+use Rattle.words.proofs.Nans.{nan-bits}
+use Rattle.ieee.specs.Narrow.{narrow}
+use Rattle.ieee.specs.NarrowLaws.{narrow-large, narrow-normal, narrow-small, narrow-subnormal, normal-room, subnormal-room}
 use Rattle.floats.proofs.narrow.narrow_word.Statement.{statement}
 use Rattle.floats.proofs.narrow.narrow_word.Tie as tie
-use Rattle.floats.proofs.narrow.narrow_word.Reads as reads
-use Rattle.floats.proofs.narrow.narrow_word.Lts as lts
 
--- src/narrow.rt:29:9
+-- what is kept of a normal and of a subnormal magnitude
+normal-kept : (c : tie.After-shifted-to-even) → c .shifted-to-even .result ≤ 255 * 2 ^ 23
+normal-kept c = rw (c .shifted-to-even .ensures) (normal-room (c .before .before .before .before .args .w % 2 ^ 63) (c .before .before .if2 .left))
+
+subnormal-kept : (c : tie.After-shifted-to-even2) → c .shifted-to-even2 .result ≤ 2 ^ 23
+subnormal-kept c = rw (c .shifted-to-even2 .ensures) (subnormal-room (c .before .before .before .before .before .args .w % 2 ^ 63) (c .before .before .if3 .left))
+
 returns : tie.Need-returns
-returns c = ?
+unfolding narrow toBits
+returns c = rw (nan-bits binary64 (c .before .args .w) (c .if1 .taken))
 
--- src/narrow.rt:31:17
 mul-sign : tie.Need-mul-sign
 mul-sign c = search needs
 
--- src/narrow.rt:31:16
 cast-sign : tie.Need-cast-sign
 cast-sign c = search needs
 
--- src/narrow.rt:34:16
 add-result : tie.Need-add-result
 add-result c = search needs
 
--- src/narrow.rt:34:9
 returns-2 : tie.Need-returns-2
-returns-2 c = ?
+returns-2 c = narrow-large (c .before .before .args .w) (omega arith) (c .if2 .taken) (c .before .if1 .left)
 
--- src/narrow.rt:38:17
-sub-b : tie.Need-sub-b
-sub-b c = search needs
+sub-shifted-to-even : tie.Need-sub-shifted-to-even
+sub-shifted-to-even c = search needs
 
--- src/narrow.rt:39:25
-add-result-2 : tie.Need-add-result-2
-add-result-2 c = search needs
+shifted-to-even-requires : tie.Need-shifted-to-even-requires
+shifted-to-even-requires c κs = search needs
 
--- src/narrow.rt:39:25
-add-result-3 : tie.Need-add-result-3
-add-result-3 c = search needs
-
--- src/narrow.rt:39:23
 cast-result : tie.Need-cast-result
-cast-result c = search needs
+cast-result c = omega (arith, normal-kept c)
 
--- src/narrow.rt:39:16
-add-result-4 : tie.Need-add-result-4
-add-result-4 c = search needs
+add-result-2 : tie.Need-add-result-2
+add-result-2 c = omega (arith, normal-kept c)
 
--- src/narrow.rt:39:9
 returns-3 : tie.Need-returns-3
-returns-3 c = ?
+returns-3 c = rw (c .shifted-to-even .ensures) (narrow-normal (c .before .before .before .before .args .w) (omega arith) (c .before .if3 .taken) (c .before .before .if2 .left))
 
--- src/narrow.rt:43:9
 returns-4 : tie.Need-returns-4
-returns-4 c = ?
+returns-4 c = narrow-small (c .before .before .before .before .args .w) (omega arith) (c .if4 .taken)
 
--- src/narrow.rt:46:16
 sub-gone : tie.Need-sub-gone
 sub-gone c = search needs
 
--- src/narrow.rt:47:13
 add-m : tie.Need-add-m
 add-m c = search needs
 
--- src/narrow.rt:48:25
-sub-half : tie.Need-sub-half
-sub-half c = search needs
+shifted-to-even-requires-2 : tie.Need-shifted-to-even-requires-2
+shifted-to-even-requires-2 c κs = search needs
 
--- src/narrow.rt:48:16
-shl-half : tie.Need-shl-half
-shl-half c = search needs
-
--- src/narrow.rt:49:19
-sub-result : tie.Need-sub-result
-sub-result c = ?
-
--- src/narrow.rt:49:14
-add-result-5 : tie.Need-add-result-5
-add-result-5 c = ?
-
--- src/narrow.rt:49:32
-shr-result : tie.Need-shr-result
-shr-result c = search needs
-
--- src/narrow.rt:49:14
-add-result-6 : tie.Need-add-result-6
-add-result-6 c = ?
-
--- src/narrow.rt:49:13
-shr-result-2 : tie.Need-shr-result-2
-shr-result-2 c = search needs
-
--- src/narrow.rt:49:12
 cast-result-2 : tie.Need-cast-result-2
-cast-result-2 c = ?
+cast-result-2 c = omega (arith, subnormal-kept c)
 
--- src/narrow.rt:49:5
-add-result-7 : tie.Need-add-result-7
-add-result-7 c = ?
+add-result-3 : tie.Need-add-result-3
+add-result-3 c = omega (arith, subnormal-kept c)
 
--- src/narrow.rt:23:1
 returns-5 : tie.Need-returns-5
-returns-5 c = ?
+returns-5 c = rw (c .shifted-to-even2 .ensures) (narrow-subnormal (c .before .before .before .before .before .args .w) (omega arith) (c .before .if4 .left) (c .before .before .if3 .left))
 
 pub narrow-word-spec : {M : Type 1} → statement M
 narrow-word-spec =
@@ -109,22 +78,15 @@ narrow-word-spec =
     cast-sign
     add-result
     returns-2
-    sub-b
-    add-result-2
-    add-result-3
+    sub-shifted-to-even
+    shifted-to-even-requires
     cast-result
-    add-result-4
+    add-result-2
     returns-3
     returns-4
     sub-gone
     add-m
-    sub-half
-    shl-half
-    sub-result
-    add-result-5
-    shr-result
-    add-result-6
-    shr-result-2
+    shifted-to-even-requires-2
     cast-result-2
-    add-result-7
+    add-result-3
     returns-5)
