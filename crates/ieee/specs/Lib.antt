@@ -1,6 +1,8 @@
 pub mod Choose
 pub mod ChooseLaws
 pub mod Whole
+pub mod WholeLaws
+pub mod WholeWords
 pub mod Sqrt
 pub mod Narrow
 pub mod Patterns

@@ -8,13 +8,13 @@ use native.Mathlib.Nat.{mod-mod-of-dvd, dvd-mul-right, mod-eq-of-lt, mul-one, on
 use native.Mathlib.Decide.{decLe}
 use native.Mathlib.Omega.{arith}
 use lib.Dec.{T, ltb, leb, lit<}
-use native.Mathlib.Numerals.{one-add}
+use native.Mathlib.Numerals.{one-add, add-one}
 use lib.Pow.{pow-pos, pow-mono, pow-lt, pow-add, shl-lt, shl-exact}
-use lib.Ieee.{Format, binary32, binary64, Float, nan, inf, fin, prec, emax, low, hid, ones, top, up, down, size, ofBits, ofFields, toBits, odd, fits}
+use lib.Ieee.{Format, binary32, binary64, Float, nan, inf, fin, prec, emax, low, hid, ones, top, up, down, size, ofBits, ofFields, toBits, odd, round, fits}
 use lib.Ieee.Digits.{size-lt, size-reaches, size-le}
-use lib.Ieee.Bits.{ofBits-toBits}
-use lib.Ieee.Exact.{HasValue, odd-sign}
-use lib.Ieee.Fits.{two, down-pos}
+use lib.Ieee.Bits.{ofBits-toBits, ofBits-fits}
+use lib.Ieee.Exact.{HasValue, odd-sign, round-exact}
+use lib.Ieee.Fits.{two, down-pos, round-fits}
 use borrow.Author.Tests.{lt-ltb, le-ltb, le-leb, lt-leb, eq-eqb, ne-eqb}
 
 -- ---- reading a pattern
@@ -53,6 +53,10 @@ fields f s (suc y) t a p q n =
 pub decode : (f : Format) (w : ℕ) → w % top f / hid f ≢ ones f → HasValue (ofBits f w) (leb (top f) w) (magnitude f (w % top f)) (2 ^ low f)
 unfolding ofBits
 decode f w n = fields f (leb (top f) w) (w % top f / hid f) (w % hid f) (w % top f) refl (mod-mod-of-dvd (hid f) w (dvd-mul-right (hid f) (suc (ones f)))) n
+
+-- below the infinity's pattern the field is not all ones
+pub field-of : (f : Format) (a : ℕ) → a < ones f * hid f → a / hid f ≢ ones f
+field-of f a h e = lt-irrefl (ones f) (subst (λ (z : ℕ). z < ones f) e (div-lt-iff-lt-mul (hid-pos f) .1 h))
 
 -- ---- writing a value
 
@@ -189,3 +193,38 @@ sign-bit f w x h = go (decLe (top f) w)
 
 pub by-words : (f g : Format) (F : Float → Float) (x : Float) → fits f x ≡ true → T (fits g (F x)) → ofBits g (toBits g (F (ofBits f (toBits f x)))) ≡ F x
 by-words f g F x h k = ap (λ (y : Float). ofBits g (toBits g (F y))) (ofBits-toBits f x (subst T (sym h) tt)) ∙ ofBits-toBits g (F x) k
+
+-- ---- a finite pattern's value is its own rounding
+
+pub magnitude-pos : (f : Format) (a : ℕ) → 0 < a → 0 < magnitude f a
+magnitude-pos f a h = go (decLe (hid f) a)
+  where
+    go : Dec (hid f ≤ a) → 0 < magnitude f a
+    go (no n) = subst (λ (z : ℕ). 0 < z) (sym (magnitude-small f a (lt-of-not-le n))) h
+    go (yes l) = subst (λ (z : ℕ). 0 < z) (sym (magnitude-large f a l)) (mul-pos (lt-of-lt-of-le (hid-pos f) (le-add-right (hid f) (a % hid f))) (pow-pos (a / hid f - 1)))
+
+-- from 2 ^ (emax + 1) on a value is infinite
+pub overflow-is : (f : Format) → 2 ^ (low f + suc (emax f)) ≡ hid f * 2 ^ (2 * emax f)
+overflow-is binary32 = refl
+overflow-is binary64 = refl
+
+exactly : (f : Format) (s : Bool) (a : ℕ) → a < ones f * hid f → HasValue (round f s (magnitude f a) (2 ^ low f)) s (magnitude f a) (2 ^ low f)
+exactly f s a h = go (decLe (hid f) a)
+  where
+    small : magnitude f a < 2 ^ (low f + suc (emax f))
+    small = subst (λ (z : ℕ). magnitude f a < z) (sym (overflow-is f)) (magnitude-lt f a (2 * emax f) (subst (λ (z : ℕ). a < z * hid f) (add-one (2 * emax f)) h))
+    by : (q j : ℕ) → magnitude f a ≡ q * 2 ^ j → q < 2 ^ prec f → HasValue (round f s (magnitude f a) (2 ^ low f)) s (magnitude f a) (2 ^ low f)
+    by q j e l = round-exact f s (magnitude f a) (2 ^ low f) q j (pow-pos (low f)) l (subst (λ (z : ℕ). z < 2 ^ (low f + suc (emax f))) e small) (ap (λ (z : ℕ). z * 2 ^ low f) e)
+    go : Dec (hid f ≤ a) → HasValue (round f s (magnitude f a) (2 ^ low f)) s (magnitude f a) (2 ^ low f)
+    go (no n) = by a 0 (magnitude-small f a (lt-of-not-le n) ∙ sym (mul-one a)) (omega (arith, lt-of-not-le n, two-hid f))
+    go (yes l) = by (hid f + a % hid f) (a / hid f - 1) (magnitude-large f a l) (omega (arith, mod-lt a (hid-pos f), two-hid f))
+
+-- two values of a format with the same units are the same
+pub same-value : (f : Format) (v y : Float) (s : Bool) (u : ℕ) → T (fits f v) → T (fits f y) → HasValue v s u (2 ^ low f) → HasValue y s u (2 ^ low f) → v ≡ y
+same-value f v y s u p q h k = sym (ofBits-toBits f v p) ∙ ap (ofBits f) (toBits-value f v s u h ∙ sym (toBits-value f y s u k)) ∙ ofBits-toBits f y q
+
+pub round-decoded : (f : Format) (w : ℕ) → w % top f < ones f * hid f → round f (leb (top f) w) (magnitude f (w % top f)) (2 ^ low f) ≡ ofBits f w
+round-decoded f w h =
+    let s = leb (top f) w in
+    let u = magnitude f (w % top f) in
+    same-value f (round f s u (2 ^ low f)) (ofBits f w) s u (round-fits f s u (2 ^ low f)) (ofBits-fits f w) (exactly f s (w % top f) h) (decode f w (field-of f (w % top f) h))

@@ -17,7 +17,7 @@ use lib.Ieee.Exact.{HasValue, odd-sign}
 use lib.Ieee.Fits.{eq→eqb, two, kept-lt, nearest-le, round-is}
 use lib.Ieee.Nearest.{closest, closest-same, nearest-ge}
 use lib.Ieee.Order.{drop, kept}
-use Rattle.ieee.specs.Patterns.{Digits, pattern-at, toBits-value, two-hid, hid-pos, pow-le-inv, pow-lt-inv}
+use Rattle.ieee.specs.Patterns.{Digits, pattern-at, toBits-value, two-hid, hid-pos, overflow-is, pow-le-inv, pow-lt-inv}
 
 -- ---- what a comparison says
 
@@ -60,11 +60,6 @@ kept-digits f n den = (le-trans (nearest-le (n / u) o) few, go (eq-zero-or-pos k
         inr (le-trans (subst (λ (x : ℕ). hid f ≤ x) cut (le-div-iff-mul-le (pow-pos k) .1 a)) (nearest-ge (n / u) o))
 
 -- ---- its pattern
-
--- from 2 ^ (emax + 1) on a value is infinite
-overflow-is : (f : Format) → 2 ^ (low f + suc (emax f)) ≡ hid f * 2 ^ (2 * emax f)
-overflow-is binary32 = refl
-overflow-is binary64 = refl
 
 emax-pos : (f : Format) → 1 ≤ emax f
 emax-pos binary32 = lit≤ tt
