@@ -1,4 +1,4 @@
-// Rounding by a shift.
+// Powers of two, and rounding, by a shift.
 ghost use mathlib.Core.Path.{_≡_};
 ghost use Prim.Native.Nat.{_^_, _≤_, _<_};
 ghost use lib.Ieee.Nearest.{closest};
@@ -12,4 +12,12 @@ pub(crate) fn shifted_to_even(a: u64, gone: u64) -> u64
 {
     let half = 1u64 << (gone - 1);
     (a + (half - 1) + (a >> gone) % 2) >> gone
+}
+
+// 2 to the k.
+pub(crate) fn power(k: u32) -> u32
+    requires { ⌜ k < 32 ⌝ }
+    ensures { λ r. ⌜ r ≡ 2 ^ k ⌝ }
+{
+    1u32 << k
 }

@@ -3,6 +3,7 @@
 ghost use mathlib.Core.Path.{_≡_};
 ghost use lib.Ieee.{binary32, ofBits, toBits};
 ghost use Rattle.ieee.specs.Whole.{nextWhole, floor as floored, ceil as ceiled, roundAway, toU32, toUsize};
+use super::shift::power;
 use words::floats::f32_of_word;
 use words::floats::word_of_f32;
 
@@ -19,7 +20,7 @@ pub fn ceil(x: f32) -> f32
     ensures { λ r. ⌜ r ≡ ceiled binary32 x ⌝ }
 {
     let w = word_of_f32(x);
-    f32_of_word(next_whole_word(w, w < 0x8000_0000))
+    f32_of_word(next_whole_word(w, !(w >= 0x8000_0000)))
 }
 
 // The nearest whole number, halves away from zero.
@@ -50,9 +51,12 @@ fn next_whole_word(w: u32, away: bool) -> u32
         }
         return sign;
     }
-    let part = 1u32 << (150 - a / 0x80_0000);
-    let b = if away { a + (part - 1) } else { a };
-    sign + (b - b % part)
+    let part = power(150 - a / 0x80_0000);
+    if away {
+        let b = a + (part - 1);
+        return sign + (b - b % part);
+    }
+    sign + (a - a % part)
 }
 
 // The pattern of the nearest whole number, halves away from zero.
@@ -73,7 +77,7 @@ fn round_word(w: u32) -> u32
         }
         return sign + 0x3f80_0000;
     }
-    let part = 1u32 << (150 - a / 0x80_0000);
+    let part = power(150 - a / 0x80_0000);
     let b = a + part / 2;
     sign + (b - b % part)
 }

@@ -3,8 +3,10 @@ pub mod ChooseLaws
 pub mod Whole
 pub mod WholeLaws
 pub mod WholeWords
+pub mod CastWords
 pub mod Sqrt
 pub mod Narrow
+pub mod Nans
 pub mod Patterns
 pub mod NarrowLaws
 pub mod Rounding

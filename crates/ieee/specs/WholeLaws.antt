@@ -10,13 +10,13 @@ use native.Mathlib.Omega.{arith}
 use lib.Dec.{T, leb, eqb}
 use lib.IntN.{ℤ}
 use lib.Pow.{pow-pos, pow-add}
-use lib.Ieee.{Format, binary32, Float, nan, inf, fin, prec, low, hid, top, up, down, round, toBits, toUnsigned}
+use lib.Ieee.{Format, binary32, Float, nan, inf, fin, prec, low, hid, ones, top, up, down, odd, round, ofFields, ofBits, toBits, toUnsigned, fits}
 use lib.Ieee.Exact.{HasValue}
 use lib.Ieee.Back.{round-whole}
-use lib.Ieee.Fits.{down-pos}
+use lib.Ieee.Fits.{down-pos, nan-fits, inf-fits, round-fits}
 use lib.Ieee.Nearest.{div-same}
 use borrow.Author.Tests.{eq-eqb, ne-eqb}
-use Rattle.ieee.specs.Whole.{outward, nextWhole, halfUp, roundAway}
+use Rattle.ieee.specs.Whole.{outward, nextWhole, negative, floor, ceil, halfUp, roundAway}
 use Rattle.ieee.specs.Patterns.{Digits, pattern-at, toBits-value}
 
 -- ---- two fractions x / e and u / d of one value: the same whole part, and both have a rest or neither has
@@ -107,3 +107,63 @@ whole-pattern f s n g k h e d =
     let p : n * 2 ^ low f ≡ n * 2 ^ g * 2 ^ k = ap (λ (z : ℕ). n * 2 ^ z) (sym e) ∙ ap (λ (z : ℕ). n * z) (pow-add 2 g k) ∙ sym (mul-assoc n (2 ^ g) (2 ^ k)) in
     toBits-value f (round f s n 1) s (n * 2 ^ low f) (rescaled (round f s n 1) s n (2 ^ low f) (round-whole f s n h))
     ∙ ap (λ (z : ℕ). cond s (top f) 0 + z) (ap (Rattle.ieee.specs.Patterns.pattern f) p ∙ pattern-at f (n * 2 ^ g) k d)
+
+-- ---- floor and ceil of a pattern's value, by its sign's bit
+
+signed : (f : Format) (s : Bool) (x t : ℕ) → (ofFields f s x t ≡ nan) ⊎ (negative (ofFields f s x t) ≡ s)
+unfolding ofFields odd
+signed f s zero zero = inr refl
+signed f s zero (suc t) = inr refl
+signed f s (suc x) t = go (eqb (suc x) (ones f)) (eqb t 0) (hid f + t)
+  where
+    go : (a b : Bool) (q : ℕ) → (cond a (cond b (inf s) nan) (odd (prec f) s q x (low f)) ≡ nan) ⊎ (negative (cond a (cond b (inf s) nan) (odd (prec f) s q x (low f))) ≡ s)
+    go true true q = inr refl
+    go true false q = inl refl
+    go false b zero = inr refl
+    go false b (suc q) = inr refl
+
+pub signed-word : (f : Format) (w : ℕ) → (ofBits f w ≡ nan) ⊎ (negative (ofBits f w) ≡ leb (top f) w)
+unfolding ofBits
+signed-word f w = signed f (leb (top f) w) (w % top f / hid f) (w % hid f)
+
+pub floor-word : (f : Format) (w : ℕ) → nextWhole f (leb (top f) w) (ofBits f w) ≡ floor f (ofBits f w)
+unfolding floor nextWhole
+floor-word f w = go (ofBits f w) (signed-word f w)
+  where
+    s : Bool
+    s = leb (top f) w
+    go : (v : Float) → (v ≡ nan) ⊎ (negative v ≡ s) → nextWhole f s v ≡ nextWhole f (negative v) v
+    go v (inl e) = ap (nextWhole f s) e ∙ sym (ap (λ (y : Float). nextWhole f (negative y) y) e)
+    go v (inr e) = ap (λ (b : Bool). nextWhole f b v) (sym e)
+
+pub ceil-word : (f : Format) (w : ℕ) → nextWhole f (not (leb (top f) w)) (ofBits f w) ≡ ceil f (ofBits f w)
+unfolding ceil nextWhole
+ceil-word f w = go (ofBits f w) (signed-word f w)
+  where
+    s : Bool
+    s = leb (top f) w
+    go : (v : Float) → (v ≡ nan) ⊎ (negative v ≡ s) → nextWhole f (not s) v ≡ nextWhole f (not (negative v)) v
+    go v (inl e) = ap (nextWhole f (not s)) e ∙ sym (ap (λ (y : Float). nextWhole f (not (negative y)) y) e)
+    go v (inr e) = ap (λ (b : Bool). nextWhole f (not b) v) (sym e)
+
+-- ---- the results are values of the format
+
+nextWhole-fits : (f : Format) (away : Bool) (x : Float) → T (fits f (nextWhole f away x))
+unfolding nextWhole
+nextWhole-fits f away nan = nan-fits f
+nextWhole-fits f away (inf s) = inf-fits f s
+nextWhole-fits f away (fin s m e) = round-fits f s (outward away m e) 1
+
+pub floor-fits : (f : Format) (x : Float) → T (fits f (floor f x))
+unfolding floor
+floor-fits f x = nextWhole-fits f (negative x) x
+
+pub ceil-fits : (f : Format) (x : Float) → T (fits f (ceil f x))
+unfolding ceil
+ceil-fits f x = nextWhole-fits f (not (negative x)) x
+
+pub roundAway-fits : (f : Format) (x : Float) → T (fits f (roundAway f x))
+unfolding roundAway
+roundAway-fits f nan = nan-fits f
+roundAway-fits f (inf s) = inf-fits f s
+roundAway-fits f (fin s m e) = round-fits f s (halfUp m e) 1

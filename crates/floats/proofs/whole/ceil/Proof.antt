@@ -1,28 +1,29 @@
+-- `floats::whole::ceil` meets its contract: the next whole number is taken away from zero above zero. Assumes nothing.
+use Prim.Native.Nat.{ℕ}
+use mathlib.Core.Path.{_≡_, _∙_, ap}
 use borrow.Author.Needs.{needs}
+use lib.Ieee.{binary32, ofBits, toBits}
+use Rattle.ieee.specs.Patterns.{by-words}
+use Rattle.ieee.specs.Whole.{ceil}
+use Rattle.ieee.specs.WholeLaws.{ceil-fits, ceil-word}
 use Rattle.floats.proofs.whole.ceil.Statement.{statement}
 use Rattle.floats.proofs.whole.ceil.Tie as tie
-use Rattle.floats.proofs.whole.ceil.Reads as reads
-use Rattle.floats.proofs.whole.ceil.Lts as lts
-use Rattle.floats.proofs.whole.next_whole_word.Reads as next-whole-word-reads
-use Rattle.words.proofs.floats.f32_of_word.Reads as f32-of-word-reads
-use Rattle.words.proofs.floats.word_of_f32.Reads as word-of-f32-reads
 
--- src/whole.rt:21:9
 word-of-f32-requires : tie.Need-word-of-f32-requires
 word-of-f32-requires c κs = search needs
 
--- src/whole.rt:22:17
 next-whole-word-requires : tie.Need-next-whole-word-requires
 next-whole-word-requires c κs = search needs
 
--- src/whole.rt:22:5
 f32-of-word-requires : tie.Need-f32-of-word-requires
 f32-of-word-requires c κs = search needs
 
--- src/whole.rt:18:1
 returns : tie.Need-returns
-returns c = ?
+returns c =
+    let start = c .before .before .before in
+    c .f32-of-word .ensures
+    ∙ ap (ofBits binary32) (c .before .next-whole-word .ensures ∙ ap (toBits binary32) (ceil-word binary32 (c .before .before .word-of-f32 .result)) ∙ ap (λ (w : ℕ). toBits binary32 (ceil binary32 (ofBits binary32 w))) (c .before .before .word-of-f32 .ensures))
+    ∙ by-words binary32 binary32 (ceil binary32) (start .args .x) (start .good .0 .1) (ceil-fits binary32 (start .args .x))
 
 pub ceil-spec : {M : Type 1} → statement M
-ceil-spec =
-    tie.close (tie.spec word-of-f32-requires next-whole-word-requires f32-of-word-requires returns)
+ceil-spec = tie.close (tie.spec word-of-f32-requires next-whole-word-requires f32-of-word-requires returns)

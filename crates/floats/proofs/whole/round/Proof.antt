@@ -1,28 +1,29 @@
+-- `floats::whole::round` meets its contract: the word that is read back is that of the rounded value. Assumes nothing.
+use Prim.Native.Nat.{ℕ}
+use mathlib.Core.Path.{_≡_, _∙_, ap}
 use borrow.Author.Needs.{needs}
+use lib.Ieee.{binary32, ofBits, toBits}
+use Rattle.ieee.specs.Patterns.{by-words}
+use Rattle.ieee.specs.Whole.{roundAway}
+use Rattle.ieee.specs.WholeLaws.{roundAway-fits}
 use Rattle.floats.proofs.whole.round.Statement.{statement}
 use Rattle.floats.proofs.whole.round.Tie as tie
-use Rattle.floats.proofs.whole.round.Reads as reads
-use Rattle.floats.proofs.whole.round.Lts as lts
-use Rattle.floats.proofs.whole.round_word.Reads as round-word-reads
-use Rattle.words.proofs.floats.f32_of_word.Reads as f32-of-word-reads
-use Rattle.words.proofs.floats.word_of_f32.Reads as word-of-f32-reads
 
--- src/whole.rt:29:28
 word-of-f32-requires : tie.Need-word-of-f32-requires
 word-of-f32-requires c κs = search needs
 
--- src/whole.rt:29:17
 round-word-requires : tie.Need-round-word-requires
 round-word-requires c κs = search needs
 
--- src/whole.rt:29:5
 f32-of-word-requires : tie.Need-f32-of-word-requires
 f32-of-word-requires c κs = search needs
 
--- src/whole.rt:26:1
 returns : tie.Need-returns
-returns c = ?
+returns c =
+    let start = c .before .before .before in
+    c .f32-of-word .ensures
+    ∙ ap (ofBits binary32) (c .before .round-word .ensures ∙ ap (λ (w : ℕ). toBits binary32 (roundAway binary32 (ofBits binary32 w))) (c .before .before .word-of-f32 .ensures))
+    ∙ by-words binary32 binary32 (roundAway binary32) (start .args .x) (start .good .0 .1) (roundAway-fits binary32 (start .args .x))
 
 pub round-spec : {M : Type 1} → statement M
-round-spec =
-    tie.close (tie.spec word-of-f32-requires round-word-requires f32-of-word-requires returns)
+round-spec = tie.close (tie.spec word-of-f32-requires round-word-requires f32-of-word-requires returns)

@@ -1,60 +1,62 @@
+-- `floats::whole::round_word` meets its contract: each branch is a case of WholeWords. Assumes nothing.
+use Prim.Native.Nat.{ℕ, _+_, _-_, _%_, _/_, _^_, _≤_, _<_}
+use mathlib.Core.Path.{_≡_, sym, ap, subst}
+use native.Mathlib.Nat.{mod-le}
+use native.Mathlib.Omega.{arith}
 use borrow.Author.Needs.{needs}
+use lib.Pow.{pow-pos, pow-mono}
+use lib.Ieee.{binary32, toBits}
+use Rattle.words.proofs.Nans.{nan-bits}
+use Rattle.ieee.specs.Whole.{roundAway}
+use Rattle.ieee.specs.WholeWords.{roundAway-whole, roundAway-none, roundAway-one, roundAway-part}
 use Rattle.floats.proofs.whole.round_word.Statement.{statement}
 use Rattle.floats.proofs.whole.round_word.Tie as tie
-use Rattle.floats.proofs.whole.round_word.Reads as reads
-use Rattle.floats.proofs.whole.round_word.Lts as lts
 
--- src/whole.rt:64:9
+-- the weight of a one among the digits
+part : (c : tie.After-power) → (1 ≤ c .power .result) × (c .power .result ≤ 2 ^ 23)
+part c =
+    let x = c .before .before .before .before .args .w % 2 ^ 31 / 2 ^ 23 in
+    (rw (c .power .ensures) (pow-pos (150 - x)), rw (c .power .ensures) (pow-mono {i = 150 - x} {j = 23} (omega arith)))
+
 returns : tie.Need-returns
-returns c = ?
+unfolding roundAway toBits
+returns c = rw (nan-bits binary32 (c .before .args .w) (c .if1 .taken))
 
--- src/whole.rt:67:9
 returns-2 : tie.Need-returns-2
-returns-2 c = ?
+returns-2 c = roundAway-whole (c .before .before .args .w) (omega arith) (c .if2 .taken) (c .before .if1 .left)
 
--- src/whole.rt:69:16
 sub-sign : tie.Need-sub-sign
 sub-sign c = search needs
 
--- src/whole.rt:72:13
 returns-3 : tie.Need-returns-3
-returns-3 c = ?
+returns-3 c = roundAway-none (c .before .before .before .before .args .w) (omega arith) (c .before .if3 .taken) (c .if4 .taken)
 
--- src/whole.rt:74:16
 add-result : tie.Need-add-result
 add-result c = search needs
 
--- src/whole.rt:74:9
 returns-4 : tie.Need-returns-4
-returns-4 c = ?
+returns-4 c = roundAway-one (c .before .before .before .before .args .w) (omega arith) (c .before .if3 .taken) (c .if4 .left)
 
--- src/whole.rt:76:25
-sub-part : tie.Need-sub-part
-sub-part c = search needs
+sub-power : tie.Need-sub-power
+sub-power c = search needs
 
--- src/whole.rt:76:16
-shl-part : tie.Need-shl-part
-shl-part c = search needs
+power-requires : tie.Need-power-requires
+power-requires c κs = search needs
 
--- src/whole.rt:77:13
 add-b : tie.Need-add-b
 add-b c = search needs
 
--- src/whole.rt:78:17
 rem-result : tie.Need-rem-result
-rem-result c = ?
+rem-result c = part c .0
 
--- src/whole.rt:78:13
 sub-result : tie.Need-sub-result
-sub-result c = ?
+sub-result c = mod-le (c .before .before .before .before .args .w % 2 ^ 31 + c .power .result / 2) (c .power .result)
 
--- src/whole.rt:78:5
 add-result-2 : tie.Need-add-result-2
-add-result-2 c = ?
+add-result-2 c = omega (arith, part c)
 
--- src/whole.rt:59:1
 returns-5 : tie.Need-returns-5
-returns-5 c = ?
+returns-5 c = rw (c .power .ensures) (roundAway-part (c .before .before .before .before .args .w) (omega arith) (c .before .if3 .left) (c .before .before .if2 .left))
 
 pub round-word-spec : {M : Type 1} → statement M
 round-word-spec =
@@ -66,8 +68,8 @@ round-word-spec =
     returns-3
     add-result
     returns-4
-    sub-part
-    shl-part
+    sub-power
+    power-requires
     add-b
     rem-result
     sub-result
