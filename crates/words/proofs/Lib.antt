@@ -1,2 +1,5 @@
-pub mod Nans
+pub mod FillLaws
 pub mod LittleEndianLaws
+pub mod Nans
+pub mod Stores
+pub mod TrayLaws

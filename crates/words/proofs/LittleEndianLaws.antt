@@ -1,12 +1,12 @@
 -- Words and their little-endian bytes: lengths, the word at a place, and reading back what was written. Assumes nothing.
 use Prim.Native.Nat.{ℕ, zero, suc, _+_, _*_, _/_, _%_, _^_, _<_}
 use mathlib.Core.Path.{_≡_, refl, ap₂}
-use mathlib.Core.List.{List, [], _∷_, _++_}
+use mathlib.Core.List.{List, [], _∷_}
 use native.Mathlib.Nat.{div-div-eq-div-mul}
 use native.Mathlib.Omega.{arith}
 use native.Mathlib.Numerals.{unary-clauses}
-use lib.ListN.{length, getD}
-use Rattle.words.specs.LittleEndian.{wordOf, wordsOf, bytesOf}
+use lib.ListN.{length, getD, take, drop}
+use Rattle.words.specs.LittleEndian.{wordOf, wordsOf, bytesOfWord, bytesOf}
 
 pub length-wordsOf : (bs : List ℕ) → length (wordsOf bs) ≡ length bs / 4
 unfolding wordsOf
@@ -31,6 +31,13 @@ wordsOf-at (a ∷ b ∷ []) i h = omega arith
 wordsOf-at (a ∷ b ∷ c ∷ []) i h = omega arith
 wordsOf-at (a ∷ b ∷ c ∷ d ∷ rest) zero h = refl
 wordsOf-at (a ∷ b ∷ c ∷ d ∷ rest) (suc i) h = simp unary-clauses (simp unary-clauses at (wordsOf-at rest i (omega arith)))
+
+-- the bytes of the word at a place
+pub bytesOf-at : (ws : List ℕ) (i : ℕ) → i < length ws → take 4 (drop (4 * i) (bytesOf ws)) ≡ bytesOfWord (getD ws i 0)
+unfolding bytesOf
+bytesOf-at [] i h = absurd (omega arith)
+bytesOf-at (w ∷ rest) zero h = refl
+bytesOf-at (w ∷ rest) (suc i) h = simp unary-clauses (bytesOf-at rest i (omega arith))
 
 -- words below 2 ^ 32 come back from their bytes
 pub wordsOf-bytesOf : (ws : List ℕ) → ((i : ℕ) → getD ws i 0 < 2 ^ 32) → wordsOf (bytesOf ws) ≡ ws

@@ -3,7 +3,6 @@
 use Prim.Native.Nat.{ℕ}
 
 infixl 20 _then_
-
 pub data Answer (A : Type 0) : Type 0 where
   given : A → Answer A
   refused : ℕ → Answer A

@@ -7,7 +7,7 @@ pub fn fill_words(s: &mut [u32], from: usize, to: usize, v: u32)
     ensures { λ _. ⌜ now (s .exit) ≡ filled (now (s .entry)) from to v ⌝ }
 {
     let end = if to < s.len() { to } else { s.len() };
-    let mut i = from;
+    let mut i = if from < end { from } else { end };
     while i < end {
         s[i] = v;
         i += 1;

@@ -1,54 +1,73 @@
+-- `words::bytes::bytes_of_words` meets its contract. The loop's invariant: the bytes before `4 * i` are those of the words, and the others are as they came.
+-- Assumes nothing.
+use Prim.Native.Nat.{ℕ, _+_, _*_, _/_, _-_, _≤_, _<_}
+use mathlib.Core.Path.{_≡_, refl}
+use mathlib.Core.List.{List}
+use borrow.Author.Needs.{needs}
+use borrow.Author.Tests.{lt-ltb, le-leb, lt-leb}
+use native.Mathlib.Omega.{arith}
+use lib.ListN.{length, getD}
+use Rattle.words.specs.LittleEndian.{bytesOf, bytesOfWord, setWord, writtenWords}
+use Rattle.words.specs.Tray.{tray}
+use Rattle.words.proofs.LittleEndianLaws.{length-bytesOf, bytesOf-at}
+use Rattle.words.proofs.Stores.{Copied, copied-none, copied-run}
+use Rattle.words.proofs.TrayLaws.{tray-copied}
 use Rattle.words.proofs.bytes.bytes_of_words.Statement.{statement}
 use Rattle.words.proofs.bytes.bytes_of_words.Tie as tie
-use Rattle.words.proofs.bytes.bytes_of_words.Reads as reads
-use Rattle.words.proofs.bytes.bytes_of_words.Lts as lts
-use Rattle.words.proofs.bytes.set_word.Reads as set-word-reads
 
 abbrev Inv-loop : tie.InvT-loop
-Inv-loop words bytes₀ count i₀ bytes i = ?
+Inv-loop words bytes₀ count i₀ bytes i = (i ≤ count) × Copied (bytesOf words) bytes₀ (4 * i) bytes
 
 abbrev μ-loop : tie.MeasureT-loop
-μ-loop words bytes₀ count i₀ bytes i = ?
+μ-loop words bytes₀ count i₀ bytes i = count - i
 
--- src/bytes.rt:82:9
+-- a turn
+copied-word : (ws : List ℕ) {d l : List ℕ} {i : ℕ} → Copied (bytesOf ws) d (4 * i) l → i < length ws → 4 * length ws ≤ length d
+    → Copied (bytesOf ws) d (4 * (i + 1)) (setWord l i (getD ws i 0))
+unfolding setWord
+copied-word ws {l} {i} c h k =
+    let e : 4 * (i + 1) ≡ 4 * i + 4 = omega arith in
+    let same = c .same in
+    simp (e, lt-ltb i (length l / 4) (omega arith))
+    (copied-run (bytesOfWord (getD ws i 0)) c (bytesOf-at ws i h) (rw length-bytesOf (omega arith)) (omega arith))
+
 returns : tie.Need-returns Inv-loop μ-loop
-returns c = ?
+unfolding writtenWords tray
+returns c =
+    let args = c .before .before .before .args in
+    let h : length (args .bytes .now) < 4 * length (args .words .now) = omega arith in
+    simp (lt-leb _ _ h) (refl, refl)
 
--- src/bytes.rt:85:5
 loop-holds : tie.Need-loop-holds Inv-loop μ-loop
-loop-holds c = ?
+loop-holds c = (omega arith, copied-none)
 
--- src/bytes.rt:86:28
 mul-set-word : tie.Need-mul-set-word Inv-loop μ-loop
-mul-set-word c = ?
+mul-set-word c = omega arith
 
--- src/bytes.rt:86:28
 shared-slice-read-set-word : tie.Need-shared-slice-read-set-word Inv-loop μ-loop
-shared-slice-read-set-word c = ?
+shared-slice-read-set-word c = omega arith
 
--- src/bytes.rt:86:9
 set-word-requires : tie.Need-set-word-requires Inv-loop μ-loop
-set-word-requires c κs = ?
+set-word-requires c κs = search needs
 
--- src/bytes.rt:87:9
 add-i : tie.Need-add-i Inv-loop μ-loop
-add-i c = ?
+add-i c = omega arith
 
--- src/bytes.rt:85:5
 loop-less : tie.Need-loop-less Inv-loop μ-loop
-loop-less c = ?
+loop-less c = omega arith
 
--- src/bytes.rt:85:5
 loop-again : tie.Need-loop-again Inv-loop μ-loop
-loop-again c = ?
+loop-again c = (omega arith, rw (c .before .before .set-word .ensures) (copied-word _ (c .before .before .before .before .before .before .loop .inv .1) (omega arith) (omega arith)))
 
--- src/bytes.rt:76:1
 same-length : tie.Need-same-length Inv-loop μ-loop
-same-length c = ?
+same-length c = omega arith
 
--- src/bytes.rt:76:1
 returns-2 : tie.Need-returns-2 Inv-loop μ-loop
-returns-2 c = ?
+unfolding writtenWords
+returns-2 c =
+    let args = c .before .before .before .before .before .args in
+    let h : 4 * length (args .words .now) ≤ length (args .bytes .now) = omega arith in
+    simp (le-leb _ _ h) (refl, tray-copied _ _ _ _ (c .before .loop .inv .1) (omega arith) (length-bytesOf _))
 
 pub bytes-of-words-spec : {M : Type 1} → statement M
 bytes-of-words-spec =

@@ -1,7 +1,6 @@
 -- `words::bytes::word_at` meets its contract: four bytes make a word that fits, and past the last word there is none. Assumes nothing.
 use Prim.Native.Nat.{ℕ, _+_, _*_, _<_, _^_}
 use mathlib.Core.Path.{sym}
-use mathlib.Core.List.{List}
 use borrow.Author.Needs.{needs}
 use native.Mathlib.Omega.{arith}
 use mir.Facts.{fits-widen}

@@ -1,45 +1,48 @@
+-- `words::fill::fill_words` meets its contract. The loop's invariant: the places from the first up to `i` hold the value, and the others are as they came.
+-- Assumes nothing.
+use Prim.Native.Nat.{_-_, _≤_, min}
+use mathlib.Core.Path.{_≡_}
+use mathlib.Core.Logic.{⊎-elim}
+use native.Mathlib.Omega.{arith}
+use lib.ListN.{length}
+use Rattle.words.proofs.FillLaws.{Filling, filling-none, filling-one, filling-all}
 use Rattle.words.proofs.fill.fill_words.Statement.{statement}
 use Rattle.words.proofs.fill.fill_words.Tie as tie
-use Rattle.words.proofs.fill.fill_words.Reads as reads
-use Rattle.words.proofs.fill.fill_words.Lts as lts
 
 abbrev Inv-loop : tie.InvT-loop
-Inv-loop s₀ from to v end i₀ s i = ?
+Inv-loop s₀ from to v end i₀ s i = (end ≡ min to (length s₀)) × (i₀ ≡ min from end) × (i ≤ end) × Filling s₀ i₀ i v s
 
 abbrev μ-loop : tie.MeasureT-loop
-μ-loop s₀ from to v end i₀ s i = ?
+μ-loop s₀ from to v end i₀ s i = end - i
 
--- src/fill.rt:11:5
 loop-holds : tie.Need-loop-holds Inv-loop μ-loop
-loop-holds c = ?
+loop-holds c = (
+  ⊎-elim (λ w. omega arith) (λ w. omega arith) (c .before .if1 .came),
+  ⊎-elim (λ w. omega arith) (λ w. omega arith) (c .if2 .came),
+  ⊎-elim (λ w. omega arith) (λ w. omega arith) (c .if2 .came),
+  filling-none,
+)
 
--- src/fill.rt:12:9
 mul-s : tie.Need-mul-s Inv-loop μ-loop
-mul-s c = ?
+mul-s c = omega arith
 
--- src/fill.rt:12:9
 slice-write-s : tie.Need-slice-write-s Inv-loop μ-loop
-slice-write-s c = ?
+slice-write-s c = omega arith
 
--- src/fill.rt:13:9
 add-i : tie.Need-add-i Inv-loop μ-loop
-add-i c = ?
+add-i c = omega arith
 
--- src/fill.rt:11:5
 loop-less : tie.Need-loop-less Inv-loop μ-loop
-loop-less c = ?
+loop-less c = omega arith
 
--- src/fill.rt:11:5
 loop-again : tie.Need-loop-again Inv-loop μ-loop
-loop-again c = ?
+loop-again c = (omega arith, omega arith, omega arith, filling-one (c .before .before .loop .inv .3) (omega arith))
 
--- src/fill.rt:6:1
 same-length : tie.Need-same-length Inv-loop μ-loop
-same-length c = ?
+same-length c = omega arith
 
--- src/fill.rt:6:1
 returns : tie.Need-returns Inv-loop μ-loop
-returns c = ?
+returns c = filling-all _ _ (c .before .loop .inv .3) (omega arith) (omega arith)
 
 pub fill-words-spec : {M : Type 1} → statement M
 fill-words-spec =
