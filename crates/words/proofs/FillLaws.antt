@@ -9,7 +9,8 @@ use Rattle.words.specs.Fill.{filled}
 use Rattle.words.proofs.Stores.{stored}
 
 -- a stretch that lies within the slice
-pub filled-within : (s : List ℕ) (from to v : ℕ) → from ≤ to → to ≤ length s → filled s from to v ≡ take from s ++ (replicate (to - from) v ++ drop to s)
+pub filled-within : (s : List ℕ) (from to v : ℕ) → from ≤ to → to ≤ length s
+    → filled s from to v ≡ take from s ++ (replicate (to - from) v ++ drop to s)
 unfolding filled
 filled-within s from to v h k =
     let e : min to (length s) ≡ to = omega arith in
@@ -23,12 +24,10 @@ pub record Filling (s : List ℕ) (start i v : ℕ) (l : List ℕ) : Type 0 wher
   pub is : l ≡ take start s ++ replicate (i - start) v ++ drop i s
 
 pub filling-none : {s : List ℕ} {start v : ℕ} → Filling s start start v s
-filling-none {s} {start} {v} =
-    record { after = le-refl start; same = refl; is = simp (sub-self, append-nil, take-append-drop) }
+filling-none {start} = record { after = le-refl start; same = refl; is = simp (sub-self, append-nil, take-append-drop) }
 
 pub filling-one : {s l : List ℕ} {start i v : ℕ} → Filling s start i v l → i < length s → Filling s start (i + 1) v (set l i v)
 filling-one {s} {l} {start} {i} {v} f h =
-    let le = f .after in
     let p = take start s ++ replicate (i - start) v in
     let e : i - start + 1 ≡ i + 1 - start = omega arith in
     record {
@@ -39,6 +38,7 @@ filling-one {s} {l} {start} {i} {v} f h =
           ∙ rw (append-assoc (take start s) (replicate (i - start) v) (v ∷ []), replicate-append-replicate (i - start) 1 v, e));
     }
 
-pub filling-all : {s l : List ℕ} {start end v : ℕ} (from to : ℕ) → Filling s start end v l → end ≡ min to (length s) → start ≡ min from end → l ≡ filled s from to v
+pub filling-all : {s l : List ℕ} {start end v : ℕ} (from to : ℕ) → Filling s start end v l → end ≡ min to (length s) → start ≡ min from end
+    → l ≡ filled s from to v
 unfolding filled
 filling-all from to f e e′ = f .is ∙ simp (append-assoc, ← e, ← e′)

@@ -31,5 +31,6 @@ copied-run {s} {d} {l} {n} vs c e hs hd =
       is = rw (c .is) (stored (take n s) d vs n (length-take-le n s (c .within)) hd ∙ simp (take-add, e));
     }
 
-pub copied-one : {s d l : List ℕ} {n v : ℕ} → Copied s d n l → v ≡ getD s n 0 → n < length s → n < length d → Copied s d (n + 1) (set l n v)
+pub copied-one : {s d l : List ℕ} {n v : ℕ} → Copied s d n l → v ≡ getD s n 0 → n < length s → n < length d
+    → Copied s d (n + 1) (set l n v)
 copied-one {s} {n} {v} c e hs hd = copied-run (v ∷ []) c (rw (e, drop-cons s n 0)) (omega arith) (omega arith)

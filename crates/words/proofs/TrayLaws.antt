@@ -17,8 +17,8 @@ use Rattle.words.proofs.Stores.{Copied}
 behind : (p q : List ℕ) (i : ℕ) → length p ≤ i → getD (p ++ q) i 0 ≡ getD q (i - length p) 0
 behind p q i h = rw (add-sub-of-le h) at (getD-append-add p q (i - length p) 0)
 
-length-front : (ws : List ℕ) (reserve : ℕ) → length ws ≤ reserve → length (front reserve ws) ≡ reserve
-length-front ws reserve h = simp (length-append, length-replicate) (omega arith)
+front-length : (ws : List ℕ) (reserve : ℕ) → length ws ≤ reserve → length (front reserve ws) ≡ reserve
+front-length ws reserve h = simp (length-append, length-replicate) (omega arith)
 
 module _ {A : Type 0} (written : A → List ℕ) (reserve : ℕ) (before : List ℕ) where
   -- refusals 1 to 4 change nothing
@@ -29,7 +29,9 @@ module _ {A : Type 0} (written : A → List ℕ) (reserve : ℕ) (before : List 
   -- a later one leaves zeros in the reserve
   pub tray-late : (n i : ℕ) → 4 < n → i < reserve → getD (tray written reserve (refused n) before) i 0 ≡ 0
   unfolding tray
-  tray-late n i h k = simp (lt-leb n 4 h) (List·getD-append (replicate reserve 0) (drop reserve before) 0 i (rw length-replicate k) ∙ getD-replicate reserve i 0 0 k)
+  tray-late n i h k =
+      simp (lt-leb n 4 h)
+      (List·getD-append (replicate reserve 0) (drop reserve before) 0 i (rw length-replicate k) ∙ getD-replicate reserve i 0 0 k)
 
   -- acceptance writes its words, and zeros after them
   pub tray-given : (a : A) (i : ℕ) → i < length (written a) → getD (tray written reserve (given a) before) i 0 ≡ getD (written a) i 0
@@ -59,7 +61,7 @@ module _ {A : Type 0} (written : A → List ℕ) (reserve : ℕ) (before : List 
   tray-is : (answer : Answer A) → ((a : A) → answer ≡ given a → length (written a) ≤ reserve) → reserve ≤ length before
       → (l : List ℕ) × (length l ≡ reserve) × (tray written reserve answer before ≡ l ++ drop reserve before)
   unfolding tray
-  tray-is (given a) fits room = (front reserve (written a), length-front (written a) reserve (fits a refl), refl)
+  tray-is (given a) fits room = (front reserve (written a), front-length (written a) reserve (fits a refl), refl)
   tray-is (refused n) fits room = go (leb n 4)
     where
       go : (b : Bool) → (l : List ℕ) × (length l ≡ reserve) × (cond b before (replicate reserve 0 ++ drop reserve before) ≡ l ++ drop reserve before)

@@ -27,7 +27,6 @@ copied-word : (ws : List ℕ) {d l : List ℕ} {i : ℕ} → Copied (bytesOf ws)
 unfolding setWord
 copied-word ws {l} {i} c h k =
     let e : 4 * (i + 1) ≡ 4 * i + 4 = omega arith in
-    let same = c .same in
     simp (e, lt-ltb i (length l / 4) (omega arith))
     (copied-run (bytesOfWord (getD ws i 0)) c (bytesOf-at ws i h) (rw length-bytesOf (omega arith)) (omega arith))
 
@@ -57,7 +56,9 @@ loop-less : tie.Need-loop-less Inv-loop μ-loop
 loop-less c = omega arith
 
 loop-again : tie.Need-loop-again Inv-loop μ-loop
-loop-again c = (omega arith, rw (c .before .before .set-word .ensures) (copied-word _ (c .before .before .before .before .before .before .loop .inv .1) (omega arith) (omega arith)))
+loop-again c =
+    let inv = c .before .before .before .before .before .before .loop .inv in
+    (omega arith, rw (c .before .before .set-word .ensures) (copied-word _ (inv .1) (omega arith) (omega arith)))
 
 same-length : tie.Need-same-length Inv-loop μ-loop
 same-length c = omega arith

@@ -1,11 +1,11 @@
--- `words::bytes::word_at` meets its contract: four bytes make a word that fits, and past the last word there is none. Assumes nothing.
-use Prim.Native.Nat.{ℕ, _+_, _*_, _<_, _^_}
+-- `words::bytes::word_at` meets its contract: the word of four bytes fits, and past the last word there is none. Assumes nothing.
+use Prim.Native.Nat.{ℕ, _+_, _*_, _<_}
 use mathlib.Core.Path.{sym}
 use borrow.Author.Needs.{needs}
 use native.Mathlib.Omega.{arith}
 use mir.Facts.{fits-widen}
 use lib.ListN.{getD, List·getD-eq-default}
-use Rattle.words.specs.LittleEndian.{wordOf, wordsOf}
+use Rattle.words.specs.LittleEndian.{wordsOf}
 use Rattle.words.proofs.LittleEndianLaws.{length-wordsOf, wordsOf-at}
 use Rattle.words.proofs.bytes.word_at.Statement.{statement}
 use Rattle.words.proofs.bytes.word_at.Tie as tie
@@ -17,11 +17,10 @@ module _ (c : tie.After-shared-slice-known4) where
   abbrev byte : ℕ → ℕ
   byte i = getD (c .before .before .before .before .before .args .bytes .now) i 0
 
-  -- with the word, each part of its sum fits
-  word-fits : wordOf (byte at) (byte (at + 1)) (byte (at + 2)) (byte (at + 3)) < 2 ^ 32
-  word-fits =
+  small : (byte at < 256) × (byte (at + 1) < 256) × (byte (at + 2) < 256) × (byte (at + 3) < 256)
+  small =
       let known = c .shared-slice-known4 .given in
-      omega (arith, known at, known (at + 1), known (at + 2), known (at + 3))
+      (known at .fits, known (at + 1) .fits, known (at + 2) .fits, known (at + 3) .fits)
 
 mul-at : tie.Need-mul-at
 mul-at c = search needs
@@ -60,22 +59,22 @@ cast-d : tie.Need-cast-d
 cast-d c = fits-widen tt (c .shared-slice-known4 .given _)
 
 mul-result : tie.Need-mul-result
-mul-result c = omega (arith, word-fits c)
+mul-result c = omega (arith, small c)
 
 add-result : tie.Need-add-result
-add-result c = omega (arith, word-fits c)
+add-result c = omega (arith, small c)
 
 mul-result-2 : tie.Need-mul-result-2
-mul-result-2 c = omega (arith, word-fits c)
+mul-result-2 c = omega (arith, small c)
 
 add-result-2 : tie.Need-add-result-2
-add-result-2 c = omega (arith, word-fits c)
+add-result-2 c = omega (arith, small c)
 
 mul-result-3 : tie.Need-mul-result-3
-mul-result-3 c = omega (arith, word-fits c)
+mul-result-3 c = omega (arith, small c)
 
 add-result-3 : tie.Need-add-result-3
-add-result-3 c = omega (arith, word-fits c)
+add-result-3 c = omega (arith, small c)
 
 returns : tie.Need-returns
 returns c = sym (wordsOf-at _ _ (c .before .before .before .before .if1 .taken))

@@ -55,7 +55,9 @@ same-length c = omega arith
 
 returns-3 : tie.Need-returns-3 Inv-loop μ-loop
 unfolding readWords wordCount _then_
-returns-3 c = simp (eq-eqb _ _ (c .before .before .before .if1 .left), le-leb _ _ (c .before .before .if2 .left)) (refl, tray-copied _ _ _ _ (c .before .loop .inv .1) (omega arith) (omega arith))
+returns-3 c =
+    simp (eq-eqb _ _ (c .before .before .before .if1 .left), le-leb _ _ (c .before .before .if2 .left))
+    (refl, tray-copied _ _ _ _ (c .before .loop .inv .1) (omega arith) (omega arith))
 
 pub words-of-bytes-spec : {M : Type 1} → statement M
 words-of-bytes-spec =
