@@ -2,6 +2,7 @@
 -- Each enum that code returns is mapped to such an answer by a definition beside it, and the promises speak of the answer. Assumes nothing.
 use Prim.Native.Nat.{ℕ}
 
+infixl 20 _then_
 pub data Answer (A : Type 0) : Type 0 where
   given : A → Answer A
   refused : ℕ → Answer A

@@ -1,2 +1,5 @@
 pub mod Answers
 pub mod Refusals
+pub mod LittleEndian
+pub mod Fill
+pub mod Tray

@@ -34,5 +34,9 @@ pub fn f64_of_word(w: u64) -> f64
 pub fn word_of_f64(x: f64) -> u64
     ensures { λ r. ⌜ r ≡ toBits binary64 x ⌝ }
 {
-    if x != x { 0x7ff8_0000_0000_0000 } else { f64::to_bits(x) }
+    if x != x {
+        0x7ff8_0000_0000_0000
+    } else {
+        f64::to_bits(x)
+    }
 }

@@ -1,6 +1,6 @@
 -- `words::floats::f32_of_word` meets its contract: what is not a NaN's pattern is read as it stands. Assumes nothing.
 use borrow.Author.Needs.{needs}
-use mathlib.Core.Path.{refl, sym}
+use mathlib.Core.Path.{sym}
 use lib.Ieee.{binary32, div, ofBits}
 use Rattle.words.proofs.Nans.{no-nan-bits, nan-bits}
 use Rattle.words.proofs.floats.f32_of_word.Statement.{statement}
