@@ -139,7 +139,7 @@ impl Random {
         Random(seed)
     }
 
-    pub fn next(&mut self) -> u64 {
+    pub fn bits(&mut self) -> u64 {
         self.0 = self.0.wrapping_add(0x9e37_79b9_7f4a_7c15);
         let z = (self.0 ^ self.0 >> 30).wrapping_mul(0xbf58_476d_1ce4_e5b9);
         let z = (z ^ z >> 27).wrapping_mul(0x94d0_49bb_1331_11eb);
@@ -148,7 +148,7 @@ impl Random {
 
     /// From 0 to n - 1.
     pub fn below(&mut self, n: u64) -> u64 {
-        (u128::from(self.next()) * u128::from(n) >> 64) as u64
+        ((u128::from(self.bits()) * u128::from(n)) >> 64) as u64
     }
 
     fn between(&mut self, from: i32, to: i32) -> i32 {
@@ -177,12 +177,12 @@ impl Random {
     /// A word of any bits, near a power of two, near a half, or near a square.
     pub fn word(&mut self, width: Width) -> u64 {
         let word = match self.below(4) {
-            0 => return self.next() >> (64 - width.bits()),
+            0 => return self.bits() >> (64 - width.bits()),
             1 => self.structured(width),
             2 => self.half(width),
             _ => self.square(width),
         };
-        self.beside(width, word) | width.sign() * self.below(2)
+        self.beside(width, word) | (width.sign() * self.below(2))
     }
 
     /// The word or a neighbour.
@@ -225,18 +225,33 @@ impl Random {
         middle(single as u32)
     }
 
-    /// The square, cut to the fraction's length and times a power of four, of a float or of a middle between two; exact where
-    /// the root is short.
+    /// A power of four times the square, cut to the fraction's length, of a short number, of a float or of a middle between two;
+    /// or times a number just beside such a middle's square that needs no cut, so that its root all but ties.
     fn square(&mut self, width: Width) -> u64 {
-        let digits = match self.below(3) {
-            0 => width.fraction.div_ceil(2),
-            more => width.fraction + more as u32,
+        let (square, short) = (|root: u64| u128::from(root) * u128::from(root), width.fraction.div_ceil(2));
+        let square = match self.below(4) {
+            0 => square(self.below(1 << short) | 1),
+            1 => square(self.below(width.normal()) | width.normal()),
+            2 => square(self.below(2 * width.normal()) | (2 * width.normal()) | 1),
+            _ => {
+                let size = self.below(short.into());
+                let beside = 1 + 8 * (self.below(2 << size) as i64 - (1 << size));
+                square(root_modulo(beside, width.fraction + 3)).wrapping_sub(beside as u128)
+            }
         };
-        let root = u128::from(1 << (digits - 1) | self.below(1 << (digits - 1)) | 1);
-        let square = root * root;
         let length = square.ilog2() as i32;
         let significand = square << (127 - length) >> (127 - width.fraction);
         let exponent = self.between(1 - width.greatest(), width.greatest() - 1);
-        width.power(exponent + ((exponent + length) & 1)) | significand as u64 & (width.normal() - 1)
+        // an even distance from the square's own exponent
+        width.power(exponent + ((exponent + length) & 1)) | (significand as u64 & (width.normal() - 1))
     }
+}
+
+/// A number of bits - 1 digits whose square leaves n (1 more than a multiple of 8) when divided by 2^bits, found digit by digit.
+fn root_modulo(n: i64, bits: u32) -> u64 {
+    let mut root = 1u64;
+    for digit in 3..bits {
+        root += (root.wrapping_mul(root).wrapping_sub(n as u64) >> digit & 1) << (digit - 1);
+    }
+    root.max((1 << (bits - 1)) - root) // its negative is another
 }

@@ -84,7 +84,7 @@ fn whole(x: f32, away: fn(bool, bool) -> bool) -> f32 {
     } else {
         let unit = 1 << (127 + 23 - exponent);
         let inner = size & !(unit - 1);
-        (inner, inner + unit, size & unit / 2 != 0) // a carry out of the fraction raises the exponent, as it should
+        (inner, inner + unit, size & (unit / 2) != 0) // a carry out of the fraction raises the exponent, as it should
     };
     let moved = size != inner && away(sign != 0, half);
     f32::from_bits(sign | if moved { outer } else { inner })

@@ -21,7 +21,7 @@ struct Lent<T> {
 impl<T: Copy + PartialEq + std::fmt::Debug> Lent<T> {
     fn new(random: &mut Random, len: usize, of: fn(u64) -> T) -> Lent<T> {
         let start = MARGIN + random.below(8) as usize;
-        let all = (0..start + len + MARGIN).map(|_| of(random.next())).collect();
+        let all = (0..start + len + MARGIN).map(|_| of(random.bits())).collect();
         Lent { all, start, len }
     }
 
@@ -86,7 +86,7 @@ fn word_at_place() {
 fn set_word_at_place() {
     let mut random = Random::new(2);
     for len in lengths() {
-        let (at, w) = (place(&mut random, len / 4), word(random.next()));
+        let (at, w) = (place(&mut random, len / 4), word(random.bits()));
         Lent::new(&mut random, len, byte).same(
             |bytes| proved::set_word(bytes, at, w),
             |bytes| set_word(bytes, at, w),
@@ -108,7 +108,7 @@ fn word_count() {
 fn fill() {
     let mut random = Random::new(3);
     for len in lengths() {
-        let (from, to, v) = (place(&mut random, len), place(&mut random, len), word(random.next()));
+        let (from, to, v) = (place(&mut random, len), place(&mut random, len), word(random.bits()));
         Lent::new(&mut random, len, word).same(
             |words| proved::fill(words, from, to, v),
             |words| words.iter_mut().take(to).skip(from).for_each(|word| *word = v),

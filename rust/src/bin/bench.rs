@@ -134,7 +134,7 @@ fn slices<A>(mut call: impl FnMut() -> A) -> u64 {
 
 fn main() {
     let mut random = Random::new(0);
-    let mut inputs = |of: &dyn Fn(u64) -> f32| -> [f32; INPUTS] { std::array::from_fn(|_| of(random.next() >> 32)) };
+    let mut inputs = |of: &dyn Fn(u64) -> f32| -> [f32; INPUTS] { std::array::from_fn(|_| of(random.bits() >> 32)) };
     let positive = |word: u64| f32::from_bits((word % 0x7f80_0000) as u32);
     let (x, y) = (inputs(&positive), inputs(&positive));
     let mixed = inputs(&|word| if word % 2 == 0 { positive(word) } else { -positive(word) });
