@@ -15,10 +15,10 @@ pub struct Function {
     pub name: &'static str,
     pub arguments: usize,
     pub width: Width,
-    pub proved: fn(Case) -> u64,
-    pub standin: fn(Case) -> u64,
+    pub proved: fn(&Case) -> u64,
+    pub standin: fn(&Case) -> u64,
     /// None where Rust's own panics.
-    pub own: fn(Case) -> Option<u64>,
+    pub own: fn(&Case) -> Option<u64>,
 }
 
 /// A number as a word; a NaN is written as it is stored.
@@ -57,9 +57,9 @@ macro_rules! functions {
             name: stringify!($name),
             arguments: [stringify!($x) $(, stringify!($more))*].len(),
             width: <$kind>::WIDTH,
-            proved: |[$x $(, $more)*, ..]| proved::$name(<$kind>::of($x) $(, <$kind>::of($more))*).word(),
-            standin: |[$x $(, $more)*, ..]| $standin(<$kind>::of($x) $(, <$kind>::of($more))*).word(),
-            own: |[$x $(, $more)*, ..]| {
+            proved: |&[$x $(, $more)*, ..]| proved::$name(<$kind>::of($x) $(, <$kind>::of($more))*).word(),
+            standin: |&[$x $(, $more)*, ..]| $standin(<$kind>::of($x) $(, <$kind>::of($more))*).word(),
+            own: |&[$x $(, $more)*, ..]| {
                 let ($x, ($($more,)*)) = (<$kind>::of($x), ($(<$kind>::of($more),)*));
                 (true $(&& $defined)?).then(|| $own($x $(, $more)*).word())
             },
@@ -92,13 +92,14 @@ impl Function {
         FUNCTIONS.iter().find(|f| f.name == name).unwrap_or_else(|| panic!("no function {name}"))
     }
 
-    /// Whether the case is a pair of unlike zeros: document 01 gives the first, Rust leaves free which.
-    pub fn unlike_zeros(&self, case: Case) -> bool {
+    /// Whether the case is a pair of unlike zeros. Document 01 gives the first; Rust leaves open which, and its answer changes
+    /// with the code about the call.
+    pub fn unlike_zeros(&self, case: &Case) -> bool {
         self.arguments == 2 && (case[0] | case[1]) == 1 << 31 && case[0] != case[1]
     }
 
     /// The call and its answers, for a difference's report.
-    pub fn show(&self, case: Case) -> String {
+    pub fn show(&self, case: &Case) -> String {
         let digits = |w: u64| format!("{w:0width$x}", width = self.width.bits() as usize / 4);
         let arguments: Vec<String> = case[..self.arguments].iter().map(|&w| digits(w)).collect();
         let own = (self.own)(case).map_or("none".into(), |w| format!("{w:08x}"));
@@ -108,7 +109,7 @@ impl Function {
 
     /// Holds the proved function against the stand-in: every special case, then random ones.
     pub fn check(&self, random_cases: u32) {
-        let check = |case| assert!((self.proved)(case) == (self.standin)(case), "{}", self.show(case));
+        let check = |case: Case| assert!((self.proved)(&case) == (self.standin)(&case), "{}", self.show(&case));
         special_cases(self).for_each(check);
         let mut random = Random::new(self.op.into());
         (0..random_cases).for_each(|_| check(random.case(self)));

@@ -6,9 +6,13 @@ use coltoctober::proved;
 const CASES: usize = 1_000_000;
 const MARGIN: usize = 16;
 
-/// Lengths from 0 to 70, each many times over, and now and then a longer one.
-fn lengths() -> impl Iterator<Item = usize> {
-    (0..CASES).map(|i| if i % 1000 == 999 { 71 + i / 1000 } else { i % 71 })
+/// Runs the cases: lengths from 0 to 70, each many times over, and now and then a longer one.
+fn lengths(mut run: impl FnMut(&mut Random, usize)) {
+    let mut random = Random::new(0);
+    for i in 0..CASES {
+        let len = if i % 1000 == 999 { 71 + random.below(1000) as usize } else { i % 71 };
+        run(&mut random, len);
+    }
 }
 
 /// A slice with room before and behind it, at every alignment in turn.
@@ -71,28 +75,26 @@ fn set_word(bytes: &mut [u8], place: usize, w: u32) {
 
 #[test]
 fn word_at_place() {
-    let mut random = Random::new(1);
-    for len in lengths() {
-        let at = place(&mut random, len / 4);
-        Lent::new(&mut random, len, byte).same(
+    lengths(|random, len| {
+        let at = place(random, len / 4);
+        Lent::new(random, len, byte).same(
             |bytes| proved::word_at(bytes, at),
             |bytes| word_at(bytes, at),
             || format!("word_at({len} bytes, {at})"),
         );
-    }
+    });
 }
 
 #[test]
 fn set_word_at_place() {
-    let mut random = Random::new(2);
-    for len in lengths() {
-        let (at, w) = (place(&mut random, len / 4), word(random.bits()));
-        Lent::new(&mut random, len, byte).same(
+    lengths(|random, len| {
+        let (at, w) = (place(random, len / 4), word(random.bits()));
+        Lent::new(random, len, byte).same(
             |bytes| proved::set_word(bytes, at, w),
             |bytes| set_word(bytes, at, w),
             || format!("set_word({len} bytes, {at}, {w:x})"),
         );
-    }
+    });
 }
 
 #[test]
@@ -106,25 +108,23 @@ fn word_count() {
 
 #[test]
 fn fill() {
-    let mut random = Random::new(3);
-    for len in lengths() {
-        let (from, to, v) = (place(&mut random, len), place(&mut random, len), word(random.bits()));
-        Lent::new(&mut random, len, word).same(
+    lengths(|random, len| {
+        let (from, to, v) = (place(random, len), place(random, len), word(random.bits()));
+        Lent::new(random, len, word).same(
             |words| proved::fill(words, from, to, v),
             |words| words.iter_mut().take(to).skip(from).for_each(|word| *word = v),
             || format!("fill({len} words, {from}, {to}, {v:x})"),
         );
-    }
+    });
 }
 
 #[test]
 fn words_of_bytes() {
-    let mut random = Random::new(4);
-    for len in lengths() {
-        let mut lent = Lent::new(&mut random, len, byte);
+    lengths(|random, len| {
+        let mut lent = Lent::new(random, len, byte);
         let bytes = &*lent.slice();
         let room = (len / 4 + random.below(5) as usize).saturating_sub(2);
-        Lent::new(&mut random, room, word).same(
+        Lent::new(random, room, word).same(
             |words| proved::words_of_bytes(bytes, words),
             |words| {
                 if len % 4 != 0 {
@@ -136,17 +136,16 @@ fn words_of_bytes() {
             },
             || format!("words_of_bytes({len} bytes, {room} words)"),
         );
-    }
+    });
 }
 
 #[test]
 fn bytes_of_words() {
-    let mut random = Random::new(5);
-    for len in lengths() {
-        let mut lent = Lent::new(&mut random, len, word);
+    lengths(|random, len| {
+        let mut lent = Lent::new(random, len, word);
         let words = &*lent.slice();
         let room = (4 * len + random.below(17) as usize).saturating_sub(8);
-        Lent::new(&mut random, room, byte).same(
+        Lent::new(random, room, byte).same(
             |bytes| proved::bytes_of_words(words, bytes),
             |bytes| {
                 let written = bytes.get_mut(..4 * len).ok_or(3u32)?;
@@ -155,5 +154,5 @@ fn bytes_of_words() {
             },
             || format!("bytes_of_words({len} words, {room} bytes)"),
         );
-    }
+    });
 }

@@ -9,9 +9,9 @@ fn main() -> std::io::Result<()> {
     let mut bytes = Vec::new();
     for f in FUNCTIONS.iter().filter(|f| f.op > 0) {
         for case @ [a, b, c] in stored_cases(f) {
-            let answer = (f.standin)(case);
-            let own = (f.own)(case).filter(|_| !f.unlike_zeros(case));
-            assert!(own.is_none_or(|own| own == answer), "{}", f.show(case));
+            let answer = (f.standin)(&case);
+            let own = (f.own)(&case).filter(|_| !f.unlike_zeros(&case));
+            assert!(own.is_none_or(|own| own == answer), "{}", f.show(&case));
             let record = [f.op.into(), a, a >> 32, b, c, answer, answer >> 32, 0];
             bytes.extend(record.into_iter().flat_map(|word| (word as u32).to_le_bytes()));
         }

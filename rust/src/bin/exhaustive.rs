@@ -20,7 +20,7 @@ struct Count {
 }
 
 impl Count {
-    fn take(&mut self, f: &Function, case: Case) {
+    fn take(&mut self, f: &Function, case: &Case) {
         let (proved, own) = ((f.proved)(case), (f.own)(case));
         let from_standin = proved != (f.standin)(case);
         let from_own = own.is_some_and(|own| own != proved);
@@ -33,8 +33,8 @@ impl Count {
             self.with_own += u64::from(own.is_some());
             self.from_own += u64::from(from_own);
         }
-        if (from_standin || from_own) && self.shown.len() < 4 && !self.shown.contains(&case) {
-            self.shown.push(case);
+        if (from_standin || from_own) && self.shown.len() < 4 && !self.shown.contains(case) {
+            self.shown.push(*case);
         }
     }
 
@@ -42,15 +42,15 @@ impl Count {
     fn share(f: &Function, thread: u64) -> Count {
         let mut count = Count::default();
         if f.arguments == 1 && f.width == Width::F32 {
-            (thread..1 << 32).step_by(THREADS as usize).for_each(|word| count.take(f, [word, 0, 0]));
+            (thread..1 << 32).step_by(THREADS as usize).for_each(|word| count.take(f, &[word, 0, 0]));
             return count;
         }
         let mut random = Random::new(thread);
         for _ in 0..RANDOM / THREADS {
             let [x, lo, hi] = random.case(f);
-            count.take(f, [x, lo, hi]);
-            if (f.own)([x, lo, hi]).is_none() {
-                count.take(f, [x, hi, lo]); // clamp panics on ends out of order
+            count.take(f, &[x, lo, hi]);
+            if (f.own)(&[x, lo, hi]).is_none() {
+                count.take(f, &[x, hi, lo]); // clamp panics on ends out of order
             }
         }
         count
@@ -80,9 +80,9 @@ fn main() {
                     " | apart: {zeros} pairs of unlike zeros, where Rust leaves it open; {} differ",
                     sum(|c| c.from_own_there)
                 );
-                [[0, 1 << 31, 0], [1 << 31, 0, 0]].iter().for_each(|&case| println!("    {}", f.show(case)));
+                [[0, 1 << 31, 0], [1 << 31, 0, 0]].iter().for_each(|case| println!("    {}", f.show(case)));
             }
         }
-        counts.iter().flat_map(|c| &c.shown).for_each(|&case| println!("    {}", f.show(case)));
+        counts.iter().flat_map(|c| &c.shown).for_each(|case| println!("    {}", f.show(case)));
     }
 }
