@@ -126,7 +126,10 @@ pub fn stored_cases(f: &Function) -> Vec<Case> {
     let mut cases: Vec<Case> = choices(most.into(), f.arguments).collect();
     cases.extend(few(f.width).into_iter().map(|word| random.case_of(f, word)));
     while cases.len() < STORED {
-        cases.push(random.case(f));
+        let case = random.case(f);
+        if !cases.contains(&case) {
+            cases.push(case);
+        }
     }
     cases
 }
