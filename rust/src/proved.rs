@@ -1,0 +1,87 @@
+//! The proved functions: the one place that declares what `libfloats_c.a` exports.
+
+// SAFETY: nothing checks these lines against the Rattle source. There each function is proved for every input, so those on
+// plain numbers are safe to call; those on slices are wrapped below.
+unsafe extern "C" {
+    #[link_name = "floats_min"]
+    pub safe fn min(a: f32, b: f32) -> f32;
+    #[link_name = "floats_max"]
+    pub safe fn max(a: f32, b: f32) -> f32;
+    #[link_name = "floats_clamp"]
+    pub safe fn clamp(x: f32, lo: f32, hi: f32) -> f32;
+    #[link_name = "floats_abs"]
+    pub safe fn abs(x: f32) -> f32;
+    #[link_name = "floats_floor"]
+    pub safe fn floor(x: f32) -> f32;
+    #[link_name = "floats_ceil"]
+    pub safe fn ceil(x: f32) -> f32;
+    #[link_name = "floats_round"]
+    pub safe fn round(x: f32) -> f32;
+    #[link_name = "floats_to_u32"]
+    pub safe fn to_u32(x: f32) -> u32;
+    #[link_name = "floats_to_usize"]
+    pub safe fn to_usize(x: f32) -> usize;
+    #[link_name = "floats_sqrt"]
+    pub safe fn sqrt(x: f32) -> f32;
+    #[link_name = "floats_sqrt64"]
+    pub safe fn sqrt64(x: f64) -> f64;
+    #[link_name = "floats_narrow"]
+    pub safe fn narrow(x: f64) -> f32;
+    #[link_name = "floats_widen"]
+    pub safe fn widen(x: f32) -> f64;
+    #[link_name = "words_f32_of_word"]
+    pub safe fn f32_of_word(w: u32) -> f32;
+    #[link_name = "words_word_of_f32"]
+    pub safe fn word_of_f32(x: f32) -> u32;
+    #[link_name = "words_f64_of_word"]
+    pub safe fn f64_of_word(w: u64) -> f64;
+    #[link_name = "words_word_of_f64"]
+    pub safe fn word_of_f64(x: f64) -> u64;
+
+    fn words_word_at(bytes: *const u8, len: usize, place: usize) -> u32;
+    fn words_set_word(bytes: *mut u8, len: usize, place: usize, w: u32);
+    fn words_word_count(bytes: *const u8, len: usize) -> usize;
+    fn words_fill(words: *mut u32, len: usize, from: usize, to: usize, v: u32);
+    fn words_words_of_bytes(bytes: *const u8, len: usize, words: *mut u32, words_len: usize) -> u32;
+    fn words_bytes_of_words(words: *const u32, len: usize, bytes: *mut u8, bytes_len: usize) -> u32;
+}
+
+/// The word at a place, 0 past the last whole word.
+pub fn word_at(bytes: &[u8], place: usize) -> u32 {
+    unsafe { words_word_at(bytes.as_ptr(), bytes.len(), place) }
+}
+
+/// Writes the word at a place, nothing past the last whole word.
+pub fn set_word(bytes: &mut [u8], place: usize, w: u32) {
+    unsafe { words_set_word(bytes.as_mut_ptr(), bytes.len(), place, w) }
+}
+
+/// How many words the bytes hold, none where the length is no multiple of four.
+pub fn word_count(bytes: &[u8]) -> Option<usize> {
+    let count = unsafe { words_word_count(bytes.as_ptr(), bytes.len()) };
+    (count != usize::MAX).then_some(count)
+}
+
+/// Writes v from place `from` up to, not including, place `to`, as far as the slice goes.
+pub fn fill(words: &mut [u32], from: usize, to: usize, v: u32) {
+    unsafe { words_fill(words.as_mut_ptr(), words.len(), from, to, v) }
+}
+
+/// Reads the words of the bytes. A length that is no multiple of four is refusal 1, a slice too short for the words 3.
+pub fn words_of_bytes(bytes: &[u8], words: &mut [u32]) -> Result<(), u32> {
+    answer(unsafe { words_words_of_bytes(bytes.as_ptr(), bytes.len(), words.as_mut_ptr(), words.len()) })
+}
+
+/// Writes the words as bytes. A slice too short for them is refusal 3.
+pub fn bytes_of_words(words: &[u32], bytes: &mut [u8]) -> Result<(), u32> {
+    answer(unsafe { words_bytes_of_words(words.as_ptr(), words.len(), bytes.as_mut_ptr(), bytes.len()) })
+}
+
+/// A refusal's number, 0 for none.
+fn answer(number: u32) -> Result<(), u32> {
+    if number == 0 {
+        Ok(())
+    } else {
+        Err(number)
+    }
+}

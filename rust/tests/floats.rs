@@ -1,0 +1,12 @@
+//! The differential runs of the gate: proved against stand-in.
+
+macro_rules! runs {
+    ($($name:ident)*) => {
+        $(#[test]
+        fn $name() {
+            coltoctober::functions::Function::named(stringify!($name)).check(4_000_000);
+        })*
+    };
+}
+
+runs! { min max clamp abs floor ceil round to_u32 to_usize sqrt sqrt64 narrow widen word_of_f32 word_of_f64 f32_of_word f64_of_word }

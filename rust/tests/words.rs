@@ -1,0 +1,158 @@
+//! The differential runs of the gate: words in slices, proved against std's, with all that lies about a slice held in view.
+
+use coltoctober::cases::Random;
+use coltoctober::proved;
+
+const CASES: usize = 1_000_000;
+const MARGIN: usize = 16;
+
+/// Runs the cases: lengths from 0 to 70, each many times over, and now and then a longer one.
+fn lengths(mut run: impl FnMut(&mut Random, usize)) {
+    let mut random = Random::new(0);
+    for i in 0..CASES {
+        let len = if i % 1000 == 999 { 71 + random.below(1000) as usize } else { i % 71 };
+        run(&mut random, len);
+    }
+}
+
+/// A slice with room before and behind it, at every alignment in turn.
+struct Lent<T> {
+    all: Vec<T>,
+    start: usize,
+    len: usize,
+}
+
+impl<T: Copy + PartialEq + std::fmt::Debug> Lent<T> {
+    fn new(random: &mut Random, len: usize, of: fn(u64) -> T) -> Lent<T> {
+        let start = MARGIN + random.below(8) as usize;
+        let all = (0..start + len + MARGIN).map(|_| of(random.bits())).collect();
+        Lent { all, start, len }
+    }
+
+    fn slice(&mut self) -> &mut [T] {
+        &mut self.all[self.start..self.start + self.len]
+    }
+
+    /// Both write to copies of the same memory, and must answer alike and leave it alike, outside the slice too.
+    fn same<A: PartialEq + std::fmt::Debug>(
+        mut self,
+        proved: impl FnOnce(&mut [T]) -> A,
+        expected: impl FnOnce(&mut [T]) -> A,
+        show: impl FnOnce() -> String,
+    ) {
+        let mut copy = Lent { all: self.all.clone(), ..self };
+        let answers = (proved(self.slice()), expected(copy.slice()));
+        assert!(answers.0 == answers.1 && self.all == copy.all, "{}: {answers:x?}\n{:x?}\n{:x?}", show(), self.all, copy.all);
+    }
+}
+
+fn byte(bits: u64) -> u8 {
+    bits as u8
+}
+
+fn word(bits: u64) -> u32 {
+    bits as u32
+}
+
+/// A place within, about or far past the end of so many words; so far that four times it wraps.
+fn place(random: &mut Random, words: usize) -> usize {
+    match random.below(8) {
+        0 => usize::MAX - random.below(8) as usize,
+        1 => (1 << (59 + random.below(5))) + random.below(words as u64 + 2) as usize,
+        _ => random.below(words as u64 + 3) as usize,
+    }
+}
+
+fn word_at(bytes: &[u8], place: usize) -> u32 {
+    bytes.chunks_exact(4).nth(place).map_or(0, |word| u32::from_le_bytes(word.try_into().unwrap()))
+}
+
+fn set_word(bytes: &mut [u8], place: usize, w: u32) {
+    if let Some(word) = bytes.chunks_exact_mut(4).nth(place) {
+        word.copy_from_slice(&w.to_le_bytes());
+    }
+}
+
+#[test]
+fn word_at_place() {
+    lengths(|random, len| {
+        let at = place(random, len / 4);
+        Lent::new(random, len, byte).same(
+            |bytes| proved::word_at(bytes, at),
+            |bytes| word_at(bytes, at),
+            || format!("word_at({len} bytes, {at})"),
+        );
+    });
+}
+
+#[test]
+fn set_word_at_place() {
+    lengths(|random, len| {
+        let (at, w) = (place(random, len / 4), word(random.bits()));
+        Lent::new(random, len, byte).same(
+            |bytes| proved::set_word(bytes, at, w),
+            |bytes| set_word(bytes, at, w),
+            || format!("set_word({len} bytes, {at}, {w:x})"),
+        );
+    });
+}
+
+#[test]
+fn word_count() {
+    let bytes = vec![0; CASES];
+    for len in 0..=CASES {
+        let expected = (len % 4 == 0).then_some(len / 4);
+        assert_eq!(proved::word_count(&bytes[..len]), expected, "word_count({len} bytes)");
+    }
+}
+
+#[test]
+fn fill() {
+    lengths(|random, len| {
+        let (from, to, v) = (place(random, len), place(random, len), word(random.bits()));
+        Lent::new(random, len, word).same(
+            |words| proved::fill(words, from, to, v),
+            |words| words.iter_mut().take(to).skip(from).for_each(|word| *word = v),
+            || format!("fill({len} words, {from}, {to}, {v:x})"),
+        );
+    });
+}
+
+#[test]
+fn words_of_bytes() {
+    lengths(|random, len| {
+        let mut lent = Lent::new(random, len, byte);
+        let bytes = &*lent.slice();
+        let room = (len / 4 + random.below(5) as usize).saturating_sub(2);
+        Lent::new(random, room, word).same(
+            |words| proved::words_of_bytes(bytes, words),
+            |words| {
+                if len % 4 != 0 {
+                    return Err(1);
+                }
+                let read = words.get_mut(..len / 4).ok_or(3u32)?;
+                read.iter_mut().enumerate().for_each(|(i, word)| *word = word_at(bytes, i));
+                Ok(())
+            },
+            || format!("words_of_bytes({len} bytes, {room} words)"),
+        );
+    });
+}
+
+#[test]
+fn bytes_of_words() {
+    lengths(|random, len| {
+        let mut lent = Lent::new(random, len, word);
+        let words = &*lent.slice();
+        let room = (4 * len + random.below(17) as usize).saturating_sub(8);
+        Lent::new(random, room, byte).same(
+            |bytes| proved::bytes_of_words(words, bytes),
+            |bytes| {
+                let written = bytes.get_mut(..4 * len).ok_or(3u32)?;
+                words.iter().enumerate().for_each(|(i, &word)| set_word(written, i, word));
+                Ok(())
+            },
+            || format!("bytes_of_words({len} words, {room} bytes)"),
+        );
+    });
+}
