@@ -3,7 +3,7 @@ use Prim.Native.Nat.{ℕ, zero, suc, _+_, _-_, _*_, _/_, _%_, _^_, _≤_, _<_, m
 use mathlib.Core.Path.{_≡_, refl, sym, _∙_, ap, subst}
 use mathlib.Core.Bool.{Bool, true, false, cond, true≢false}
 use mathlib.Core.Logic.{_⊎_, inl, inr}
-use native.Mathlib.Nat.{mul-assoc, mul-comm, mod-eq-of-lt, eq-or-lt-of-le, div-eq-of-lt, lt-of-lt-of-le, lt-of-le-of-lt, le-trans, le-of-eq, lt-of-not-le, mul-div-mul-right, mul-div-cancel, div-le-self, le-div-iff-mul-le, min-eq-left, min-eq-right, min-comm, mul-lt-mul-of-pos-right, mul-le-mul-left, mul-pos, le-of-lt, add-assoc}
+use native.Mathlib.Nat.{mul-assoc, mul-comm, mod-eq-of-lt, eq-or-lt-of-le, div-eq-of-lt, lt-of-lt-of-le, lt-of-le-of-lt, le-trans, le-of-eq, lt-of-not-le, mul-div-mul-right, mul-div-cancel, div-le-self, le-div-iff-mul-le, min-eq-left, min-eq-right, min-comm, mul-lt-mul-of-pos-right, mul-le-mul-left, mul-pos, sub-le}
 use native.Mathlib.Omega.{arith}
 use native.Mathlib.Decide.{decLe}
 use lib.Dec.{leb, lit<, lit≤}
@@ -75,7 +75,7 @@ module _ (w : ℕ) where
       far =
           let e : 2 ^ k * 2 ^ 149 ≡ 2 ^ 23 * 2 ^ (126 + k) = mul-comm (2 ^ k) (2 ^ 149) ∙ mul-assoc (2 ^ 23) (2 ^ 126) (2 ^ k) ∙ ap (λ (z : ℕ). 2 ^ 23 * z) (sym (pow-add 2 126 k)) in
           let a : 2 ^ k ≤ magnitude binary32 w / 2 ^ 149 = le-div-iff-mul-le (pow-pos 149) .1 (le-trans (le-of-eq e) (magnitude-ge binary32 w (126 + k) lo)) in
-          omega arith
+          le-trans (sub-le (2 ^ k) 1) a
       go : (w ≡ 255 * 2 ^ 23) ⊎ (w < 255 * 2 ^ 23) → toUnsigned k (ofBits binary32 w) ≡ 2 ^ k - 1
       go (inl e) = ap (toUnsigned k) (inf-bits binary32 w (plain l ∙ e) ∙ ap inf (lt-leb (2 ^ 31) w l)) ∙ infinite
       go (inr h) = toUnsigned-units k (ofBits binary32 w) (magnitude binary32 w) (2 ^ 149) (pow-pos 149) (value h) ∙ min-eq-right far
@@ -93,7 +93,7 @@ module _ (w : ℕ) where
       ∙ ap (λ (z : ℕ). min z (2 ^ k - 1)) q ∙ min-eq-left (le-ones k few))
 
   pub cast-shift : (k : ℕ) → 25 ≤ k → 150 * 2 ^ 23 ≤ w → w < suc (126 + k) * 2 ^ 23 → w < 255 * 2 ^ 23 → (2 ^ 23 + w % 2 ^ 23) * 2 ^ (w / 2 ^ 23 - 150) % 2 ^ k ≡ toUnsigned k (ofBits binary32 w)
-  cast-shift k K lo hi fin =
+  cast-shift k K lo hi below =
       let x = w / 2 ^ 23 in
       let m = 2 ^ 23 + w % 2 ^ 23 in
       let t : x - 1 ≡ x - 150 + 149 = omega arith in
@@ -104,4 +104,4 @@ module _ (w : ℕ) where
       let m-lt : m < 2 ^ 24 = omega arith in
       let few : m * 2 ^ (x - 150) < 2 ^ k = lt-of-lt-of-le (mul-lt-mul-of-pos-right m-lt (pow-pos (x - 150))) (le-trans (mul-le-mul-left (2 ^ 24) (pow-mono j)) (le-of-eq (sym (pow-add 2 24 (k - 24)) ∙ ap (λ (z : ℕ). 2 ^ z) e))) in
       mod-eq-of-lt few
-      ∙ sym (toUnsigned-units k (ofBits binary32 w) (magnitude binary32 w) (2 ^ 149) (pow-pos 149) (value fin) ∙ ap (λ (z : ℕ). min z (2 ^ k - 1)) q ∙ min-eq-left (le-ones k few))
+      ∙ sym (toUnsigned-units k (ofBits binary32 w) (magnitude binary32 w) (2 ^ 149) (pow-pos 149) (value below) ∙ ap (λ (z : ℕ). min z (2 ^ k - 1)) q ∙ min-eq-left (le-ones k few))

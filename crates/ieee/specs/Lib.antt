@@ -5,6 +5,7 @@ pub mod WholeLaws
 pub mod WholeWords
 pub mod CastWords
 pub mod Sqrt
+pub mod SqrtLaws
 pub mod Narrow
 pub mod Nans
 pub mod Patterns

@@ -2,7 +2,7 @@
 use Prim.Native.Nat.{ℕ, _*_, _%_, _≤_, _<_}
 use mathlib.Core.Path.{_≡_, refl, sym, _∙_, subst}
 use mathlib.Core.Bool.{Bool, true, false, not}
-use lib.Dec.{T, ltb, lt→ltb, T-not, not-T}
+use lib.Dec.{T, lt→ltb}
 use lib.Arith.{le→nltb}
 use lib.Ieee.{Format, Float, nan, inf, fin, ofBits, isNan, nanBits, ne, eq, ones, hid, top}
 use lib.Ieee.Bits.{nanBits-is, nanBits-above}

@@ -1,1 +1,1 @@
-// Laws of IEEE 754's formats that lib.Ieee lacks, over the format, in specs/. No code.
+// IEEE 754 beyond lib.Ieee, over the format: document 01's library functions as definitions, and the laws that the code's proofs cite, in specs/. No code.

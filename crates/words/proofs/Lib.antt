@@ -1,5 +1,4 @@
 pub mod FillLaws
 pub mod LittleEndianLaws
-pub mod Nans
 pub mod Stores
 pub mod TrayLaws

@@ -4,7 +4,7 @@ use mathlib.Core.Path.{_≡_, ap, sym, subst}
 use native.Mathlib.Omega.{arith}
 use borrow.Author.Needs.{needs}
 use lib.Ieee.{binary32, binary64, toBits}
-use Rattle.words.proofs.Nans.{nan-bits}
+use Rattle.ieee.specs.Nans.{nan-bits}
 use Rattle.ieee.specs.Narrow.{narrow}
 use Rattle.ieee.specs.NarrowLaws.{narrow-large, narrow-normal, narrow-small, narrow-subnormal, normal-room, subnormal-room}
 use Rattle.floats.proofs.narrow.narrow_word.Statement.{statement}

@@ -5,7 +5,7 @@ use mathlib.Core.Bool.{not}
 use lib.Dec.{T}
 use lib.Ieee.{binary32, binary64, fits, isNan, div, ofBits}
 use lib.Ieee.Fits.{and-i, fits-widens}
-use Rattle.words.proofs.Nans.{no-nan, a-nan}
+use Rattle.ieee.specs.Nans.{no-nan, a-nan}
 use Rattle.floats.proofs.narrow.widen.Statement.{statement}
 use Rattle.floats.proofs.narrow.widen.Tie as tie
 

@@ -6,7 +6,7 @@ use native.Mathlib.Omega.{arith}
 use borrow.Author.Needs.{needs}
 use lib.Pow.{pow-pos, pow-mono}
 use lib.Ieee.{binary32, toBits}
-use Rattle.words.proofs.Nans.{nan-bits}
+use Rattle.ieee.specs.Nans.{nan-bits}
 use Rattle.ieee.specs.Whole.{nextWhole}
 use Rattle.ieee.specs.WholeWords.{nextWhole-whole, nextWhole-zero, nextWhole-one, nextWhole-none, nextWhole-away, nextWhole-toward}
 use Rattle.floats.proofs.whole.next_whole_word.Statement.{statement}

@@ -6,7 +6,7 @@ use native.Mathlib.Omega.{arith}
 use borrow.Author.Needs.{needs}
 use lib.Pow.{pow-pos, pow-mono}
 use lib.Ieee.{binary32, toBits}
-use Rattle.words.proofs.Nans.{nan-bits}
+use Rattle.ieee.specs.Nans.{nan-bits}
 use Rattle.ieee.specs.Whole.{roundAway}
 use Rattle.ieee.specs.WholeWords.{roundAway-whole, roundAway-none, roundAway-one, roundAway-part}
 use Rattle.floats.proofs.whole.round_word.Statement.{statement}

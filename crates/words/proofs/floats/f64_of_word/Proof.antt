@@ -2,7 +2,7 @@
 use borrow.Author.Needs.{needs}
 use mathlib.Core.Path.{sym}
 use lib.Ieee.{binary64, div, ofBits}
-use Rattle.words.proofs.Nans.{no-nan-bits, nan-bits}
+use Rattle.ieee.specs.Nans.{no-nan-bits, nan-bits}
 use Rattle.words.proofs.floats.f64_of_word.Statement.{statement}
 use Rattle.words.proofs.floats.f64_of_word.Tie as tie
 

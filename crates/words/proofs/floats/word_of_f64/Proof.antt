@@ -2,7 +2,7 @@
 use borrow.Author.Needs.{needs}
 use mathlib.Core.Path.{sym, ap}
 use lib.Ieee.{binary64, toBits}
-use Rattle.words.proofs.Nans.{no-nan, a-nan}
+use Rattle.ieee.specs.Nans.{no-nan, a-nan}
 use Rattle.words.proofs.floats.word_of_f64.Statement.{statement}
 use Rattle.words.proofs.floats.word_of_f64.Tie as tie
 
