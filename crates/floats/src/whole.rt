@@ -133,7 +133,7 @@ fn to_usize_word(w: u32) -> usize
         return 0xffff_ffff_ffff_ffff;
     }
     let m = (0x80_0000 + w % 0x80_0000) as usize;
-    let field = w / 0x80_0000;
+    let field = (w / 0x80_0000) as usize;
     if field < 150 {
         m >> (150 - field)
     } else {

@@ -6,6 +6,7 @@ pub mod WholeWords
 pub mod CastWords
 pub mod Sqrt
 pub mod SqrtLaws
+pub mod SqrtWords
 pub mod Narrow
 pub mod Nans
 pub mod Patterns

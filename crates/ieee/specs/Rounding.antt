@@ -7,9 +7,10 @@ use mathlib.Core.Bool.{Bool, true, false, cond, not}
 use mathlib.Core.Logic.{_⊎_, inl, inr}
 use native.Mathlib.Nat.{le-trans, le-of-eq, le-of-lt, lt-of-lt-of-le, lt-of-le-of-lt, eq-or-lt-of-le, eq-zero-or-pos, div-div-eq-div-mul, le-div-iff-mul-le, mul-le-mul-right, mul-le-mul-left, mul-assoc, mul-comm, le-of-mul-le-mul-left, lt-of-mul-lt-mul-left, min-eq-left, min-eq-right, pow-succ', mul-left-comm, zero-mul, mul-lt-mul-of-pos-right, div-add-mod', mod-lt, mul-add-div-right, mul-add-mod-self-right, div-eq-of-lt-le, div-lt-iff-lt-mul, div-eq-of-lt, mod-eq-of-lt, add-zero, add-suc, mul-pos}
 use native.Mathlib.Numerals.{add-one}
-use lib.Arith.{lt-of-le-ne}
+use lib.Arith.{lt-of-le-ne, mod-mul}
+use borrow.Author.Tests.{eq-eqb, ne-eqb}
 use native.Mathlib.Omega.{arith}
-use lib.Dec.{T, ltb, ltb→lt, nltb→le, lit≤, isLe, isEq, leb→le, nleb→lt, eqb→eq}
+use lib.Dec.{T, ltb, eqb, ltb→lt, nltb→le, lit<, lit≤, isLe, isEq, leb→le, nleb→lt, eqb→eq}
 use lib.Pow.{pow-pos, pow-add}
 use lib.Ieee.{Format, binary32, binary64, inf, prec, emax, low, hid, ones, top, size, odd, units, round, toBits, nearest}
 use lib.Ieee.Digits.{size-reaches}
@@ -202,3 +203,73 @@ closest-small a u h =
     below-half Ordering·lt l = refl
     below-half Ordering·eq e = refl
     below-half Ordering·gt g = absurd (omega (arith, h, g))
+
+-- ---- a rest counts the same whatever it is: of q whole parts and a rest, in steps of 2 u parts, only whether the rest is zero matters
+
+pub compare-is : (a b : ℕ) (o : Ordering) → Cmp o a b → compare a b ≡ o
+compare-is a b o h = go (compare a b) (cmp a b) o h
+  where
+    go : (p : Ordering) → Cmp p a b → (o : Ordering) → Cmp o a b → p ≡ o
+    go Ordering·lt x Ordering·lt y = refl
+    go Ordering·eq x Ordering·eq y = refl
+    go Ordering·gt x Ordering·gt y = refl
+    go Ordering·lt x Ordering·eq y = absurd (omega arith)
+    go Ordering·lt x Ordering·gt y = absurd (omega arith)
+    go Ordering·eq x Ordering·lt y = absurd (omega arith)
+    go Ordering·eq x Ordering·gt y = absurd (omega arith)
+    go Ordering·gt x Ordering·lt y = absurd (omega arith)
+    go Ordering·gt x Ordering·eq y = absurd (omega arith)
+
+-- how q parts and a rest compare with half a step, from how the parts do and whether there is a rest
+abbrev side : Ordering → Bool → Ordering
+side Ordering·lt z = Ordering·lt
+side Ordering·eq true = Ordering·eq
+side Ordering·eq false = Ordering·gt
+side Ordering·gt z = Ordering·gt
+
+module _ (q b rest u : ℕ) (small : rest < b) where
+  B : 0 < b
+  B = lt-of-le-of-lt Prim.Native.Nat.zero-le small
+
+  parts : (q * b + rest) / b ≡ q
+  parts = mul-add-div-right B q rest ∙ ap (λ (z : ℕ). q + z) (div-eq-of-lt small) ∙ add-zero q
+
+  sides : 0 < u → compare ((q % (2 * u) * b + rest) * 2) (2 * u * b) ≡ side (compare (q % (2 * u)) u) (eqb rest 0)
+  sides U = go (compare r u) (cmp r u) (eq-zero-or-pos rest)
+    where
+      r : ℕ
+      r = q % (2 * u)
+      is : (o : Ordering) → Cmp o ((r * b + rest) * 2) (2 * u * b) → compare ((r * b + rest) * 2) (2 * u * b) ≡ o
+      is o = compare-is ((r * b + rest) * 2) (2 * u * b) o
+      go : (o : Ordering) → Cmp o r u → (rest ≡ 0) ⊎ (0 < rest) → compare ((r * b + rest) * 2) (2 * u * b) ≡ side o (eqb rest 0)
+      go Ordering·lt l z = is Ordering·lt (omega (arith, small, mul-le-mul-right b l))
+      go Ordering·gt g z = is Ordering·gt (omega (arith, small, B, mul-le-mul-right b g))
+      go Ordering·eq e (inl z) = rw (eq-eqb rest 0 z) (is Ordering·eq (omega (arith, z, ap (λ (k : ℕ). k * b) e)))
+      go Ordering·eq e (inr p) = rw (ne-eqb rest 0 (λ (z : rest ≡ 0). omega arith)) (is Ordering·gt (omega (arith, p, ap (λ (k : ℕ). k * b) e)))
+
+  by-side : 0 < u → closest (q * b + rest) (2 * u * b) ≡ nearest (q / (2 * u)) (side (compare (q % (2 * u)) u) (eqb rest 0))
+  by-side U =
+      let two-u : 0 < 2 * u = omega arith in
+      let quotient : (q * b + rest) / (2 * u * b) ≡ q / (2 * u) = ap (λ (z : ℕ). (q * b + rest) / z) (mul-comm (2 * u) b) ∙ sym (div-div-eq-div-mul (q * b + rest) b (2 * u)) ∙ ap (λ (z : ℕ). z / (2 * u)) parts in
+      let remainder : (q * b + rest) % (2 * u * b) ≡ q % (2 * u) * b + rest = mod-mul (q * b + rest) two-u B ∙ ap (λ (z : ℕ). z % (2 * u) * b + (q * b + rest) % b) parts ∙ ap (λ (z : ℕ). q % (2 * u) * b + z) (mul-add-mod-self-right q b rest ∙ mod-eq-of-lt small) in
+      ap (λ (z : ℕ). nearest z (compare ((q * b + rest) % (2 * u * b) * 2) (2 * u * b))) quotient
+      ∙ ap (λ (z : ℕ). nearest (q / (2 * u)) (compare (z * 2) (2 * u * b))) remainder
+      ∙ ap (nearest (q / (2 * u))) (sides U)
+
+-- so a rest may be counted as a half
+pub closest-sticky : (q b rest u : ℕ) → rest < b → 0 < u → closest (q * b + rest) (2 * u * b) ≡ closest (2 * q + cond (eqb rest 0) 0 1) (4 * u)
+closest-sticky q b rest u small U =
+    by-side q b rest u small U
+    ∙ ap (λ (c : Bool). nearest (q / (2 * u)) (side (compare (q % (2 * u)) u) c)) (test (eq-zero-or-pos rest))
+    ∙ sym (by-side q 2 (cond (eqb rest 0) 0 1) u (half (eqb rest 0)) U)
+    ∙ ap (λ (z : ℕ). closest z (2 * u * 2)) (ap (λ (z : ℕ). z + cond (eqb rest 0) 0 1) (mul-comm q 2))
+    ∙ ap (closest (2 * q + cond (eqb rest 0) 0 1)) (four u)
+  where
+    half : (c : Bool) → cond c 0 1 < 2
+    half true = lit< tt
+    half false = lit< tt
+    four : (u : ℕ) → 2 * u * 2 ≡ 4 * u
+    four u = omega arith
+    test : (rest ≡ 0) ⊎ (0 < rest) → eqb rest 0 ≡ eqb (cond (eqb rest 0) 0 1) 0
+    test (inl z) = rw (eq-eqb rest 0 z)
+    test (inr p) = rw (ne-eqb rest 0 (λ (z : rest ≡ 0). omega arith))

@@ -1,22 +1,26 @@
+-- `floats::whole::to_usize` meets its contract: the cast is taken of the word. Assumes nothing.
+use Prim.Native.Nat.{ℕ}
+use mathlib.Core.Path.{_≡_, _∙_, ap, sym, subst}
 use borrow.Author.Needs.{needs}
+use lib.Dec.{T}
+use lib.Ieee.{binary32, ofBits}
+use lib.Ieee.Bits.{ofBits-toBits}
+use Rattle.ieee.specs.Whole.{toUsize}
 use Rattle.floats.proofs.whole.to_usize.Statement.{statement}
 use Rattle.floats.proofs.whole.to_usize.Tie as tie
-use Rattle.floats.proofs.whole.to_usize.Reads as reads
-use Rattle.floats.proofs.whole.to_usize.Lts as lts
-use Rattle.floats.proofs.whole.to_usize_word.Reads as to-usize-word-reads
-use Rattle.words.proofs.floats.word_of_f32.Reads as word-of-f32-reads
 
--- src/whole.rt:115:19
 word-of-f32-requires : tie.Need-word-of-f32-requires
 word-of-f32-requires c κs = search needs
 
--- src/whole.rt:115:5
 to-usize-word-requires : tie.Need-to-usize-word-requires
 to-usize-word-requires c κs = search needs
 
--- src/whole.rt:112:1
 returns : tie.Need-returns
-returns c = ?
+returns c =
+    let start = c .before .before in
+    c .to-usize-word .ensures
+    ∙ ap (λ (w : ℕ). toUsize (ofBits binary32 w)) (c .before .word-of-f32 .ensures)
+    ∙ ap toUsize (ofBits-toBits binary32 (start .args .x) (subst T (sym (start .good .0 .1)) tt))
 
 pub to-usize-spec : {M : Type 1} → statement M
 to-usize-spec = tie.close (tie.spec word-of-f32-requires to-usize-word-requires returns)

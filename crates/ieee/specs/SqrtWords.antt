@@ -1,0 +1,221 @@
+-- The bit pattern of a root from the whole root of fewer digits. Of n * 4 ^ t, with n from 4 ^ (prec + g) up to 4 ^ (prec + 1 + g), the root of n has g + 1 digits more
+-- than the format keeps; a rest counts as half a unit more, and one rounding drops the digits. Over the format. Assumes nothing.
+use Prim.Native.Nat.{ℕ, zero, suc, _+_, _-_, _*_, _/_, _%_, _^_, _≤_, _<_, min, zero-le}
+use mathlib.Core.Path.{_≡_, refl, sym, _∙_, ap, subst}
+use mathlib.Core.Bool.{Bool, true, false, cond, true≢false}
+use mathlib.Core.Logic.{_⊎_, inl, inr, _≢_}
+use native.Mathlib.Nat.{mul-assoc, mul-comm, mul-one, one-mul, zero-mul, mul-pos, mul-right-comm, mul-left-comm, mul-mul-mul-comm, div-add-mod', mod-lt, lt-of-lt-of-le, lt-of-le-of-lt, le-trans, le-of-eq, le-refl, le-of-suc-le-suc, lt-of-not-le, not-le-of-lt, mul-le-mul, mul-le-mul-right, mul-lt-mul-of-pos-right, eq-of-mul-eq-mul-right, mul-div-cancel, mul-div-mul-right, div-div-eq-div-mul, le-div-iff-mul-le, div-lt-iff-lt-mul, div-eq-of-lt-le, pow-succ', pow-zero, eq-zero-or-pos, add-zero, min-eq-left, lt-irrefl, zero-add}
+use native.Mathlib.Omega.{arith}
+use lib.Dec.{T, eqb, lit<, lit≤}
+use lib.IntN.{ℤ}
+use lib.Pow.{pow-pos, pow-add, pow-mono}
+use lib.Ieee.{Format, binary32, binary64, Float, nan, inf, fin, prec, emax, low, hid, ones, top, up, down, size, round, toBits, fits}
+use lib.Ieee.Exact.{HasValue}
+use lib.Ieee.Fits.{down-pos, up-pos, two, nan-fits, inf-fits, round-fits}
+use lib.Ieee.Nearest.{closest}
+use lib.Ieee.Order.{drop, kept}
+use borrow.Author.Tests.{eq-eqb, ne-eqb}
+use Rattle.ieee.specs.Sqrt.{isqrt, rootOf, sqrt}
+use Rattle.ieee.specs.SqrtLaws.{Root, isqrt-law, root-unique}
+use Rattle.ieee.specs.Patterns.{size-is, two-hid}
+use Rattle.ieee.specs.Rounding.{round-bits, closest-sticky, closest-scale, closest-le}
+
+-- twice the whole root, and one more where it leaves a rest
+abbrev pub sticky : ℕ → ℕ
+sticky n = 2 * isqrt n + cond (eqb (isqrt n * isqrt n) n) 0 1
+
+-- 4 ^ k is 2 ^ k squared
+pub four : (k : ℕ) → 4 ^ k ≡ 2 ^ k * 2 ^ k
+four zero = refl
+four (suc k) = pow-succ' 4 k ∙ ap (λ (z : ℕ). 4 * z) (four k) ∙ spread (2 ^ k) ∙ ap (λ (z : ℕ). z * z) (sym (pow-succ' 2 k))
+  where
+    spread : (a : ℕ) → 4 * (a * a) ≡ 2 * a * (2 * a)
+    spread a = omega arith
+
+-- numbers are ordered as their squares are
+pub square-lt : (a b : ℕ) → a * a < b * b → a < b
+square-lt a b h = lt-of-not-le (λ (g : b ≤ a). not-le-of-lt h (mul-le-mul g g))
+
+module _ (n t : ℕ) where
+  -- the root of n, of n * 4 ^ t, and what the second has more
+  q : ℕ
+  q = isqrt n
+  Q : ℕ
+  Q = isqrt (n * 4 ^ t)
+
+  squares : (k : ℕ) → k * 2 ^ t * (k * 2 ^ t) ≡ k * k * 4 ^ t
+  squares k = mul-mul-mul-comm k (2 ^ t) k (2 ^ t) ∙ ap (λ (z : ℕ). k * k * z) (sym (four t))
+
+  from : q * 2 ^ t ≤ Q
+  unfolding q Q
+  from = le-of-suc-le-suc (square-lt (q * 2 ^ t) (suc Q) (lt-of-le-of-lt (le-trans (le-of-eq (squares q)) (mul-le-mul-right (4 ^ t) (isqrt-law n .at-most))) (isqrt-law (n * 4 ^ t) .below)))
+
+  to : Q < suc q * 2 ^ t
+  unfolding q Q
+  to = square-lt Q (suc q * 2 ^ t) (lt-of-le-of-lt (isqrt-law (n * 4 ^ t) .at-most) (lt-of-lt-of-le (mul-lt-mul-of-pos-right (isqrt-law n .below) (pow4-pos t)) (le-of-eq (sym (squares (suc q))))))
+    where
+      pow4-pos : (t : ℕ) → 0 < 4 ^ t
+      pow4-pos t = subst (λ (z : ℕ). 0 < z) (sym (four t)) (mul-pos (pow-pos t) (pow-pos t))
+
+  rest : ℕ
+  rest = Q - q * 2 ^ t
+
+  split : Q ≡ q * 2 ^ t + rest
+  unfolding rest
+  split = omega (arith, from)
+
+  rest-lt : rest < 2 ^ t
+  unfolding rest
+  rest-lt = omega (arith, from, to, native.Mathlib.Nat.suc-mul q (2 ^ t))
+
+  -- a whole root of n is one of n * 4 ^ t, and the other way round
+  whole : q * q ≡ n → (rest ≡ 0) × (Q * Q ≡ n * 4 ^ t)
+  unfolding q Q rest
+  whole e =
+      let s : q * 2 ^ t * (q * 2 ^ t) ≡ n * 4 ^ t = squares q ∙ ap (λ (z : ℕ). z * 4 ^ t) e in
+      let u : q * 2 ^ t ≡ Q = root-unique (n * 4 ^ t) (q * 2 ^ t) (record { at-most = le-of-eq s; below = lt-of-le-of-lt (le-of-eq (sym s)) (grows (q * 2 ^ t)) }) in
+      (omega arith, ap (λ (z : ℕ). z * z) (sym u) ∙ s)
+    where
+      grows : (k : ℕ) → k * k < suc k * suc k
+      grows k = omega arith
+
+  back : rest ≡ 0 → Q * Q ≡ n * 4 ^ t → q * q ≡ n
+  back z e =
+      let u : Q ≡ q * 2 ^ t = split ∙ ap (λ (k : ℕ). q * 2 ^ t + k) z ∙ add-zero (q * 2 ^ t) in
+      eq-of-mul-eq-mul-right (4 ^ t) (subst (λ (k : ℕ). 0 < k) (sym (four t)) (mul-pos (pow-pos t) (pow-pos t))) (q * q) n (sym (squares q) ∙ ap (λ (k : ℕ). k * k) (sym u) ∙ e)
+
+  -- the half units of the larger root beyond whole ones of the smaller
+  more : ℕ
+  more = 2 * rest + cond (eqb (Q * Q) (n * 4 ^ t)) 0 1
+
+  more-lt : more < 2 * 2 ^ t
+  unfolding more
+  more-lt = go (eqb (Q * Q) (n * 4 ^ t))
+    where
+      go : (b : Bool) → 2 * rest + cond b 0 1 < 2 * 2 ^ t
+      go true = omega (arith, rest-lt)
+      go false = omega (arith, rest-lt)
+
+  sticky-split : sticky (n * 4 ^ t) ≡ q * (2 * 2 ^ t) + more
+  unfolding more Q
+  sticky-split = ap (λ (z : ℕ). 2 * z + cond (eqb (Q * Q) (n * 4 ^ t)) 0 1) split ∙ regroup q (2 ^ t) rest (cond (eqb (Q * Q) (n * 4 ^ t)) 0 1)
+    where
+      regroup : (a b c d : ℕ) → 2 * (a * b + c) + d ≡ a * (2 * b) + (2 * c + d)
+      regroup a b c d = omega arith
+
+  same-test : eqb more 0 ≡ eqb (q * q) n
+  unfolding more
+  same-test = go (native.Mathlib.Decide.ℕ-discrete (q * q) n) (native.Mathlib.Decide.ℕ-discrete (Q * Q) (n * 4 ^ t)) (eq-zero-or-pos rest)
+    where
+      go : Dec (q * q ≡ n) → Dec (Q * Q ≡ n * 4 ^ t) → (rest ≡ 0) ⊎ (0 < rest) → eqb (2 * rest + cond (eqb (Q * Q) (n * 4 ^ t)) 0 1) 0 ≡ eqb (q * q) n
+      go (yes e) d r = eq-eqb (2 * rest + cond (eqb (Q * Q) (n * 4 ^ t)) 0 1) 0 (rw (eq-eqb (Q * Q) (n * 4 ^ t) (whole e .1)) (omega (arith, whole e .0))) ∙ sym (eq-eqb (q * q) n e)
+      go (no e) (yes p) (inl z) = absurd (e (back z p))
+      go (no e) (yes p) (inr r) = ne-eqb (2 * rest + cond (eqb (Q * Q) (n * 4 ^ t)) 0 1) 0 (λ h. omega arith) ∙ sym (ne-eqb (q * q) n e)
+      go (no e) (no p) r = ne-eqb (2 * rest + cond (eqb (Q * Q) (n * 4 ^ t)) 0 1) 0 (rw (ne-eqb (Q * Q) (n * 4 ^ t) p) (λ h. omega arith)) ∙ sym (ne-eqb (q * q) n e)
+
+module _ (f : Format) (g t n : ℕ) (lo : 4 ^ (prec f + g) ≤ n) (hi : n < 4 ^ suc (prec f + g)) where
+  root-ge : 2 ^ (prec f + g) ≤ isqrt n
+  root-ge = le-of-suc-le-suc (square-lt (2 ^ (prec f + g)) (suc (isqrt n)) (lt-of-le-of-lt (le-trans (le-of-eq (sym (four (prec f + g)))) lo) (isqrt-law n .below)))
+
+  root-lt : isqrt n < 2 ^ suc (prec f + g)
+  root-lt = square-lt (isqrt n) (2 ^ suc (prec f + g)) (lt-of-le-of-lt (isqrt-law n .at-most) (lt-of-lt-of-le hi (le-of-eq (four (suc (prec f + g))))))
+
+  larger-ge : 2 ^ (prec f + g + t) ≤ isqrt (n * 4 ^ t)
+  unfolding q Q
+  larger-ge = le-trans (le-of-eq (pow-add 2 (prec f + g) t)) (le-trans (mul-le-mul-right (2 ^ t) root-ge) (from n t))
+
+  larger-lt : isqrt (n * 4 ^ t) < 2 * 2 ^ (prec f + g + t)
+  unfolding q Q
+  larger-lt = lt-of-lt-of-le (to n t) (le-trans (mul-le-mul-right (2 ^ t) root-lt) (le-of-eq (ap (λ (z : ℕ). z * 2 ^ t) (pow-succ' 2 (prec f + g)) ∙ mul-assoc 2 (2 ^ (prec f + g)) (2 ^ t) ∙ ap (λ (z : ℕ). 2 * z) (sym (pow-add 2 (prec f + g) t)))))
+
+  -- in units of the format's smallest value the whole part is half the larger root
+  units-are : sticky (n * 4 ^ t) * 2 ^ low f / (2 * 2 ^ suc (low f)) ≡ isqrt (n * 4 ^ t) / 2
+  units-are =
+      ap (λ (z : ℕ). sticky (n * 4 ^ t) * 2 ^ low f / (2 * z)) (pow-succ' 2 (low f))
+      ∙ ap (λ (z : ℕ). sticky (n * 4 ^ t) * 2 ^ low f / z) (sym (mul-assoc 2 2 (2 ^ low f)))
+      ∙ mul-div-mul-right (sticky (n * 4 ^ t)) 4 (pow-pos (low f))
+      ∙ quarter (isqrt (n * 4 ^ t)) (eqb (isqrt (n * 4 ^ t) * isqrt (n * 4 ^ t)) (n * 4 ^ t))
+    where
+      quarter : (k : ℕ) (b : Bool) → (2 * k + cond b 0 1) / 4 ≡ k / 2
+      quarter k true = omega arith
+      quarter k false = omega arith
+
+  gone : drop (prec f) (sticky (n * 4 ^ t) * 2 ^ low f) (2 * 2 ^ suc (low f)) ≡ g + t
+  gone =
+      ap (λ (z : ℕ). size z - prec f) units-are
+      ∙ ap (λ (z : ℕ). z - prec f) (half-size (prec f + g + t) (isqrt (n * 4 ^ t)) (omega (arith, two f)) larger-ge larger-lt)
+      ∙ cancel (prec f) g t
+    where
+      cancel : (p g t : ℕ) → p + g + t - p ≡ g + t
+      cancel p g t = omega arith
+      half-size : (j k : ℕ) → 1 ≤ j → 2 ^ j ≤ k → k < 2 * 2 ^ j → size (k / 2) ≡ j
+      half-size zero k o l h = absurd (omega arith)
+      half-size (suc j) k o l h = size-is (k / 2) j (omega (arith, pow-succ' 2 j)) (omega (arith, pow-succ' 2 j))
+
+  left : kept (prec f) (sticky (n * 4 ^ t) * 2 ^ low f) (2 * 2 ^ suc (low f)) ≡ closest (sticky n) (2 ^ (2 + g))
+  unfolding q
+  left =
+      ap (λ (z : ℕ). closest (sticky (n * 4 ^ t) * 2 ^ low f) (2 * 2 ^ suc (low f) * 2 ^ z)) gone
+      ∙ ap (closest (sticky (n * 4 ^ t) * 2 ^ low f)) steps
+      ∙ closest-scale (sticky (n * 4 ^ t)) (2 * 2 ^ g * (2 * 2 ^ t)) (2 ^ low f) (mul-pos (mul-pos (lit< tt) (pow-pos g)) (mul-pos (lit< tt) (pow-pos t))) (pow-pos (low f))
+      ∙ ap (λ (z : ℕ). closest z (2 * 2 ^ g * (2 * 2 ^ t))) (sticky-split n t)
+      ∙ closest-sticky (isqrt n) (2 * 2 ^ t) (more n t) (2 ^ g) (more-lt n t) (pow-pos g)
+      ∙ ap (λ (b : Bool). closest (2 * isqrt n + cond b 0 1) (4 * 2 ^ g)) (same-test n t)
+      ∙ ap (closest (sticky n)) (sym (pow-add 2 2 g))
+    where
+      spread : (l a b : ℕ) → 2 * (2 * l) * (a * b) ≡ 2 * a * (2 * b) * l
+      spread l a b = omega arith
+      steps : 2 * 2 ^ suc (low f) * 2 ^ (g + t) ≡ 2 * 2 ^ g * (2 * 2 ^ t) * 2 ^ low f
+      steps = ap (λ (z : ℕ). 2 * z * 2 ^ (g + t)) (pow-succ' 2 (low f)) ∙ ap (λ (z : ℕ). 2 * (2 * 2 ^ low f) * z) (pow-add 2 g t) ∙ spread (2 ^ low f) (2 ^ g) (2 ^ t)
+
+  pub root-kept : closest (sticky n) (2 ^ (2 + g)) ≤ 2 ^ prec f
+  root-kept = closest-le (sticky n) (2 ^ (2 + g)) (2 ^ prec f) (pow-pos (2 + g)) (lt-of-lt-of-le (few (isqrt n) (eqb (isqrt n * isqrt n) n) root-lt) (le-of-eq (sym steps)))
+    where
+      few : (k : ℕ) (b : Bool) → k < 2 ^ suc (prec f + g) → 2 * k + cond b 0 1 < 2 * 2 ^ suc (prec f + g)
+      few k true h = omega arith
+      few k false h = omega arith
+      steps : 2 ^ prec f * 2 ^ (2 + g) ≡ 2 * 2 ^ suc (prec f + g)
+      steps = sym (pow-add 2 (prec f) (2 + g)) ∙ ap (λ (z : ℕ). 2 ^ z) (place (prec f) g) ∙ pow-succ' 2 (suc (prec f + g))
+        where
+          place : (p g : ℕ) → p + (2 + g) ≡ suc (suc (p + g))
+          place p g = omega arith
+
+  pub root-pattern : g + t + 2 ≤ ones f → (g + t) * hid f + closest (sticky n) (2 ^ (2 + g)) ≡ toBits f (rootOf f (suc (low f)) (n * 4 ^ t))
+  unfolding rootOf
+  root-pattern room =
+      sym (round-bits f false (sticky (n * 4 ^ t)) (2 * 2 ^ suc (low f))
+      ∙ zero-add (min (drop (prec f) (sticky (n * 4 ^ t) * 2 ^ low f) (2 * 2 ^ suc (low f)) * hid f + kept (prec f) (sticky (n * 4 ^ t) * 2 ^ low f) (2 * 2 ^ suc (low f))) (ones f * hid f))
+      ∙ ap (λ (z : ℕ). min (z * hid f + kept (prec f) (sticky (n * 4 ^ t) * 2 ^ low f) (2 * 2 ^ suc (low f))) (ones f * hid f)) gone
+      ∙ ap (λ (z : ℕ). min ((g + t) * hid f + z) (ones f * hid f)) left
+      ∙ min-eq-left (fits-in (mul-le-mul-right (hid f) room)))
+    where
+      fits-in : (g + t + 2) * hid f ≤ ones f * hid f → (g + t) * hid f + closest (sticky n) (2 ^ (2 + g)) ≤ ones f * hid f
+      fits-in h = omega (arith, root-kept, two-hid f)
+
+-- ---- the root of a value, in units
+
+above-zero : (m : ℕ) (e : ℤ) (u d : ℕ) → 0 < u → m * up e * d ≡ u * down e → m ≢ 0
+above-zero m e u d p h z = lt-irrefl 0 (subst (λ (k : ℕ). 0 < k) (sym h ∙ ap (λ (k : ℕ). k * up e * d) z ∙ ap (λ (k : ℕ). k * d) (zero-mul (up e)) ∙ zero-mul d) (mul-pos p (down-pos e)))
+
+pub sqrt-units : (f : Format) (v : Float) (u : ℕ) → HasValue v false u (2 ^ low f) → 0 < u → sqrt f v ≡ rootOf f (suc (low f)) (u * 2 ^ (low f + 2))
+unfolding sqrt
+sqrt-units f nan u h p = absurd h
+sqrt-units f (inf s) u h p = absurd h
+sqrt-units f (fin true m e) u h p = absurd (true≢false (h .0))
+sqrt-units f (fin false zero e) u h p = absurd (above-zero zero e u (2 ^ low f) p (h .1) refl)
+sqrt-units f (fin false (suc m) e) u h p =
+    let l : 4 ^ suc (low f) ≡ 2 ^ low f * 2 ^ (low f + 2) = four (suc (low f)) ∙ ap (λ (z : ℕ). z * 2 ^ suc (low f)) (pow-succ' 2 (low f) ∙ mul-comm 2 (2 ^ low f)) ∙ mul-assoc (2 ^ low f) 2 (2 ^ suc (low f)) ∙ ap (λ (z : ℕ). 2 ^ low f * z) (sym (pow-succ' 2 (suc (low f))) ∙ ap (λ (z : ℕ). 2 ^ z) (place (low f))) in
+    let x : suc m * up e * 4 ^ suc (low f) ≡ u * 2 ^ (low f + 2) * down e = ap (λ (z : ℕ). suc m * up e * z) l ∙ sym (mul-assoc (suc m * up e) (2 ^ low f) (2 ^ (low f + 2))) ∙ ap (λ (z : ℕ). z * 2 ^ (low f + 2)) (h .1) ∙ mul-right-comm u (down e) (2 ^ (low f + 2)) in
+    ap (λ (z : ℕ). rootOf f (suc (low f)) (z / down e)) x ∙ ap (rootOf f (suc (low f))) (mul-div-cancel (u * 2 ^ (low f + 2)) (down-pos e))
+  where
+    place : (l : ℕ) → suc (suc l) ≡ l + 2
+    place l = omega arith
+
+pub sqrt-fits : (f : Format) (x : Float) → T (fits f x) → T (fits f (sqrt f x))
+unfolding sqrt rootOf
+sqrt-fits f nan h = nan-fits f
+sqrt-fits f (inf true) h = nan-fits f
+sqrt-fits f (inf false) h = inf-fits f false
+sqrt-fits f (fin s zero e) h = h
+sqrt-fits f (fin true (suc m) e) h = nan-fits f
+sqrt-fits f (fin false (suc m) e) h = round-fits f false (sticky (suc m * up e * 4 ^ suc (low f) / down e)) (2 * 2 ^ suc (low f))
