@@ -2,6 +2,7 @@
 ghost use mathlib.Core.Path.{_≡_};
 ghost use Prim.Native.Nat.{_+_, _*_, _^_, _≤_, _<_};
 ghost use Rattle.ieee.specs.Sqrt.{isqrt};
+ghost use Rattle.ieee.specs.SqrtWords.{sticky};
 use words::floats::word_of_f64;
 
 // 2^18 over the root of i + 1/2, from i = 64 on.
@@ -64,7 +65,7 @@ fn halving_root(n: u64) -> u64
 }
 
 // The same, from the guess: it is the root, or one above it, or else the root is found by halving.
-pub(crate) fn root(n: u64) -> u64
+fn root(n: u64) -> u64
     requires { ⌜ n < 2 ^ 54 ⌝ }
     ensures { λ r. ⌜ r ≡ isqrt n ⌝ }
 {
@@ -81,4 +82,34 @@ pub(crate) fn root(n: u64) -> u64
         }
     }
     halving_root(n)
+}
+
+// Twice the root of n, and one more where the root leaves a rest.
+pub(crate) fn sticky_root(n: u64) -> u64
+    requires { ⌜ n < 2 ^ 54 ⌝ }
+    ensures { λ r. ⌜ r ≡ sticky n ⌝ }
+{
+    let q = root(n);
+    if q * q == n { 2 * q } else { 2 * q + 1 }
+}
+
+// The same for n * 2^54: the root's upper half is the root of n, a division by it finds the lower half or one more, and the rest tells which.
+pub(crate) fn wide_sticky_root(n: u64) -> u64
+    requires { ⌜ 2 ^ 52 ≤ n ⌝ }
+    requires { ⌜ n < 2 ^ 54 ⌝ }
+    ensures { λ r. ⌜ r ≡ sticky (n * 2 ^ 54) ⌝ }
+{
+    let upper = root(n);
+    let rest = (n - upper * upper) * 0x800_0000;
+    let lower = rest / (2 * upper);
+    let over = rest % (2 * upper) * 0x800_0000;
+    let whole = upper * 0x800_0000 + lower;
+    let square = lower * lower;
+    if over == square {
+        2 * whole
+    } else if over < square {
+        2 * whole - 1
+    } else {
+        2 * whole + 1
+    }
 }

@@ -39,3 +39,14 @@ root-mono n p m q h a b = le-of-suc-le-suc (lt-of-not-le (λ (g : suc q ≤ p). 
 
 pub root-unique : (n q : ℕ) → Root n q → q ≡ isqrt n
 root-unique n q h = le-antisymm (root-mono n q n (isqrt n) (native.Mathlib.Nat.le-refl n) h (isqrt-law n)) (root-mono n (isqrt n) n q (native.Mathlib.Nat.le-refl n) (isqrt-law n) h)
+
+-- a root lies where the number lies among squares
+pub root-below : (n q a : ℕ) → Root n q → n < a * a → q < a
+root-below n q a r h = lt-of-not-le (λ (g : a ≤ q). not-le-of-lt (lt-of-le-of-lt (r .at-most) h) (mul-le-mul g g))
+
+pub root-from : (n q a : ℕ) → Root n q → a * a ≤ n → a ≤ q
+root-from n q a r h = le-of-suc-le-suc (lt-of-not-le (λ (g : suc q ≤ a). not-le-of-lt (lt-of-le-of-lt h (r .below)) (mul-le-mul g g)))
+
+-- the root that a call gives
+pub root-of : (n q : ℕ) → q ≡ isqrt n → Root n q
+root-of n q e = subst (Root n) (sym e) (isqrt-law n)

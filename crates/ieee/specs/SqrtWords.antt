@@ -8,6 +8,7 @@ use native.Mathlib.Nat.{mul-assoc, mul-comm, mul-one, one-mul, zero-mul, mul-pos
 use native.Mathlib.Omega.{arith}
 use lib.Dec.{T, eqb, lit<, lit≤}
 use lib.IntN.{ℤ}
+use lib.Count.{leadingZeros, leading-top}
 use lib.Pow.{pow-pos, pow-add, pow-mono}
 use lib.Ieee.{Format, binary32, binary64, Float, nan, inf, fin, prec, emax, low, hid, ones, top, up, down, size, round, toBits, fits}
 use lib.Ieee.Exact.{HasValue}
@@ -17,7 +18,7 @@ use lib.Ieee.Order.{drop, kept}
 use borrow.Author.Tests.{eq-eqb, ne-eqb}
 use Rattle.ieee.specs.Sqrt.{isqrt, rootOf, sqrt}
 use Rattle.ieee.specs.SqrtLaws.{Root, isqrt-law, root-unique}
-use Rattle.ieee.specs.Patterns.{size-is, two-hid}
+use Rattle.ieee.specs.Patterns.{size-is, two-hid, pow-lt-inv}
 use Rattle.ieee.specs.Rounding.{round-bits, closest-sticky, closest-scale, closest-le}
 
 -- twice the whole root, and one more where it leaves a rest
@@ -219,3 +220,115 @@ sqrt-fits f (inf false) h = inf-fits f false
 sqrt-fits f (fin s zero e) h = h
 sqrt-fits f (fin true (suc m) e) h = nan-fits f
 sqrt-fits f (fin false (suc m) e) h = round-fits f false (sticky (suc m * up e * 4 ^ suc (low f) / down e)) (2 * 2 ^ suc (low f))
+
+-- ---- normalising: d has its leading digit at place 52 after the shift, and an odd exponent gives one digit more
+
+pub record Normal (d : ℕ) : Type 0 where
+  pub enough : 11 ≤ leadingZeros 64 d
+  pub few : leadingZeros 64 d - 11 ≤ 52
+  pub from : 2 ^ 52 ≤ d * 2 ^ (leadingZeros 64 d - 11)
+  pub to : d * 2 ^ (leadingZeros 64 d - 11) < 2 ^ 53
+
+pub normal : (d : ℕ) → 0 < d → d < 2 ^ 53 → Normal d
+normal d p h =
+    let t = leading-top 64 d p (lt-of-lt-of-le h (lit≤ tt)) in
+    let j = t .0 in
+    let e : leadingZeros 64 d + suc j ≡ 64 = t .1 in
+    let j-lt : j < 53 = pow-lt-inv j 53 (lt-of-le-of-lt (t .2) h) in
+    let s = leadingZeros 64 d - 11 in
+    let a : j + s ≡ 52 = omega arith in
+    let b : suc j + s ≡ 53 = omega arith in
+    record {
+      enough = omega arith;
+      few = omega arith;
+      from = le-trans (le-of-eq (sym (ap (λ (z : ℕ). 2 ^ z) a) ∙ pow-add 2 j s)) (mul-le-mul-right (2 ^ s) (t .2));
+      to = lt-of-lt-of-le (mul-lt-mul-of-pos-right (t .3) (pow-pos s)) (le-of-eq (sym (pow-add 2 (suc j) s) ∙ ap (λ (z : ℕ). 2 ^ z) b));
+    }
+
+pub normal-even : (d s e : ℕ) → s ≤ e → (e - s) % 2 ≡ 0 → d * 2 ^ s * 4 ^ ((e - s) / 2) ≡ d * 2 ^ e
+normal-even d s e l z =
+    let h = (e - s) / 2 in
+    let p : s + (h + h) ≡ e = omega arith in
+    ap (λ (k : ℕ). d * 2 ^ s * k) (four h ∙ sym (pow-add 2 h h)) ∙ mul-assoc d (2 ^ s) (2 ^ (h + h)) ∙ ap (λ (k : ℕ). d * k) (sym (pow-add 2 s (h + h)) ∙ ap (λ (k : ℕ). 2 ^ k) p)
+
+pub normal-odd : (d s e : ℕ) → s ≤ e → (e - s) % 2 ≢ 0 → 2 * (d * 2 ^ s) * 4 ^ ((e - s) / 2) ≡ d * 2 ^ e
+normal-odd d s e l z =
+    let h = (e - s) / 2 in
+    let p : suc s + (h + h) ≡ e = omega arith in
+    ap (λ (k : ℕ). k * 4 ^ h) (mul-left-comm 2 d (2 ^ s) ∙ ap (λ (k : ℕ). d * k) (sym (pow-succ' 2 s)))
+    ∙ ap (λ (k : ℕ). d * 2 ^ suc s * k) (four h ∙ sym (pow-add 2 h h)) ∙ mul-assoc d (2 ^ suc s) (2 ^ (h + h)) ∙ ap (λ (k : ℕ). d * k) (sym (pow-add 2 (suc s) (h + h)) ∙ ap (λ (k : ℕ). 2 ^ k) p)
+
+-- ---- a whole root with and without a rest
+
+pub sticky-exact : (n q : ℕ) → q * q ≡ n → 2 * q ≡ sticky n
+sticky-exact n q e =
+    let u : q ≡ isqrt n = root-unique n q (record { at-most = le-of-eq e; below = omega arith }) in
+    let t : isqrt n * isqrt n ≡ n = ap (λ (z : ℕ). z * z) (sym u) ∙ e in
+    rw (eq-eqb (isqrt n * isqrt n) n t) (ap (λ (z : ℕ). 2 * z) u ∙ sym (add-zero (2 * isqrt n)))
+
+pub sticky-rest : (n q : ℕ) → Root n q → q * q ≢ n → 2 * q + 1 ≡ sticky n
+sticky-rest n q r e =
+    let u : q ≡ isqrt n = root-unique n q r in
+    rw (ne-eqb (isqrt n * isqrt n) n (λ (t : isqrt n * isqrt n ≡ n). e (ap (λ (z : ℕ). z * z) u ∙ t))) (ap (λ (z : ℕ). 2 * z + 1) u)
+
+-- ---- a root of twice the digits, by a division: s is the root of n, and the lower half is what is left over b times, divided by 2 s
+
+unfoldable pub lower : ℕ → ℕ → ℕ → ℕ
+lower n s b = (n - s * s) * b / (2 * s)
+
+unfoldable pub over : ℕ → ℕ → ℕ → ℕ
+over n s b = (n - s * s) * b % (2 * s) * b
+
+unfoldable pub whole-root : ℕ → ℕ → ℕ → ℕ
+unfolding lower
+whole-root n s b = s * b + lower n s b
+
+module _ (n s b : ℕ) (r : Root n s) (wide : b ≤ 2 * s) (B : 0 < b) where
+  pub lower-le : lower n s b ≤ b
+  unfolding lower
+  lower-le =
+      let l : n - s * s ≤ 2 * s = omega (arith, r .below) in
+      native.Mathlib.Nat.div-le-of-le-mul (2 * s) (mul-le-mul-right b l)
+
+  pub over-lt : over n s b < 2 * s * b
+  unfolding over
+  over-lt = mul-lt-mul-of-pos-right (mod-lt ((n - s * s) * b) (lt-of-lt-of-le B wide)) B
+
+  -- the square of the number found, and what it leaves over or lacks
+  balance : n * (b * b) + lower n s b * lower n s b ≡ whole-root n s b * whole-root n s b + over n s b
+  unfolding lower over whole-root
+  balance =
+      let d = n - s * s in
+      let p : d + s * s ≡ n = omega (arith, r .at-most) in
+      let e : d * b / (2 * s) * (2 * s) + d * b % (2 * s) ≡ d * b = div-add-mod' (d * b) (2 * s) in
+      put-together d (d * b / (2 * s)) (d * b % (2 * s)) p (ap (λ (z : ℕ). z * b) e)
+    where
+      put-together : (d l u : ℕ) → d + s * s ≡ n → (l * (2 * s) + u) * b ≡ d * b * b → n * (b * b) + l * l ≡ (s * b + l) * (s * b + l) + u * b
+      put-together d l u p e =
+          let a : n * (b * b) ≡ d * b * b + s * s * (b * b) = ap (λ (z : ℕ). z * (b * b)) (sym p) ∙ native.Mathlib.Nat.add-mul d (s * s) (b * b) ∙ ap (λ (z : ℕ). z + s * s * (b * b)) (sym (mul-assoc d b b)) in
+          omega arith
+
+  -- the three ways in which the rest compares with the lower half's square
+  pub wide-exact : over n s b ≡ lower n s b * lower n s b → 2 * whole-root n s b ≡ sticky (n * (b * b))
+  wide-exact e = sticky-exact (n * (b * b)) (whole-root n s b) (omega (arith, balance, e))
+
+  pub wide-above : lower n s b * lower n s b < over n s b → 2 * whole-root n s b + 1 ≡ sticky (n * (b * b))
+  unfolding whole-root
+  wide-above l =
+      sticky-rest (n * (b * b)) (s * b + lower n s b)
+      (record { at-most = omega (arith, balance, l); below = omega (arith, balance, l, over-lt) })
+      (λ (e : (s * b + lower n s b) * (s * b + lower n s b) ≡ n * (b * b)). omega (arith, balance, l))
+
+  pub wide-below : over n s b < lower n s b * lower n s b → 2 * whole-root n s b - 1 ≡ sticky (n * (b * b))
+  unfolding whole-root
+  wide-below l = go (lower n s b) refl
+    where
+      go : (k : ℕ) → k ≡ lower n s b → 2 * (s * b + lower n s b) - 1 ≡ sticky (n * (b * b))
+      go zero z = absurd (omega (arith, l, ap (λ (x : ℕ). x * x) z))
+      go (suc k) e =
+          let f : n * (b * b) + suc k * suc k ≡ (s * b + suc k) * (s * b + suc k) + over n s b = subst (λ (x : ℕ). n * (b * b) + x * x ≡ (s * b + x) * (s * b + x) + over n s b) (sym e) balance in
+          let g : over n s b < suc k * suc k = subst (λ (x : ℕ). over n s b < x * x) (sym e) l in
+          let h : suc k ≤ b = subst (λ (x : ℕ). x ≤ b) (sym e) lower-le in
+          let m : suc k * suc k ≤ 2 * s * b = le-trans (mul-le-mul h h) (mul-le-mul-right b wide) in
+          let d : 2 * (s * b + lower n s b) - 1 ≡ 2 * (s * b + k) + 1 = omega arith in
+          d ∙ sticky-rest (n * (b * b)) (s * b + k) (record { at-most = omega arith; below = omega arith }) (λ (t : (s * b + k) * (s * b + k) ≡ n * (b * b)). omega arith)

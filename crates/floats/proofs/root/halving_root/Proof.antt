@@ -1,62 +1,56 @@
+-- `floats::root::halving_root` meets its contract: the root lies from `low` up to `low + range`, and the range falls to 1. Assumes nothing.
+use Prim.Native.Nat.{ℕ, suc, _+_, _-_, _*_, _/_, _^_, _≤_, _<_}
+use mathlib.Core.Path.{_≡_, subst}
+use native.Mathlib.Nat.{mul-le-mul}
+use native.Mathlib.Omega.{arith}
+use Rattle.ieee.specs.SqrtLaws.{root-unique}
 use Rattle.floats.proofs.root.halving_root.Statement.{statement}
 use Rattle.floats.proofs.root.halving_root.Tie as tie
-use Rattle.floats.proofs.root.halving_root.Reads as reads
-use Rattle.floats.proofs.root.halving_root.Lts as lts
 
 abbrev Inv-loop : tie.InvT-loop
-Inv-loop n low₀ range₀ low range = ?
+Inv-loop n low₀ range₀ low range = (low * low ≤ n) × (n < (low + range) * (low + range)) × (1 ≤ range) × (low + range ≤ 2 ^ 27)
 
 abbrev μ-loop : tie.MeasureT-loop
-μ-loop n low₀ range₀ low range = ?
+μ-loop n low₀ range₀ low range = range
 
--- src/root.rt:53:5
+-- what is left of the range above the middle ends where it did
+same-end : (n low range : ℕ) → n < (low + range) * (low + range) → n < (low + range / 2 + (range - range / 2)) * (low + range / 2 + (range - range / 2))
+same-end n low range h =
+    let e : low + range ≡ low + range / 2 + (range - range / 2) = omega arith in
+    subst (λ (z : ℕ). n < z * z) e h
+
+square-fits : (k : ℕ) → k ≤ 2 ^ 27 → k * k < 2 ^ 64
+square-fits k h = omega (arith, mul-le-mul h h)
+
 loop-holds : tie.Need-loop-holds Inv-loop μ-loop
-loop-holds c = ?
+loop-holds c = omega arith
 
--- src/root.rt:55:22
 add-middle : tie.Need-add-middle Inv-loop μ-loop
-add-middle c = ?
+add-middle c = omega arith
 
--- src/root.rt:56:12
 mul-if1 : tie.Need-mul-if1 Inv-loop μ-loop
-mul-if1 c = ?
+mul-if1 c = record { fits = square-fits (c .before .loop .low + c .before .loop .range / 2) (omega arith) }
 
--- src/root.rt:58:21
 sub-range : tie.Need-sub-range Inv-loop μ-loop
-sub-range c = ?
+sub-range c = omega arith
 
--- src/root.rt:53:5
 loop-less : tie.Need-loop-less Inv-loop μ-loop
-loop-less c = ?
+loop-less c = omega arith
 
--- src/root.rt:53:5
 loop-again : tie.Need-loop-again Inv-loop μ-loop
-loop-again c = ?
+loop-again c = (c .if1 .taken, same-end (c .before .before .before .args .n) (c .before .before .loop .low) (c .before .before .loop .range) (c .before .before .loop .inv .1), omega arith, omega arith)
 
--- src/root.rt:53:5
 loop-less-2 : tie.Need-loop-less-2 Inv-loop μ-loop
-loop-less-2 c = ?
+loop-less-2 c = omega arith
 
--- src/root.rt:53:5
 loop-again-2 : tie.Need-loop-again-2 Inv-loop μ-loop
-loop-again-2 c = ?
+loop-again-2 c = (c .before .before .loop .inv .0, c .if1 .left, omega arith, omega arith)
 
--- src/root.rt:47:1
 returns : tie.Need-returns Inv-loop μ-loop
-returns c = ?
+returns c =
+    let at = c .before .loop in
+    let one : at .low + at .range ≡ suc (at .low) = omega arith in
+    root-unique (c .before .before .args .n) (at .low) (record { at-most = at .inv .0; below = subst (λ (z : ℕ). c .before .before .args .n < z * z) one (at .inv .1) })
 
 pub halving-root-spec : {M : Type 1} → statement M
-halving-root-spec =
-    tie.close
-    (tie.spec
-    Inv-loop
-    μ-loop
-    loop-holds
-    add-middle
-    mul-if1
-    sub-range
-    loop-less
-    loop-again
-    loop-less-2
-    loop-again-2
-    returns)
+halving-root-spec = tie.close (tie.spec Inv-loop μ-loop loop-holds add-middle mul-if1 sub-range loop-less loop-again loop-less-2 loop-again-2 returns)

@@ -1,57 +1,57 @@
+-- `floats::root::root` meets its contract: each number that it returns has been seen to be the root. Assumes nothing.
+use Prim.Native.Nat.{ℕ, zero, suc, _+_, _-_, _*_, _^_, _≤_, _<_}
+use mathlib.Core.Path.{_≡_, refl}
+use native.Mathlib.Nat.{mul-le-mul, le-of-lt}
+use native.Mathlib.Omega.{arith}
 use borrow.Author.Needs.{needs}
+use Rattle.ieee.specs.SqrtLaws.{root-unique}
 use Rattle.floats.proofs.root.root.Statement.{statement}
 use Rattle.floats.proofs.root.root.Tie as tie
-use Rattle.floats.proofs.root.root.Reads as reads
-use Rattle.floats.proofs.root.root.Lts as lts
-use Rattle.floats.proofs.root.guess.Reads as guess-reads
-use Rattle.floats.proofs.root.halving_root.Reads as halving-root-reads
 
--- src/root.rt:71:9
+square-fits : (k : ℕ) → k < 2 ^ 27 → k * k < 2 ^ 54
+square-fits k h =
+    let l : k ≤ 2 ^ 27 - 1 = omega arith in
+    omega (arith, mul-le-mul l l)
+
+-- a square above n is not 0's
+positive : (k n : ℕ) → n < k * k → 1 ≤ k
+positive zero n h = absurd (omega arith)
+positive (suc k) n h = omega arith
+
 guess-requires : tie.Need-guess-requires
 guess-requires c κs = search needs
 
--- src/root.rt:72:18
 mul-square : tie.Need-mul-square
-mul-square c = ?
+mul-square c = omega (arith, square-fits (c .guess .result) (c .guess .ensures))
 
--- src/root.rt:74:26
+returns : tie.Need-returns
+returns c =
+    let q = c .before .before .guess .result in
+    root-unique (c .before .before .before .args .n) q (record { at-most = c .before .if1 .taken; below = omega arith })
+
+sub-p : tie.Need-sub-p
+sub-p c = positive (c .before .guess .result) (c .before .before .args .n) (c .if1 .left)
+
+mul-if3 : tie.Need-mul-if3
+mul-if3 c = omega (arith, square-fits (c .before .guess .result - 1) (omega (arith, c .before .guess .ensures)))
+
+returns-2 : tie.Need-returns-2
+returns-2 c =
+    let q = c .before .before .guess .result in
+    let n = c .before .before .before .args .n in
+    let e : suc (q - 1) ≡ q = omega (arith, positive q n (c .before .if1 .left)) in
+    root-unique n (q - 1) (record { at-most = c .if3 .taken; below = rw e (c .before .if1 .left) })
+
 mul-if2 : tie.Need-mul-if2
 mul-if2 c = search needs
 
--- src/root.rt:75:13
-returns : tie.Need-returns
-returns c = ?
-
--- src/root.rt:78:17
-sub-p : tie.Need-sub-p
-sub-p c = ?
-
--- src/root.rt:79:12
-mul-if3 : tie.Need-mul-if3
-mul-if3 c = ?
-
--- src/root.rt:80:13
-returns-2 : tie.Need-returns-2
-returns-2 c = ?
-
--- src/root.rt:83:5
 halving-root-requires : tie.Need-halving-root-requires
 halving-root-requires c κs = search needs
 
--- src/root.rt:67:1
 returns-3 : tie.Need-returns-3
 returns-3 c = search needs
 
 pub root-spec : {M : Type 1} → statement M
 root-spec =
     tie.close
-    (tie.spec
-    guess-requires
-    mul-square
-    mul-if2
-    returns
-    sub-p
-    mul-if3
-    returns-2
-    halving-root-requires
-    returns-3)
+    (tie.spec guess-requires mul-square mul-if2 returns sub-p mul-if3 returns-2 halving-root-requires returns-3)

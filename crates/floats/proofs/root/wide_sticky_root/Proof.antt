@@ -1,0 +1,135 @@
+-- `floats::root::wide_sticky_root` meets its contract: the three branches are SqrtWords' three ways. Assumes nothing.
+use Prim.Native.Nat.{ℕ, _+_, _-_, _*_, _/_, _%_, _^_, _≤_, _<_}
+use mathlib.Core.Path.{_≡_, refl}
+use native.Mathlib.Nat.{mul-le-mul}
+use native.Mathlib.Omega.{arith}
+use borrow.Author.Needs.{needs}
+use lib.Dec.{lit<}
+use Rattle.ieee.specs.SqrtLaws.{Root, root-of, root-below, root-from}
+use Rattle.ieee.specs.SqrtWords.{lower, over, whole-root, lower-le, over-lt, wide-exact, wide-above, wide-below}
+use Rattle.floats.proofs.root.wide_sticky_root.Statement.{statement}
+use Rattle.floats.proofs.root.wide_sticky_root.Tie as tie
+
+-- what is known of the upper half, and of the numbers that are made with it
+record Halves (n s : ℕ) : Type 0 where
+  upper : Root n s
+  from : 2 ^ 26 ≤ s
+  to : s < 2 ^ 27
+  rest : n - s * s ≤ 2 * s
+  lower-to : (n - s * s) * 2 ^ 27 / (2 * s) ≤ 2 ^ 27
+  square-to : (n - s * s) * 2 ^ 27 / (2 * s) * ((n - s * s) * 2 ^ 27 / (2 * s)) ≤ 2 ^ 54
+  over-to : (n - s * s) * 2 ^ 27 % (2 * s) * 2 ^ 27 < 2 * s * 2 ^ 27
+
+halves : (c : tie.After-root) → Halves (c .before .args .n) (c .root .result)
+unfolding lower over
+halves c =
+    let n = c .before .args .n in
+    let s = c .root .result in
+    let r : Root n s = root-of n s (c .root .ensures) in
+    let f : 2 ^ 26 ≤ s = root-from n s (2 ^ 26) r (c .before .pre .0) in
+    let w : 2 ^ 27 ≤ 2 * s = omega arith in
+    let l : (n - s * s) * 2 ^ 27 / (2 * s) ≤ 2 ^ 27 = lower-le n s (2 ^ 27) r w (lit< tt) in
+    record {
+      upper = r;
+      from = f;
+      to = root-below n s (2 ^ 27) r (c .before .pre .1);
+      rest = omega (arith, r .below);
+      lower-to = l;
+      square-to = mul-le-mul l l;
+      over-to = over-lt n s (2 ^ 27) r w (lit< tt);
+    }
+
+wide : (c : tie.After-root) → 2 ^ 27 ≤ 2 * c .root .result
+wide c = omega (arith, halves c .from)
+
+root-requires : tie.Need-root-requires
+root-requires c κs = search needs
+
+mul-rest : tie.Need-mul-rest
+mul-rest c = omega (arith, halves c .upper .at-most)
+
+sub-rest : tie.Need-sub-rest
+sub-rest c = halves c .upper .at-most
+
+mul-rest-2 : tie.Need-mul-rest-2
+mul-rest-2 c = omega (arith, halves c .rest, halves c .to)
+
+mul-lower : tie.Need-mul-lower
+mul-lower c = omega (arith, halves c .to)
+
+div-lower : tie.Need-div-lower
+div-lower c = omega (arith, halves c .from)
+
+mul-over : tie.Need-mul-over
+mul-over c = omega (arith, halves c .to)
+
+rem-over : tie.Need-rem-over
+rem-over c = omega (arith, halves c .from)
+
+mul-over-2 : tie.Need-mul-over-2
+mul-over-2 c = omega (arith, halves c .over-to, halves c .to)
+
+mul-whole : tie.Need-mul-whole
+mul-whole c = omega (arith, halves c .to)
+
+add-whole : tie.Need-add-whole
+add-whole c = omega (arith, halves c .to, halves c .lower-to)
+
+mul-square : tie.Need-mul-square
+mul-square c = omega (arith, halves c .square-to)
+
+mul-result : tie.Need-mul-result
+mul-result c = omega (arith, halves (c .before) .to, halves (c .before) .lower-to)
+
+mul-result-2 : tie.Need-mul-result-2
+mul-result-2 c = omega (arith, halves (c .before .before) .to, halves (c .before .before) .lower-to)
+
+sub-result : tie.Need-sub-result
+sub-result c = omega (arith, halves (c .before .before) .from)
+
+mul-result-3 : tie.Need-mul-result-3
+mul-result-3 c = omega (arith, halves (c .before .before) .to, halves (c .before .before) .lower-to)
+
+add-result : tie.Need-add-result
+add-result c = omega (arith, halves (c .before .before) .to, halves (c .before .before) .lower-to)
+
+returns : tie.Need-returns
+unfolding lower over whole-root
+returns c = wide-exact (c .before .before .args .n) (c .before .root .result) (2 ^ 27) (halves (c .before) .upper) (wide (c .before)) (lit< tt) (c .if1 .taken)
+
+returns-2 : tie.Need-returns-2
+unfolding lower over whole-root
+returns-2 c = wide-below (c .before .before .before .args .n) (c .before .before .root .result) (2 ^ 27) (halves (c .before .before) .upper) (wide (c .before .before)) (lit< tt) (c .if2 .taken)
+
+returns-3 : tie.Need-returns-3
+unfolding lower over whole-root
+returns-3 c =
+    let n = c .before .before .before .args .n in
+    let s = c .before .before .root .result in
+    let more : lower n s (2 ^ 27) * lower n s (2 ^ 27) < over n s (2 ^ 27) = omega (arith, c .if2 .left, c .before .if1 .left) in
+    wide-above n s (2 ^ 27) (halves (c .before .before) .upper) (wide (c .before .before)) (lit< tt) more
+
+pub wide-sticky-root-spec : {M : Type 1} → statement M
+wide-sticky-root-spec =
+    tie.close
+    (tie.spec
+    root-requires
+    mul-rest
+    sub-rest
+    mul-rest-2
+    mul-lower
+    div-lower
+    mul-over
+    rem-over
+    mul-over-2
+    mul-whole
+    add-whole
+    mul-square
+    mul-result
+    mul-result-2
+    sub-result
+    mul-result-3
+    add-result
+    returns
+    returns-2
+    returns-3)
