@@ -2,23 +2,28 @@
 -- than the format keeps; a rest counts as half a unit more, and one rounding drops the digits. Over the format. Assumes nothing.
 use Prim.Native.Nat.{ℕ, zero, suc, _+_, _-_, _*_, _/_, _%_, _^_, _≤_, _<_, min, zero-le}
 use mathlib.Core.Path.{_≡_, refl, sym, _∙_, ap, subst}
-use mathlib.Core.Bool.{Bool, true, false, cond, true≢false}
+use mathlib.Core.Bool.{Bool, true, false, cond, not, true≢false}
 use mathlib.Core.Logic.{_⊎_, inl, inr, _≢_}
-use native.Mathlib.Nat.{mul-assoc, mul-comm, mul-one, one-mul, zero-mul, mul-pos, mul-right-comm, mul-left-comm, mul-mul-mul-comm, div-add-mod', mod-lt, lt-of-lt-of-le, lt-of-le-of-lt, le-trans, le-of-eq, le-refl, le-of-suc-le-suc, lt-of-not-le, not-le-of-lt, mul-le-mul, mul-le-mul-right, mul-lt-mul-of-pos-right, eq-of-mul-eq-mul-right, mul-div-cancel, mul-div-mul-right, div-div-eq-div-mul, le-div-iff-mul-le, div-lt-iff-lt-mul, div-eq-of-lt-le, pow-succ', pow-zero, eq-zero-or-pos, add-zero, min-eq-left, lt-irrefl, zero-add}
+use native.Mathlib.Nat.{mul-assoc, mul-comm, mul-one, one-mul, zero-mul, mul-pos, mul-right-comm, mul-left-comm, mul-mul-mul-comm, div-add-mod', mod-lt, lt-of-lt-of-le, lt-of-le-of-lt, le-trans, le-of-eq, le-refl, le-of-suc-le-suc, lt-of-not-le, not-le-of-lt, mul-le-mul, mul-le-mul-right, mul-lt-mul-of-pos-right, eq-of-mul-eq-mul-right, mul-div-cancel, mul-div-mul-right, div-div-eq-div-mul, le-div-iff-mul-le, div-lt-iff-lt-mul, div-eq-of-lt-le, pow-succ', pow-zero, eq-zero-or-pos, add-zero, min-eq-left, lt-irrefl, zero-add, zero-div, zero-mod, mod-self, mod-mod-of-dvd, dvd-mul-right, mod-eq-of-lt, le-suc}
+use native.Mathlib.Decide.{decLe}
 use native.Mathlib.Omega.{arith}
-use lib.Dec.{T, eqb, lit<, lit≤}
-use lib.IntN.{ℤ}
+use lib.Dec.{T, eqb, leb, lit<, lit≤}
+use lib.IntN.{ℤ, pos}
 use lib.Count.{leadingZeros, leading-top}
 use lib.Pow.{pow-pos, pow-add, pow-mono}
-use lib.Ieee.{Format, binary32, binary64, Float, nan, inf, fin, prec, emax, low, hid, ones, top, up, down, size, round, toBits, fits}
+use lib.Ieee.{Format, binary32, binary64, Float, nan, inf, fin, prec, emax, low, hid, ones, top, up, down, size, round, odd, ofBits, ofFields, toBits, isNan, fits}
+use lib.Ieee.Bits.{toBits-ofBits}
 use lib.Ieee.Exact.{HasValue}
 use lib.Ieee.Fits.{down-pos, up-pos, two, nan-fits, inf-fits, round-fits}
 use lib.Ieee.Nearest.{closest}
 use lib.Ieee.Order.{drop, kept}
-use borrow.Author.Tests.{eq-eqb, ne-eqb}
+use borrow.Author.Tests.{eq-eqb, ne-eqb, le-leb, lt-leb}
+use Rattle.ieee.specs.Nans.{nan-bits}
+use Rattle.ieee.specs.Whole.{negative}
+use Rattle.ieee.specs.WholeLaws.{signed-word}
 use Rattle.ieee.specs.Sqrt.{isqrt, rootOf, sqrt}
-use Rattle.ieee.specs.SqrtLaws.{Root, isqrt-law, root-unique}
-use Rattle.ieee.specs.Patterns.{size-is, two-hid, pow-lt-inv}
+use Rattle.ieee.specs.SqrtLaws.{Root, isqrt-law, root-unique, root-below}
+use Rattle.ieee.specs.Patterns.{size-is, two-hid, hid-pos, pow-lt-inv, pattern-at, toBits-value, magnitude, magnitude-small, magnitude-large, magnitude-pos, decode, field-of, inf-bits}
 use Rattle.ieee.specs.Rounding.{round-bits, closest-sticky, closest-scale, closest-le}
 
 -- twice the whole root, and one more where it leaves a rest
@@ -332,3 +337,80 @@ module _ (n s b : ℕ) (r : Root n s) (wide : b ≤ 2 * s) (B : 0 < b) where
           let m : suc k * suc k ≤ 2 * s * b = le-trans (mul-le-mul h h) (mul-le-mul-right b wide) in
           let d : 2 * (s * b + lower n s b) - 1 ≡ 2 * (s * b + k) + 1 = omega arith in
           d ∙ sticky-rest (n * (b * b)) (s * b + k) (record { at-most = omega arith; below = omega arith }) (λ (t : (s * b + k) * (s * b + k) ≡ n * (b * b)). omega arith)
+
+pub sticky-lt : (n a : ℕ) → n < a * a → sticky n < 2 * a
+sticky-lt n a h = go (isqrt n) (eqb (isqrt n * isqrt n) n) (root-below n (isqrt n) a (isqrt-law n) h)
+  where
+    go : (q : ℕ) (b : Bool) → q < a → 2 * q + cond b 0 1 < 2 * a
+    go q true l = omega arith
+    go q false l = omega arith
+
+-- ---- the cases of a bit pattern w
+
+module _ (f : Format) (w : ℕ) (W : w < 2 * top f) where
+  -- a zero is its own root
+  pub sqrt-zero : w % top f ≡ 0 → w ≡ toBits f (sqrt f (ofBits f w))
+  unfolding ofBits ofFields odd sqrt
+  sqrt-zero z =
+      let x : w % top f / hid f ≡ 0 = ap (λ (k : ℕ). k / hid f) z ∙ zero-div (hid f) in
+      let t : w % hid f ≡ 0 = sym (mod-mod-of-dvd (hid f) w (dvd-mul-right (hid f) (suc (ones f)))) ∙ ap (λ (k : ℕ). k % hid f) z ∙ zero-mod (hid f) in
+      let v : ofBits f w ≡ fin (leb (top f) w) 0 (pos 0) = ap (λ (k : ℕ). ofFields f (leb (top f) w) k (w % hid f)) x ∙ ap (ofFields f (leb (top f) w) 0) t in
+      sym (ap (λ (y : Float). toBits f (sqrt f y)) v ∙ ap (toBits f) (sym v) ∙ toBits-ofBits f w W (subst (λ (y : Float). T (not (isNan y))) (sym v) (unfold isNan in tt)))
+
+  pub sqrt-infinite : w ≡ ones f * hid f → w ≡ toBits f (sqrt f (ofBits f w))
+  unfolding sqrt toBits
+  sqrt-infinite e =
+      let below : w < top f = subst (λ (k : ℕ). k < top f) (sym e) (subst (λ (k : ℕ). ones f * hid f < k) (mul-comm (suc (ones f)) (hid f)) (mul-lt-mul-of-pos-right (le-refl (suc (ones f))) (hid-pos f))) in
+      let v : ofBits f w ≡ inf false = inf-bits f w (mod-eq-of-lt below ∙ e) ∙ ap inf (lt-leb (top f) w below) in
+      e ∙ sym (ap (λ (y : Float). toBits f (sqrt f y)) v ∙ zero-add (ones f * hid f))
+
+  -- below zero, or a NaN
+  pub sqrt-none : w % top f ≢ 0 → ones f * hid f < w → sqrt f (ofBits f w) ≡ nan
+  sqrt-none n h = go (ofBits f w) refl (decLe (top f) w)
+    where
+      none : (y : Float) → (y ≡ nan) ⊎ (negative y ≡ true) → ((s : Bool) (e : ℤ) → y ≡ fin s 0 e → ⊥) → sqrt f y ≡ nan
+      none y (inl e) z = ap (sqrt f) e ∙ (unfold sqrt in refl)
+      none nan (inr e) z = unfold sqrt in refl
+      none (inf true) (inr e) z = unfold sqrt in refl
+      none (inf false) (inr e) z = absurd (true≢false (sym e))
+      none (fin s zero x) (inr e) z = absurd (z s x refl)
+      none (fin true (suc m) x) (inr e) z = unfold sqrt in refl
+      none (fin false (suc m) x) (inr e) z = absurd (true≢false (sym e))
+      zero-bits : (s : Bool) (e : ℤ) → toBits f (fin s 0 e) ≡ cond s (top f) 0
+      zero-bits s e =
+          toBits-value f (fin s 0 e) s 0 (refl, ap (λ (k : ℕ). k * 2 ^ low f) (zero-mul (up e)) ∙ zero-mul (2 ^ low f) ∙ sym (zero-mul (down e)))
+          ∙ ap (λ (k : ℕ). cond s (top f) 0 + k) (pattern-at f 0 0 (zero-le, inl refl) ∙ ap (λ (k : ℕ). k + 0) (zero-mul (hid f)))
+          ∙ add-zero (cond s (top f) 0)
+      remains : (s : Bool) → cond s (top f) 0 % top f ≡ 0
+      remains true = mod-self (top f)
+      remains false = zero-mod (top f)
+      no-zero : (s : Bool) (e : ℤ) → ofBits f w ≡ fin s 0 e → ⊥
+      no-zero s e v = n (ap (λ (k : ℕ). k % top f) (sym (toBits-ofBits f w W (subst (λ (y : Float). T (not (isNan y))) (sym v) (unfold isNan in tt))) ∙ ap (toBits f) v ∙ zero-bits s e) ∙ remains s)
+      go : (y : Float) → ofBits f w ≡ y → Dec (top f ≤ w) → sqrt f (ofBits f w) ≡ nan
+      go y e (yes l) = none (ofBits f w) (flip (signed-word f w)) no-zero
+        where
+          flip : (ofBits f w ≡ nan) ⊎ (negative (ofBits f w) ≡ leb (top f) w) → (ofBits f w ≡ nan) ⊎ (negative (ofBits f w) ≡ true)
+          flip (inl p) = inl p
+          flip (inr p) = inr (p ∙ le-leb (top f) w l)
+      go y e (no g) = ap (sqrt f) (nan-bits f w (subst (λ (k : ℕ). ones f * hid f < k) (sym (mod-eq-of-lt (lt-of-not-le g))) h)) ∙ (unfold sqrt in refl)
+
+  module _ (P : 0 < w) (F : w < ones f * hid f) where
+    finite-root : sqrt f (ofBits f w) ≡ rootOf f (suc (low f)) (magnitude f w * 2 ^ (low f + 2))
+    finite-root =
+        let below : w < top f = lt-of-lt-of-le F (subst (λ (k : ℕ). ones f * hid f ≤ k) (mul-comm (suc (ones f)) (hid f)) (mul-le-mul-right (hid f) (le-suc (ones f)))) in
+        let plain : w % top f ≡ w = mod-eq-of-lt below in
+        let v : HasValue (ofBits f w) false (magnitude f w) (2 ^ low f) =
+            subst (λ (b : Bool). HasValue (ofBits f w) b (magnitude f w) (2 ^ low f)) (lt-leb (top f) w below)
+            (subst (λ (a : ℕ). HasValue (ofBits f w) (leb (top f) w) (magnitude f a) (2 ^ low f)) plain (decode f w (field-of f (w % top f) (subst (λ (a : ℕ). a < ones f * hid f) (sym plain) F)))) in
+        sqrt-units f (ofBits f w) (magnitude f w) v (magnitude-pos f w P)
+
+    pub sqrt-subnormal : w < hid f → toBits f (rootOf f (suc (low f)) (w * 2 ^ (low f + 2))) ≡ toBits f (sqrt f (ofBits f w))
+    sqrt-subnormal h = sym (ap (toBits f) (finite-root ∙ ap (λ (u : ℕ). rootOf f (suc (low f)) (u * 2 ^ (low f + 2))) (magnitude-small f w h)))
+
+    pub sqrt-normal : hid f ≤ w → toBits f (rootOf f (suc (low f)) ((hid f + w % hid f) * 2 ^ (w / hid f + (low f + 1)))) ≡ toBits f (sqrt f (ofBits f w))
+    sqrt-normal h =
+        let x : 1 ≤ w / hid f = le-div-iff-mul-le (hid-pos f) .1 (subst (λ (k : ℕ). k ≤ w) (sym (one-mul (hid f))) h) in
+        let e : w / hid f - 1 + (low f + 2) ≡ w / hid f + (low f + 1) = omega arith in
+        let u : magnitude f w * 2 ^ (low f + 2) ≡ (hid f + w % hid f) * 2 ^ (w / hid f + (low f + 1)) =
+            ap (λ (k : ℕ). k * 2 ^ (low f + 2)) (magnitude-large f w h) ∙ mul-assoc (hid f + w % hid f) (2 ^ (w / hid f - 1)) (2 ^ (low f + 2)) ∙ ap (λ (k : ℕ). (hid f + w % hid f) * k) (sym (pow-add 2 (w / hid f - 1) (low f + 2)) ∙ ap (λ (k : ℕ). 2 ^ k) e) in
+        sym (ap (toBits f) (finite-root ∙ ap (rootOf f (suc (low f))) u))

@@ -1,43 +1,55 @@
+-- `floats::sqrt::digits_root` meets its contract: SqrtWords' pattern of a root, with two digits to spare. Assumes nothing.
+use Prim.Native.Nat.{ℕ, _+_, _*_, _^_, _≤_, _<_}
+use mathlib.Core.Path.{_≡_, ap, _∙_}
+use native.Mathlib.Omega.{arith}
 use borrow.Author.Needs.{needs}
+use lib.Dec.{lit≤}
+use lib.Ieee.{binary32, toBits}
+use lib.Ieee.Nearest.{closest}
+use Rattle.ieee.specs.Sqrt.{rootOf}
+use Rattle.ieee.specs.SqrtWords.{sticky, sticky-lt, root-kept, root-pattern}
 use Rattle.floats.proofs.sqrt.digits_root.Statement.{statement}
 use Rattle.floats.proofs.sqrt.digits_root.Tie as tie
-use Rattle.floats.proofs.sqrt.digits_root.Reads as reads
-use Rattle.floats.proofs.sqrt.digits_root.Lts as lts
-use Rattle.floats.proofs.root.sticky_root.Reads as sticky-root-reads
-use Rattle.floats.proofs.shift.shifted_to_even.Reads as shifted-to-even-reads
-use Rattle.floats.proofs.sqrt.normalised.Reads as normalised-reads
 
--- src/sqrt.rt:110:9
+-- what is kept of the root's digits
+kept : (c : tie.After-shifted-to-even) → c .shifted-to-even .result ≡ closest (sticky (c .before .before .normalised .result .digits)) (2 ^ 4)
+kept c = c .shifted-to-even .ensures ∙ ap (λ (z : ℕ). closest z (2 ^ 4)) (c .before .sticky-root .ensures)
+
+kept-le : (c : tie.After-shifted-to-even) → c .shifted-to-even .result ≤ 2 ^ 24
+kept-le c =
+    let s = c .before .before .normalised in
+    rw (kept c) (root-kept binary32 2 (s .result .half) (s .result .digits) (s .ensures .1 .0) (s .ensures .1 .1 .0))
+
 normalised-requires : tie.Need-normalised-requires
 normalised-requires c κs = search needs
 
--- src/sqrt.rt:112:32
 sticky-root-requires : tie.Need-sticky-root-requires
 sticky-root-requires c κs = search needs
 
--- src/sqrt.rt:112:9
 shifted-to-even-requires : tie.Need-shifted-to-even-requires
-shifted-to-even-requires c κs = ?
+shifted-to-even-requires c κs =
+    let s = c .before .normalised in
+    let l : sticky (s .result .digits) < 2 ^ 28 = sticky-lt (s .result .digits) (2 ^ 27) (s .ensures .1 .1 .0) in
+    (omega (arith, c .sticky-root .ensures), (lit≤ tt, lit≤ tt))
 
--- src/sqrt.rt:113:7
 add-result : tie.Need-add-result
 add-result c = search needs
 
--- src/sqrt.rt:113:6
 mul-result : tie.Need-mul-result
 mul-result c = search needs
 
--- src/sqrt.rt:113:6
 add-result-2 : tie.Need-add-result-2
-add-result-2 c = ?
+add-result-2 c = omega (arith, kept-le c)
 
--- src/sqrt.rt:113:5
 cast-result : tie.Need-cast-result
-cast-result c = ?
+cast-result c = omega (arith, kept-le c)
 
--- src/sqrt.rt:103:1
 returns : tie.Need-returns
-returns c = ?
+returns c =
+    let s = c .before .before .normalised in
+    ap (λ (z : ℕ). (2 + s .result .half) * 2 ^ 23 + z) (kept c)
+    ∙ root-pattern binary32 2 (s .result .half) (s .result .digits) (s .ensures .1 .0) (s .ensures .1 .1 .0) (omega arith)
+    ∙ ap (λ (z : ℕ). toBits binary32 (rootOf binary32 150 z)) (s .ensures .0)
 
 pub digits-root-spec : {M : Type 1} → statement M
 digits-root-spec =

@@ -1,48 +1,68 @@
+-- `floats::sqrt::digits_root64` meets its contract: SqrtWords' pattern of a root, of 54 digits more and with none to spare. Assumes nothing.
+use Prim.Native.Nat.{ℕ, _+_, _-_, _*_, _^_, _≤_, _<_}
+use mathlib.Core.Path.{_≡_, ap, _∙_, sym}
+use native.Mathlib.Nat.{mul-le-mul-right, mul-lt-mul-of-pos-right, mul-assoc, zero-add}
+use native.Mathlib.Omega.{arith}
 use borrow.Author.Needs.{needs}
+use lib.Dec.{lit≤, lit<}
+use lib.Pow.{pow-add}
+use lib.Ieee.{binary64, toBits}
+use lib.Ieee.Nearest.{closest}
+use Rattle.ieee.specs.Sqrt.{rootOf}
+use Rattle.ieee.specs.SqrtWords.{sticky, sticky-lt, root-kept, root-pattern}
 use Rattle.floats.proofs.sqrt.digits_root64.Statement.{statement}
 use Rattle.floats.proofs.sqrt.digits_root64.Tie as tie
-use Rattle.floats.proofs.sqrt.digits_root64.Reads as reads
-use Rattle.floats.proofs.sqrt.digits_root64.Lts as lts
-use Rattle.floats.proofs.root.wide_sticky_root.Reads as wide-sticky-root-reads
-use Rattle.floats.proofs.shift.shifted_to_even.Reads as shifted-to-even-reads
-use Rattle.floats.proofs.sqrt.normalised.Reads as normalised-reads
 
--- src/sqrt.rt:124:9
+-- the digits with 54 zeros behind them
+from : (n : ℕ) → 2 ^ 52 ≤ n → 2 ^ 106 ≤ n * 2 ^ 54
+from n h = mul-le-mul-right (2 ^ 54) h
+
+to : (n : ℕ) → n < 2 ^ 54 → n * 2 ^ 54 < 2 ^ 108
+to n h = mul-lt-mul-of-pos-right h (lit< tt)
+
+-- what is kept of the root's digits
+kept : (c : tie.After-shifted-to-even) → c .shifted-to-even .result ≡ closest (sticky (c .before .before .normalised .result .digits * 2 ^ 54)) (2 ^ 2)
+kept c = c .shifted-to-even .ensures ∙ ap (λ (z : ℕ). closest z (2 ^ 2)) (c .before .wide-sticky-root .ensures)
+
+kept-le : (c : tie.After-shifted-to-even) → c .shifted-to-even .result ≤ 2 ^ 53
+kept-le c =
+    let s = c .before .before .normalised in
+    rw (kept c) (root-kept binary64 0 (s .result .half - 27) (s .result .digits * 2 ^ 54) (from (s .result .digits) (s .ensures .1 .0)) (to (s .result .digits) (s .ensures .1 .1 .0)))
+
 normalised-requires : tie.Need-normalised-requires
 normalised-requires c κs = search needs
 
--- src/sqrt.rt:126:32
 wide-sticky-root-requires : tie.Need-wide-sticky-root-requires
 wide-sticky-root-requires c κs = search needs
 
--- src/sqrt.rt:126:9
 shifted-to-even-requires : tie.Need-shifted-to-even-requires
-shifted-to-even-requires c κs = ?
+shifted-to-even-requires c κs =
+    let s = c .before .normalised in
+    let l : sticky (s .result .digits * 2 ^ 54) < 2 ^ 55 = sticky-lt (s .result .digits * 2 ^ 54) (2 ^ 54) (to (s .result .digits) (s .ensures .1 .1 .0)) in
+    (omega (arith, c .wide-sticky-root .ensures), (lit≤ tt, lit≤ tt))
 
--- src/sqrt.rt:127:6
 sub-result : tie.Need-sub-result
 sub-result c = search needs
 
--- src/sqrt.rt:127:5
 mul-result : tie.Need-mul-result
 mul-result c = search needs
 
--- src/sqrt.rt:127:5
 add-result : tie.Need-add-result
-add-result c = ?
+add-result c = omega (arith, kept-le c)
 
--- src/sqrt.rt:117:1
 returns : tie.Need-returns
-returns c = ?
+returns c =
+    let s = c .before .before .normalised in
+    let t = s .result .half - 27 in
+    let n = s .result .digits in
+    let h : 27 + t ≡ s .result .half = omega arith in
+    let e : n * 2 ^ 54 * 4 ^ t ≡ c .before .before .before .args .d * 2 ^ c .before .before .before .args .e = mul-assoc n (2 ^ 54) (4 ^ t) ∙ ap (λ (z : ℕ). n * z) (sym (pow-add 4 27 t) ∙ ap (λ (z : ℕ). 4 ^ z) h) ∙ s .ensures .0 in
+    ap (λ (z : ℕ). t * 2 ^ 52 + z) (kept c)
+    ∙ ap (λ (z : ℕ). z * 2 ^ 52 + closest (sticky (n * 2 ^ 54)) (2 ^ 2)) (sym (zero-add t))
+    ∙ root-pattern binary64 0 t (n * 2 ^ 54) (from n (s .ensures .1 .0)) (to n (s .ensures .1 .1 .0)) (omega arith)
+    ∙ ap (λ (z : ℕ). toBits binary64 (rootOf binary64 1075 z)) e
 
 pub digits-root64-spec : {M : Type 1} → statement M
 digits-root64-spec =
     tie.close
-    (tie.spec
-    normalised-requires
-    wide-sticky-root-requires
-    shifted-to-even-requires
-    sub-result
-    mul-result
-    add-result
-    returns)
+    (tie.spec normalised-requires wide-sticky-root-requires shifted-to-even-requires sub-result mul-result add-result returns)

@@ -1,28 +1,30 @@
+-- `floats::sqrt::sqrt` meets its contract: the word that is read back is that of the root. Assumes nothing.
+use Prim.Native.Nat.{ℕ}
+use mathlib.Core.Path.{_≡_, _∙_, ap, sym, subst}
 use borrow.Author.Needs.{needs}
+use lib.Dec.{T}
+use lib.Ieee.{binary32, ofBits, toBits}
+use Rattle.ieee.specs.Patterns.{by-words}
+use Rattle.ieee.specs.Sqrt.{sqrt}
+use Rattle.ieee.specs.SqrtWords.{sqrt-fits}
 use Rattle.floats.proofs.sqrt.sqrt.Statement.{statement}
 use Rattle.floats.proofs.sqrt.sqrt.Tie as tie
-use Rattle.floats.proofs.sqrt.sqrt.Reads as reads
-use Rattle.floats.proofs.sqrt.sqrt.Lts as lts
-use Rattle.floats.proofs.sqrt.sqrt_word.Reads as sqrt-word-reads
-use Rattle.words.proofs.floats.f32_of_word.Reads as f32-of-word-reads
-use Rattle.words.proofs.floats.word_of_f32.Reads as word-of-f32-reads
 
--- src/sqrt.rt:19:27
 word-of-f32-requires : tie.Need-word-of-f32-requires
 word-of-f32-requires c κs = search needs
 
--- src/sqrt.rt:19:17
 sqrt-word-requires : tie.Need-sqrt-word-requires
 sqrt-word-requires c κs = search needs
 
--- src/sqrt.rt:19:5
 f32-of-word-requires : tie.Need-f32-of-word-requires
 f32-of-word-requires c κs = search needs
 
--- src/sqrt.rt:16:1
 returns : tie.Need-returns
-returns c = ?
+returns c =
+    let start = c .before .before .before in
+    c .f32-of-word .ensures
+    ∙ ap (ofBits binary32) (c .before .sqrt-word .ensures ∙ ap (λ (w : ℕ). toBits binary32 (sqrt binary32 (ofBits binary32 w))) (c .before .before .word-of-f32 .ensures))
+    ∙ by-words binary32 binary32 (sqrt binary32) (start .args .x) (start .good .0 .1) (sqrt-fits binary32 (start .args .x) (subst T (sym (start .good .0 .1)) tt))
 
 pub sqrt-spec : {M : Type 1} → statement M
-sqrt-spec =
-    tie.close (tie.spec word-of-f32-requires sqrt-word-requires f32-of-word-requires returns)
+sqrt-spec = tie.close (tie.spec word-of-f32-requires sqrt-word-requires f32-of-word-requires returns)

@@ -1,56 +1,50 @@
+-- `floats::sqrt::sqrt64_word` meets its contract: each branch is a case of SqrtWords. Assumes nothing.
+use Prim.Native.Nat.{ℕ, _%_, _^_, _<_}
+use mathlib.Core.Path.{_≡_, _∙_, ap, sym}
+use native.Mathlib.Omega.{arith}
 use borrow.Author.Needs.{needs}
+use lib.Ieee.{binary64, toBits}
+use Rattle.ieee.specs.SqrtWords.{sqrt-zero, sqrt-none, sqrt-infinite, sqrt-subnormal, sqrt-normal}
 use Rattle.floats.proofs.sqrt.sqrt64_word.Statement.{statement}
 use Rattle.floats.proofs.sqrt.sqrt64_word.Tie as tie
-use Rattle.floats.proofs.sqrt.sqrt64_word.Reads as reads
-use Rattle.floats.proofs.sqrt.sqrt64_word.Lts as lts
-use Rattle.floats.proofs.sqrt.digits_root64.Reads as digits-root64-reads
 
--- src/sqrt.rt:55:9
+-- past the zeros
+above-zero : (w : ℕ) → (w % 2 ^ 63 ≡ 0 → ⊥) → 0 < w
+above-zero w h = omega arith
+
 returns : tie.Need-returns
-returns c = ?
+returns c = sqrt-zero binary64 (c .before .args .w) (omega arith) (c .if1 .taken)
 
--- src/sqrt.rt:58:9
 returns-2 : tie.Need-returns-2
-returns-2 c = ?
+unfolding toBits
+returns-2 c = ap (toBits binary64) (sym (sqrt-none binary64 (c .before .before .args .w) (omega arith) (c .before .if1 .left) (c .if2 .taken)))
 
--- src/sqrt.rt:61:9
 returns-3 : tie.Need-returns-3
-returns-3 c = ?
+returns-3 c = sqrt-infinite binary64 (c .before .before .before .args .w) (omega arith) (c .if3 .taken)
 
--- src/sqrt.rt:64:9
 digits-root64-requires : tie.Need-digits-root64-requires
 digits-root64-requires c κs = search needs
 
--- src/sqrt.rt:64:9
 returns-4 : tie.Need-returns-4
-returns-4 c = ?
+returns-4 c =
+    let w = c .before .before .before .before .before .args .w in
+    c .digits-root64 .ensures ∙ sqrt-subnormal binary64 w (omega arith) (above-zero w (c .before .before .before .before .if1 .left)) (omega arith) (c .before .if4 .taken)
 
--- src/sqrt.rt:66:19
 add-digits-root64 : tie.Need-add-digits-root64
 add-digits-root64 c = search needs
 
--- src/sqrt.rt:66:66
 add-digits-root64-2 : tie.Need-add-digits-root64-2
 add-digits-root64-2 c = search needs
 
--- src/sqrt.rt:66:5
 digits-root64-requires-2 : tie.Need-digits-root64-requires-2
 digits-root64-requires-2 c κs = search needs
 
--- src/sqrt.rt:51:1
 returns-5 : tie.Need-returns-5
-returns-5 c = ?
+returns-5 c =
+    let w = c .before .before .before .before .before .args .w in
+    c .digits-root642 .ensures ∙ sqrt-normal binary64 w (omega arith) (above-zero w (c .before .before .before .before .if1 .left)) (omega arith) (c .before .if4 .left)
 
 pub sqrt64-word-spec : {M : Type 1} → statement M
 sqrt64-word-spec =
     tie.close
-    (tie.spec
-    returns
-    returns-2
-    returns-3
-    digits-root64-requires
-    returns-4
-    add-digits-root64
-    add-digits-root64-2
-    digits-root64-requires-2
-    returns-5)
+    (tie.spec returns returns-2 returns-3 digits-root64-requires returns-4 add-digits-root64 add-digits-root64-2 digits-root64-requires-2 returns-5)

@@ -1,66 +1,56 @@
+-- `floats::sqrt::sqrt_word` meets its contract: each branch is a case of SqrtWords. Assumes nothing.
+use Prim.Native.Nat.{ℕ, _%_, _^_, _<_}
+use mathlib.Core.Path.{_≡_, _∙_, ap, sym}
+use native.Mathlib.Omega.{arith}
 use borrow.Author.Needs.{needs}
+use lib.Ieee.{binary32, toBits}
+use Rattle.ieee.specs.SqrtWords.{sqrt-zero, sqrt-none, sqrt-infinite, sqrt-subnormal, sqrt-normal}
 use Rattle.floats.proofs.sqrt.sqrt_word.Statement.{statement}
 use Rattle.floats.proofs.sqrt.sqrt_word.Tie as tie
-use Rattle.floats.proofs.sqrt.sqrt_word.Reads as reads
-use Rattle.floats.proofs.sqrt.sqrt_word.Lts as lts
-use Rattle.floats.proofs.sqrt.digits_root.Reads as digits-root-reads
 
--- src/sqrt.rt:35:9
+-- past the zeros
+above-zero : (w : ℕ) → (w % 2 ^ 31 ≡ 0 → ⊥) → 0 < w
+above-zero w h = omega arith
+
 returns : tie.Need-returns
-returns c = ?
+returns c = sqrt-zero binary32 (c .before .args .w) (omega arith) (c .if1 .taken)
 
--- src/sqrt.rt:39:9
 returns-2 : tie.Need-returns-2
-returns-2 c = ?
+unfolding toBits
+returns-2 c = ap (toBits binary32) (sym (sqrt-none binary32 (c .before .before .args .w) (omega arith) (c .before .if1 .left) (c .if2 .taken)))
 
--- src/sqrt.rt:42:9
 returns-3 : tie.Need-returns-3
-returns-3 c = ?
+returns-3 c = sqrt-infinite binary32 (c .before .before .before .args .w) (omega arith) (c .if3 .taken)
 
--- src/sqrt.rt:46:9
 digits-root-requires : tie.Need-digits-root-requires
 digits-root-requires c κs = search needs
 
--- src/sqrt.rt:46:9
 returns-4 : tie.Need-returns-4
-returns-4 c = ?
+returns-4 c =
+    let w = c .before .before .before .before .before .args .w in
+    c .digits-root .ensures ∙ sqrt-subnormal binary32 w (omega arith) (above-zero w (c .before .before .before .before .if1 .left)) (omega arith) (c .before .if4 .taken)
 
--- src/sqrt.rt:48:18
 add-digits-root : tie.Need-add-digits-root
 add-digits-root c = search needs
 
--- src/sqrt.rt:48:17
 cast-digits-root : tie.Need-cast-digits-root
 cast-digits-root c = search needs
 
--- src/sqrt.rt:48:54
 add-digits-root-2 : tie.Need-add-digits-root-2
 add-digits-root-2 c = search needs
 
--- src/sqrt.rt:48:53
 cast-digits-root-2 : tie.Need-cast-digits-root-2
 cast-digits-root-2 c = search needs
 
--- src/sqrt.rt:48:5
 digits-root-requires-2 : tie.Need-digits-root-requires-2
 digits-root-requires-2 c κs = search needs
 
--- src/sqrt.rt:30:1
 returns-5 : tie.Need-returns-5
-returns-5 c = ?
+returns-5 c =
+    let w = c .before .before .before .before .before .args .w in
+    c .digits-root2 .ensures ∙ sqrt-normal binary32 w (omega arith) (above-zero w (c .before .before .before .before .if1 .left)) (omega arith) (c .before .if4 .left)
 
 pub sqrt-word-spec : {M : Type 1} → statement M
 sqrt-word-spec =
     tie.close
-    (tie.spec
-    returns
-    returns-2
-    returns-3
-    digits-root-requires
-    returns-4
-    add-digits-root
-    cast-digits-root
-    add-digits-root-2
-    cast-digits-root-2
-    digits-root-requires-2
-    returns-5)
+    (tie.spec returns returns-2 returns-3 digits-root-requires returns-4 add-digits-root cast-digits-root add-digits-root-2 cast-digits-root-2 digits-root-requires-2 returns-5)
