@@ -11,3 +11,4 @@ pub mod Nans
 pub mod Patterns
 pub mod NarrowLaws
 pub mod Rounding
+pub mod NearestLaws
