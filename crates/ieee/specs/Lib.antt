@@ -12,3 +12,4 @@ pub mod Patterns
 pub mod NarrowLaws
 pub mod Rounding
 pub mod NearestLaws
+pub mod SqrtNearest
