@@ -13,3 +13,4 @@ pub mod NarrowLaws
 pub mod Rounding
 pub mod NearestLaws
 pub mod SqrtNearest
+pub mod WholeNumbers

@@ -18,7 +18,7 @@ use lib.Ieee.Exact.{HasValue}
 use lib.Ieee.Fits.{two, up-pos, down-pos, and-l, and-r, nearest-le}
 use lib.Ieee.Nearest.{nearest-ge}
 use lib.Ieee.Order.{drop, kept}
-use lib.Ieee.Scale.{grid}
+use lib.Ieee.Scale.{grid, overflow}
 use Rattle.ieee.specs.Patterns.{two-hid, pow-le-inv, pow-lt-inv}
 use Rattle.ieee.specs.Rounding.{Cmp, cmp, round-bits}
 
@@ -48,6 +48,15 @@ held f s (suc m) e t = record { digits = ltb→lt (suc m) (2 ^ prec f) (and-r a 
     d = ltb (suc m * up e) (2 ^ suc (emax f) * down e)
     l : T (a && b && c)
     l = and-l (a && b && c) d t
+
+-- in units it is below the format's limit
+pub overflow-units : (f : Format) → overflow f ≡ 2 ^ suc (emax f) * 2 ^ low f
+overflow-units f = pow-add 2 (low f) (suc (emax f)) ∙ mul-comm (2 ^ low f) (2 ^ suc (emax f))
+
+pub held-units : (f : Format) (m : ℕ) (e : ℤ) (u : ℕ) → Held f m e → m * up e * 2 ^ low f ≡ u * down e → u < overflow f
+held-units f m e u H v =
+    let a : m * up e * 2 ^ low f < 2 ^ suc (emax f) * down e * 2 ^ low f = mul-lt-mul-of-pos-right (H .limit) (pow-pos (low f)) in
+    subst (λ (z : ℕ). u < z) (sym (overflow-units f)) (lt-of-mul-lt-mul-right (down e) (omega arith))
 
 -- in units a value of the format is a number of at most prec digits times a power of two
 shape : (f : Format) (y : Float) (s : Bool) (h : ℕ) → T (fits f y) → HasValue y s h (2 ^ low f) → (m : ℕ) × (i : ℕ) × (m < 2 ^ prec f) × (h ≡ m * 2 ^ i)

@@ -4,12 +4,12 @@ use Prim.Native.Nat.{ℕ, zero, suc, _+_, _*_, _/_, _%_, _^_, _≤_, _<_}
 use mathlib.Core.Path.{_≡_, refl, sym, _∙_, ap, subst}
 use mathlib.Core.Bool.{Bool, true, false, cond, true≢false}
 use mathlib.Core.Logic.{_≢_}
-use native.Mathlib.Nat.{le-trans, le-of-eq, pos-of-ne-zero, one-mul, le-of-lt, lt-of-lt-of-le, lt-of-le-of-lt, lt-of-not-le, mul-one, zero-mul, mul-comm, mul-pos, mul-le-mul, mul-le-mul-right, mul-lt-mul-of-pos-right, lt-of-mul-lt-mul-right, le-of-mul-le-mul-right, eq-of-mul-eq-mul-right, pow-succ', mul-div-cancel}
+use native.Mathlib.Nat.{le-trans, le-of-eq, pos-of-ne-zero, one-mul, le-of-lt, lt-of-lt-of-le, lt-of-le-of-lt, lt-of-not-le, mul-one, zero-mul, mul-pos, mul-le-mul, mul-le-mul-right, mul-lt-mul-of-pos-right, le-of-mul-le-mul-right, eq-of-mul-eq-mul-right, pow-succ', mul-div-cancel}
 use native.Mathlib.Decide.{decLe}
 use native.Mathlib.Omega.{arith}
 use lib.IntN.{ℤ, pos}
 use lib.Dec.{T, eqb, lit≤}
-use lib.Pow.{pow-pos, pow-add}
+use lib.Pow.{pow-pos}
 use lib.Ieee.{Format, binary32, binary64, Float, nan, inf, fin, emax, low, up, down, round, toBits, fits}
 use lib.Ieee.Exact.{HasValue}
 use lib.Ieee.Fits.{down-pos, round-fits}
@@ -17,7 +17,7 @@ use lib.Ieee.Scale.{grid, overflow, round-val}
 use borrow.Author.Tests.{eq-eqb, eqb-true}
 use Rattle.ieee.specs.Sqrt.{isqrt, rootOf, sqrt}
 use Rattle.ieee.specs.SqrtLaws.{Root, isqrt-law, root-unique}
-use Rattle.ieee.specs.NearestLaws.{held, nearest-above, nearest-below, nearest-even}
+use Rattle.ieee.specs.NearestLaws.{held, overflow-units, held-units, nearest-above, nearest-below, nearest-even}
 
 -- r is a value of the format, and none is nearer to the root of u units, which is the root of u * 2 ^ low in units: r is `units` units, and against a value
 -- of h units the middle of the two, (units + h) / 2, is compared with the root by squares. The root is not beyond it on h's side, and where it is at it, r's bit pattern is even.
@@ -96,15 +96,7 @@ module _ (f : Format) (a t : ℕ) where
   fraction-level : a ≡ 2 * t → t * den f ≡ 2 * (a * 2 ^ low f)
   fraction-level e = scale f t ∙ ap (λ (z : ℕ). 2 * (z * 2 ^ low f)) (sym e)
 
--- ---- the limit of the format, in units
-
-overflow-units : (f : Format) → overflow f ≡ 2 ^ suc (emax f) * 2 ^ low f
-overflow-units f = pow-add 2 (low f) (suc (emax f)) ∙ mul-comm (2 ^ low f) (2 ^ suc (emax f))
-
-in-limit : (f : Format) (s : Bool) (m : ℕ) (e : ℤ) (u : ℕ) → T (fits f (fin s m e)) → m * up e * 2 ^ low f ≡ u * down e → u < overflow f
-in-limit f s m e u F v =
-    let a : m * up e * 2 ^ low f < 2 ^ suc (emax f) * down e * 2 ^ low f = mul-lt-mul-of-pos-right (held f s m e F .limit) (pow-pos (low f)) in
-    subst (λ (z : ℕ). u < z) (sym (overflow-units f)) (lt-of-mul-lt-mul-right (down e) (omega arith))
+-- ---- the root is far below the limit
 
 -- the largest power of two in the format
 power : (f : Format) → T (fits f (fin false 1 (pos (emax f))))
@@ -178,4 +170,4 @@ sqrt-nearest f (fin false zero e) u F v =
     let z : u ≡ 0 = eq-of-mul-eq-mul-right (down e) (down-pos e) u 0 (sym (v .1) ∙ ap (λ (x : ℕ). x * 2 ^ low f) (zero-mul (up e)) ∙ zero-mul (2 ^ low f) ∙ sym (zero-mul (down e))) in
     subst (λ (x : ℕ). NearestRoot f x (fin false zero e)) (sym z) (zero-root f (fin false zero e) F (subst (λ (x : ℕ). HasValue (fin false zero e) false x (2 ^ low f)) z v))
 sqrt-nearest f (fin false (suc m) e) u F v =
-    subst (λ (z : ℕ). NearestRoot f u (rootOf f (suc (low f)) z)) (sym (in-halves f (suc m) e u (v .1))) (root-nearest f u (in-limit f false (suc m) e u F (v .1)))
+    subst (λ (z : ℕ). NearestRoot f u (rootOf f (suc (low f)) z)) (sym (in-halves f (suc m) e u (v .1))) (root-nearest f u (held-units f (suc m) e u (held f false (suc m) e F) (v .1)))
