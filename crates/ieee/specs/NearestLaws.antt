@@ -40,12 +40,16 @@ held f s (suc m) e t = record { digits = ltb→lt (suc m) (2 ^ prec f) (and-r a 
   where
     a : Bool
     a = eqb (suc m % 2) 1
+
     b : Bool
     b = ltb (suc m) (2 ^ prec f)
+
     c : Bool
     c = leb (down e) (2 ^ low f)
+
     d : Bool
     d = ltb (suc m * up e) (2 ^ suc (emax f) * down e)
+
     l : T (a && b && c)
     l = and-l (a && b && c) d t
 
@@ -90,6 +94,7 @@ leading f n den = go (eq-zero-or-pos k)
   where
     k : ℕ
     k = drop (prec f) n den
+
     go : (k ≡ 0) ⊎ (0 < k) → (k ≡ 0) ⊎ (hid f ≤ n / step f n den)
     go (inl z) = inl z
     go (inr p) =
@@ -112,8 +117,10 @@ module _ (f : Format) (n den h : ℕ) (y : Float) (D : 0 < den) (F : T (fits f y
     where
       k : ℕ
       k = drop (prec f) n den
+
       q : ℕ
       q = n / step f n den
+
       go : (k ≡ 0) ⊎ (hid f ≤ q) → suc q * 2 ^ k ≤ h
       go (inl z) =
           let one : 2 ^ k ≡ 1 = ap (λ (x : ℕ). 2 ^ x) z in
@@ -159,11 +166,14 @@ module _ {n den h q r u P : ℕ} {o : Ordering} (D : 0 < den) (s : Steps n den h
     where
       Side : Ordering → Type 0
       Side o = ((h * den ≤ q * P * den) × (h * den < nearest q o * P * den)) ⊎ ((suc q * P * den ≤ h * den) × (nearest q o * P * den < h * den))
+
       side : Dec (h ≤ nearest q o * P) → Side o
       side (yes l) = let m = lt-of-le-ne l ne in inl (within m, mul-lt-mul-of-pos-right m D)
       side (no g) = let m = lt-of-not-le g in inr (beyond m, mul-lt-mul-of-pos-right m D)
+
       even : (q : ℕ) → (q + q % 2) % 2 ≡ 0
       even q = omega arith
+
       go : (o : Ordering) → Cmp o (r * 2) u → Side o → (nearest q o * P + h) * den ≡ 2 * n → nearest q o % 2 ≡ 0
       go Ordering·lt c (inl a) e = absurd (omega (arith, steps))
       go Ordering·lt c (inr a) e = absurd (omega (arith, steps))

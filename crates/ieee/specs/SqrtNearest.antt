@@ -145,8 +145,10 @@ module _ (f : Format) (u : ℕ) where
     where
       twice : overflow f ≡ 2 * 2 ^ emax f * 2 ^ low f
       twice = overflow-units f ∙ ap (λ (z : ℕ). z * 2 ^ low f) (pow-succ' 2 (emax f))
+
       value : HasValue (fin false 1 (pos (emax f))) false (2 ^ emax f * 2 ^ low f) (2 ^ low f)
       value = (refl, ap (λ (z : ℕ). z * 2 ^ low f) (one-mul (2 ^ emax f)) ∙ sym (mul-one (2 ^ emax f * 2 ^ low f)))
+
       go : Dec (result ≤ 2 ^ emax f * 2 ^ low f) → result < overflow f
       go (yes a) = lt-of-le-of-lt a (omega (arith, twice, mul-pos (pow-pos (emax f)) (pow-pos (low f))))
       go (no b) = absurd (too-large result (2 ^ emax f) (2 ^ low f) u (pow-pos (low f)) (two-le f) (subst (λ (z : ℕ). u < z) twice l) (squares-below (fin false 1 (pos (emax f))) (2 ^ emax f * 2 ^ low f) (power f) value (lt-of-not-le b)) (lt-of-not-le b))

@@ -88,7 +88,7 @@ module _ (f : Format) (s : Bool) (m : ℕ) (e : ℤ) (F : T (fits f (fin s m e))
 
 -- ---- by their words
 
--- r is a whole number with the sign s, and its magnitude is one that P says
+-- r is a whole number with the sign s, and P holds of its magnitude
 pub record WholeNumber (P : ℕ → Type 0) (s : Bool) (r : Float) : Type 0 where
   pub magnitude : ℕ
   pub value : HasValue r s magnitude 1
