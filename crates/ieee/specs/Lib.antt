@@ -12,3 +12,6 @@ pub mod Nans
 pub mod Patterns
 pub mod NarrowLaws
 pub mod Rounding
+pub mod NearestLaws
+pub mod SqrtNearest
+pub mod WholeNumbers
