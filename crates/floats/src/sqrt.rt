@@ -86,16 +86,9 @@ fn normalised(d: u64, e: u64) -> Scaled
     let shift = (u64::leading_zeros(d) - 11) as u64;
     let normal = d << shift;
     let exponent = e - shift;
-    if exponent % 2 == 0 {
-        Scaled {
-            digits: normal,
-            half: exponent / 2,
-        }
-    } else {
-        Scaled {
-            digits: 2 * normal,
-            half: exponent / 2,
-        }
+    Scaled {
+        digits: normal << (exponent % 2),
+        half: exponent / 2,
     }
 }
 

@@ -250,18 +250,22 @@ normal d p h =
       to = lt-of-lt-of-le (mul-lt-mul-of-pos-right (t .3) (pow-pos s)) (le-of-eq (sym (pow-add 2 (suc j) s) ∙ ap (λ (z : ℕ). 2 ^ z) b));
     }
 
-pub normal-even : (d s e : ℕ) → s ≤ e → (e - s) % 2 ≡ 0 → d * 2 ^ s * 4 ^ ((e - s) / 2) ≡ d * 2 ^ e
-normal-even d s e l z =
+pub normal-same : (d s e : ℕ) → s ≤ e → d * 2 ^ s * 2 ^ ((e - s) % 2) * 4 ^ ((e - s) / 2) ≡ d * 2 ^ e
+normal-same d s e l =
+    let r = (e - s) % 2 in
     let h = (e - s) / 2 in
-    let p : s + (h + h) ≡ e = omega arith in
-    ap (λ (k : ℕ). d * 2 ^ s * k) (four h ∙ sym (pow-add 2 h h)) ∙ mul-assoc d (2 ^ s) (2 ^ (h + h)) ∙ ap (λ (k : ℕ). d * k) (sym (pow-add 2 s (h + h)) ∙ ap (λ (k : ℕ). 2 ^ k) p)
+    let p : s + (r + (h + h)) ≡ e = omega arith in
+    ap (λ (k : ℕ). d * 2 ^ s * 2 ^ r * k) (four h ∙ sym (pow-add 2 h h)) ∙ mul-assoc (d * 2 ^ s) (2 ^ r) (2 ^ (h + h)) ∙ ap (λ (k : ℕ). d * 2 ^ s * k) (sym (pow-add 2 r (h + h)))
+    ∙ mul-assoc d (2 ^ s) (2 ^ (r + (h + h))) ∙ ap (λ (k : ℕ). d * k) (sym (pow-add 2 s (r + (h + h))) ∙ ap (λ (k : ℕ). 2 ^ k) p)
 
-pub normal-odd : (d s e : ℕ) → s ≤ e → (e - s) % 2 ≢ 0 → 2 * (d * 2 ^ s) * 4 ^ ((e - s) / 2) ≡ d * 2 ^ e
-normal-odd d s e l z =
-    let h = (e - s) / 2 in
-    let p : suc s + (h + h) ≡ e = omega arith in
-    ap (λ (k : ℕ). k * 4 ^ h) (mul-left-comm 2 d (2 ^ s) ∙ ap (λ (k : ℕ). d * k) (sym (pow-succ' 2 s)))
-    ∙ ap (λ (k : ℕ). d * 2 ^ suc s * k) (four h ∙ sym (pow-add 2 h h)) ∙ mul-assoc d (2 ^ suc s) (2 ^ (h + h)) ∙ ap (λ (k : ℕ). d * k) (sym (pow-add 2 (suc s) (h + h)) ∙ ap (λ (k : ℕ). 2 ^ k) p)
+-- a digit more or none
+pub once-more : (a k : ℕ) → (a * 2 ^ (k % 2) ≡ a) ⊎ (a * 2 ^ (k % 2) ≡ 2 * a)
+once-more a k = go (k % 2) (mod-lt k (lit< tt))
+  where
+    go : (r : ℕ) → r < 2 → (a * 2 ^ r ≡ a) ⊎ (a * 2 ^ r ≡ 2 * a)
+    go zero h = inl (mul-one a)
+    go (suc zero) h = inr (mul-comm a 2)
+    go (suc (suc r)) h = absurd (omega arith)
 
 -- ---- a whole root with and without a rest
 

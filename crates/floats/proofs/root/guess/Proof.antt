@@ -11,17 +11,17 @@ int-to-float-half : tie.Need-int-to-float-half
 unfolding inFloat
 int-to-float-half c = le→leb (c .before .args .n / 2) (2 ^ 53) (omega arith)
 
-mul-y : tie.Need-mul-y
-mul-y c = search needs
-
-array-read-y : tie.Need-array-read-y
-array-read-y c = search needs
-
-int-to-float-y : tie.Need-int-to-float-y
-int-to-float-y c = search needs
-
 word-of-f64-requires : tie.Need-word-of-f64-requires
 word-of-f64-requires c κs = search needs
+
+sub-f64-of-word : tie.Need-sub-f64-of-word
+sub-f64-of-word c = search needs
+
+f64-of-word-requires : tie.Need-f64-of-word-requires
+f64-of-word-requires c κs = search needs
+
+word-of-f64-requires-2 : tie.Need-word-of-f64-requires-2
+word-of-f64-requires-2 c κs = search needs
 
 returns : tie.Need-returns
 returns c = search needs
@@ -29,4 +29,10 @@ returns c = search needs
 pub guess-spec : {M : Type 1} → statement M
 guess-spec =
     tie.close
-    (tie.spec int-to-float-half mul-y array-read-y int-to-float-y word-of-f64-requires returns)
+    (tie.spec
+    int-to-float-half
+    word-of-f64-requires
+    sub-f64-of-word
+    f64-of-word-requires
+    word-of-f64-requires-2
+    returns)

@@ -1,53 +1,68 @@
 -- `floats::sqrt::normalised` meets its contract: the leading zeros say how far the digits can be shifted. Assumes nothing.
 use Prim.Native.Nat.{ℕ, _-_, _*_, _/_, _%_, _^_, _≤_, _<_}
 use mathlib.Core.Path.{_≡_, ap, _∙_, subst, sym}
+use mathlib.Core.Logic.{⊎-elim}
 use native.Mathlib.Nat.{mod-eq-of-lt, lt-of-lt-of-le}
 use native.Mathlib.Omega.{arith}
+use borrow.Author.Needs.{needs}
 use lib.Dec.{lit≤}
 use lib.Count.{leadingZeros}
-use Rattle.ieee.specs.SqrtWords.{Normal, normal, normal-even, normal-odd}
+use Rattle.ieee.specs.SqrtWords.{Normal, normal, normal-same, once-more}
 use Rattle.floats.proofs.sqrt.normalised.Statement.{statement}
 use Rattle.floats.proofs.sqrt.normalised.Tie as tie
 
-digits : (c : tie.Start) → Normal (c .args .d)
-digits c = normal (c .args .d) (c .pre .0) (c .pre .1 .0)
+found : (c : tie.Start) → Normal (c .args .d)
+found c = normal (c .args .d) (c .pre .0) (c .pre .1 .0)
 
--- the shift loses nothing
-shifted : (c : tie.Start) → c .args .d * 2 ^ (leadingZeros 64 (c .args .d) - 11) % 2 ^ 64 ≡ c .args .d * 2 ^ (leadingZeros 64 (c .args .d) - 11)
-shifted c = mod-eq-of-lt (lt-of-lt-of-le (digits c .to) (lit≤ tt))
+-- the shift, the digits after it, and the exponent that is left
+abbrev shift : tie.Start → ℕ
+shift c = leadingZeros 64 (c .args .d) - 11
+
+abbrev digits : tie.Start → ℕ
+digits c = c .args .d * 2 ^ shift c
+
+abbrev last : tie.Start → ℕ
+last c = digits c * 2 ^ ((c .args .e - shift c) % 2)
+
+-- neither shift loses anything
+shifted : (c : tie.Start) → digits c % 2 ^ 64 ≡ digits c
+shifted c = mod-eq-of-lt (lt-of-lt-of-le (found c .to) (lit≤ tt))
+
+record Bounds (n : ℕ) : Type 0 where
+  from : 2 ^ 52 ≤ n
+  to : n < 2 ^ 54
+
+bounds : (c : tie.Start) → Bounds (last c)
+bounds c =
+    let n = found c in
+    ⊎-elim (λ e. subst Bounds (sym e) (record { from = n .from; to = omega arith })) (λ e. subst Bounds (sym e) (record { from = omega arith; to = omega arith }))
+    (once-more (digits c) (c .args .e - shift c))
+
+twice-shifted : (c : tie.Start) → last c % 2 ^ 64 ≡ last c
+twice-shifted c = mod-eq-of-lt (lt-of-lt-of-le (bounds c .to) (lit≤ tt))
 
 sub-shift : tie.Need-sub-shift
-sub-shift c = digits c .enough
+sub-shift c = found c .enough
 
 cast-shift : tie.Need-cast-shift
-cast-shift c = omega (arith, digits c .few)
+cast-shift c = omega (arith, found c .few)
 
 shl-normal : tie.Need-shl-normal
-shl-normal c = omega (arith, digits c .few)
+shl-normal c = omega (arith, found c .few)
 
 sub-exponent : tie.Need-sub-exponent
-sub-exponent c = omega (arith, digits c .few)
-
-mul-t12 : tie.Need-mul-t12
-mul-t12 c = rw (shifted (c .before)) (omega (arith, digits (c .before) .to))
+sub-exponent c = omega (arith, found c .few)
 
 returns : tie.Need-returns
 returns c =
-    let a = c .before .args in
-    let n = digits (c .before) in
-    let s = leadingZeros 64 (a .d) - 11 in
-    let l : s ≤ a .e = omega arith in
-    rw (shifted (c .before))
-    (normal-even (a .d) s (a .e) l (c .if1 .taken), (n .from, (omega arith, (omega arith, omega arith))))
+    let n = found c in
+    let b = bounds c in
+    let l : shift c ≤ c .args .e = omega arith in
+    rw (shifted c, twice-shifted c)
+    (normal-same (c .args .d) (shift c) (c .args .e) l, (b .from, (b .to, (omega arith, omega arith))))
 
-returns-2 : tie.Need-returns-2
-returns-2 c =
-    let a = c .before .args in
-    let n = digits (c .before) in
-    let s = leadingZeros 64 (a .d) - 11 in
-    let l : s ≤ a .e = omega arith in
-    rw (shifted (c .before))
-    (normal-odd (a .d) s (a .e) l (c .if1 .left), (omega arith, (omega arith, (omega arith, omega arith))))
+shl-t9 : tie.Need-shl-t9
+shl-t9 c = search needs
 
 pub normalised-spec : {M : Type 1} → statement M
-normalised-spec = tie.close (tie.spec sub-shift cast-shift shl-normal sub-exponent mul-t12 returns returns-2)
+normalised-spec = tie.close (tie.spec sub-shift cast-shift shl-normal sub-exponent shl-t9 returns)
