@@ -45,7 +45,10 @@ fn sqrt_word(w: u32) -> u32
     if w < 0x80_0000 {
         return digits_root(w as u64, 151);
     }
-    digits_root((0x80_0000 + w % 0x80_0000) as u64, (w / 0x80_0000 + 150) as u64)
+    digits_root(
+        (0x80_0000 + w % 0x80_0000) as u64,
+        (w / 0x80_0000 + 150) as u64,
+    )
 }
 
 fn sqrt64_word(w: u64) -> u64
@@ -63,7 +66,10 @@ fn sqrt64_word(w: u64) -> u64
     if w < 0x10_0000_0000_0000 {
         return digits_root64(w, 1076);
     }
-    digits_root64(0x10_0000_0000_0000 + w % 0x10_0000_0000_0000, w / 0x10_0000_0000_0000 + 1075)
+    digits_root64(
+        0x10_0000_0000_0000 + w % 0x10_0000_0000_0000,
+        w / 0x10_0000_0000_0000 + 1075,
+    )
 }
 
 // digits * 4^half, with digits from 2^52 up to 2^54.

@@ -60,6 +60,7 @@ module _ (w : ℕ) where
       flip : (ofBits binary32 w ≡ nan) ⊎ (negative (ofBits binary32 w) ≡ leb (2 ^ 31) w) → leb (2 ^ 31) w ≡ true → (ofBits binary32 w ≡ nan) ⊎ (negative (ofBits binary32 w) ≡ true)
       flip (inl e) t = inl e
       flip (inr e) t = inr (e ∙ t)
+
       go : Dec (2 ^ 31 ≤ w) → (ofBits binary32 w ≡ nan) ⊎ (negative (ofBits binary32 w) ≡ true)
       go (yes l) = flip (signed-word binary32 w) (le-leb (2 ^ 31) w l)
       go (no n) = inl (nan-bits binary32 w (subst (λ (a : ℕ). 255 * 2 ^ 23 < a) (sym (plain (lt-of-not-le n))) h))
@@ -69,13 +70,16 @@ module _ (w : ℕ) where
     where
       infinite : toUnsigned k (inf false) ≡ 2 ^ k - 1
       infinite = unfold toUnsigned in refl
+
       l : w < 2 ^ 31
       l = lt-of-le-of-lt hi (lit< tt)
+
       far : 2 ^ k - 1 ≤ magnitude binary32 w / 2 ^ 149
       far =
           let e : 2 ^ k * 2 ^ 149 ≡ 2 ^ 23 * 2 ^ (126 + k) = mul-comm (2 ^ k) (2 ^ 149) ∙ mul-assoc (2 ^ 23) (2 ^ 126) (2 ^ k) ∙ ap (λ (z : ℕ). 2 ^ 23 * z) (sym (pow-add 2 126 k)) in
           let a : 2 ^ k ≤ magnitude binary32 w / 2 ^ 149 = le-div-iff-mul-le (pow-pos 149) .1 (le-trans (le-of-eq e) (magnitude-ge binary32 w (126 + k) lo)) in
           le-trans (sub-le (2 ^ k) 1) a
+
       go : (w ≡ 255 * 2 ^ 23) ⊎ (w < 255 * 2 ^ 23) → toUnsigned k (ofBits binary32 w) ≡ 2 ^ k - 1
       go (inl e) = ap (toUnsigned k) (inf-bits binary32 w (plain l ∙ e) ∙ ap inf (lt-leb (2 ^ 31) w l)) ∙ infinite
       go (inr h) = toUnsigned-units k (ofBits binary32 w) (magnitude binary32 w) (2 ^ 149) (pow-pos 149) (value h) ∙ min-eq-right far

@@ -61,6 +61,7 @@ module _ (m i : ℕ) (lo : 2 ^ 52 ≤ m) (hi : m < 2 ^ 53) where
     where
       suc-sum : (i : ℕ) → suc (23 + i) ≡ 24 + i
       suc-sum i = omega arith
+
       back : (i : ℕ) → suc (23 + i) - 24 ≡ i
       back i = omega arith
 
@@ -108,6 +109,7 @@ large-left u h = go (kept-digits binary32 (u * 2 ^ 149) (2 ^ 1074) .1)
         let a : 2 ^ 277 ≤ u * 2 ^ 149 / 2 ^ 1074 = le-div-iff-mul-le (pow-pos 1074) .1 (le-trans (lit≤ tt) (mul-le-mul-right (2 ^ 149) h)) in
         let b : 277 < size (u * 2 ^ 149 / 2 ^ 1074) = pow-lt-inv 277 (size (u * 2 ^ 149 / 2 ^ 1074)) (lt-of-le-of-lt a (size-lt (u * 2 ^ 149 / 2 ^ 1074))) in
         omega arith
+
     go : (gone u ≡ 0) ⊎ (2 ^ 23 ≤ left u) → 255 * 2 ^ 23 ≤ gone u * 2 ^ 23 + left u
     go (inl z) = absurd (omega (arith, far, z))
     go (inr l) = omega (arith, far, l)

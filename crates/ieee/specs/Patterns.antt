@@ -146,11 +146,14 @@ magnitude-lt f a x h = go (decLe (hid f) a)
   where
     H : 0 < hid f
     H = hid-pos f
+
     less : (k : ℕ) → suc k - 1 ≡ k
     less k = omega arith
+
     twice : (k : ℕ) → 1 ≤ k → 2 * hid f * 2 ^ (k - 1) ≡ hid f * 2 ^ k
     twice zero o = absurd (omega arith)
     twice (suc k) o = ap (λ (z : ℕ). 2 * hid f * 2 ^ z) (less k) ∙ mul-assoc 2 (hid f) (2 ^ k) ∙ mul-left-comm 2 (hid f) (2 ^ k) ∙ ap (λ (z : ℕ). hid f * z) (sym (pow-succ' 2 k))
+
     go : Dec (hid f ≤ a) → magnitude f a < hid f * 2 ^ x
     go (no n) =
         let s : a < hid f = lt-of-not-le n in
@@ -185,6 +188,7 @@ sign-bit f w x h = go (decLe (top f) w)
   where
     P : 0 < top f
     P = mul-pos (hid-pos f) (zero-lt-suc (ones f))
+
     go : Dec (top f ≤ w) → cond (leb (top f) w) x 0 ≡ w / top f * x
     go (yes l) = rw (le-leb (top f) w l) (sym (ap (λ (z : ℕ). z * x) (div-eq-of-lt-le (top f) (subst (λ (z : ℕ). z ≤ w) (sym (one-mul (top f))) l) h) ∙ one-mul x))
     go (no n) = rw (lt-leb (top f) w (lt-of-not-le n)) (sym (ap (λ (z : ℕ). z * x) (div-eq-of-lt (lt-of-not-le n)) ∙ zero-mul x))
@@ -213,8 +217,10 @@ exactly f s a h = go (decLe (hid f) a)
   where
     small : magnitude f a < 2 ^ (low f + suc (emax f))
     small = subst (λ (z : ℕ). magnitude f a < z) (sym (overflow-is f)) (magnitude-lt f a (2 * emax f) (subst (λ (z : ℕ). a < z * hid f) (add-one (2 * emax f)) h))
+
     by : (q j : ℕ) → magnitude f a ≡ q * 2 ^ j → q < 2 ^ prec f → HasValue (round f s (magnitude f a) (2 ^ low f)) s (magnitude f a) (2 ^ low f)
     by q j e l = round-exact f s (magnitude f a) (2 ^ low f) q j (pow-pos (low f)) l (subst (λ (z : ℕ). z < 2 ^ (low f + suc (emax f))) e small) (ap (λ (z : ℕ). z * 2 ^ low f) e)
+
     go : Dec (hid f ≤ a) → HasValue (round f s (magnitude f a) (2 ^ low f)) s (magnitude f a) (2 ^ low f)
     go (no n) = by a 0 (magnitude-small f a (lt-of-not-le n) ∙ sym (mul-one a)) (omega (arith, lt-of-not-le n, two-hid f))
     go (yes l) = by (hid f + a % hid f) (a / hid f - 1) (magnitude-large f a l) (omega (arith, mod-lt a (hid-pos f), two-hid f))

@@ -45,14 +45,19 @@ kept-digits f n den = (le-trans (nearest-le (n / u) o) few, go (eq-zero-or-pos k
   where
     k : ℕ
     k = drop (prec f) n den
+
     u : ℕ
     u = den * 2 ^ k
+
     o : Ordering
     o = compare (n % u * 2) u
+
     cut : n / den / 2 ^ k ≡ n / u
     cut = div-div-eq-div-mul n den (2 ^ k)
+
     few : n / u < 2 ^ prec f
     few = subst (λ (x : ℕ). x < 2 ^ prec f) cut (kept-lt (prec f) (n / den))
+
     go : (k ≡ 0) ⊎ (0 < k) → (k ≡ 0) ⊎ (hid f ≤ nearest (n / u) o)
     go (inl z) = inl z
     go (inr h) =
@@ -90,6 +95,7 @@ module _ (f : Format) (q k : ℕ) (d : Digits f q k) where
     where
       double : 2 * hid f * 2 ^ k ≡ hid f * 2 ^ suc k
       double = mul-assoc 2 (hid f) (2 ^ k) ∙ mul-left-comm 2 (hid f) (2 ^ k) ∙ ap (λ (z : ℕ). hid f * z) (sym (pow-succ' 2 k))
+
       go : (q ≡ 2 * hid f) ⊎ (q < 2 * hid f) → (k ≡ 0) ⊎ (hid f ≤ q) → ones f * hid f ≤ k * hid f + q
       go (inl e) c =
           let g : hid f * 2 ^ (2 * emax f) ≤ hid f * 2 ^ suc k = subst (λ (z : ℕ). hid f * 2 ^ (2 * emax f) ≤ z) (ap (λ (z : ℕ). z * 2 ^ k) e ∙ double) h in
@@ -130,28 +136,39 @@ closest-shift a d = go (compare (r * 2) u) (cmp (r * 2) u)
   where
     h : ℕ
     h = 2 ^ d
+
     u : ℕ
     u = 2 ^ suc d
+
     q : ℕ
     q = a / u
+
     r : ℕ
     r = a % u
+
     u-is : u ≡ 2 * h
     u-is = pow-succ' 2 d
+
     H : 0 < h
     H = pow-pos d
+
     U : 0 < u
     U = pow-pos (suc d)
+
     whole : q * u + r ≡ a
     whole = div-add-mod' a u
+
     R : r < u
     R = mod-lt a U
+
     sum : a + (h - 1) + q % 2 ≡ q * u + (r + (h - 1) + q % 2)
     sum = omega (arith, whole)
+
     at : (k : ℕ) → k * u ≤ r + (h - 1) + q % 2 → r + (h - 1) + q % 2 < suc k * u → (a + (h - 1) + q % 2) / u ≡ q + k
     at k lo hi =
         ap (λ (z : ℕ). z / u) sum ∙ mul-add-div-right U q (r + (h - 1) + q % 2)
         ∙ ap (λ (z : ℕ). q + z) (div-eq-of-lt-le u lo (subst (λ (z : ℕ). r + (h - 1) + q % 2 < z * u) (sym (add-one k)) hi))
+
     go : (o : Ordering) → Cmp o (r * 2) u → nearest q o ≡ (a + (h - 1) + q % 2) / u
     go Ordering·lt l = sym (at 0 (omega arith) (omega (arith, u-is, H, l)) ∙ add-zero q)
     go Ordering·eq e = sym (half (q % 2) refl)
@@ -178,6 +195,7 @@ closest-add j a u U =
   where
     parity : (q : ℕ) → 2 * j + q + (2 * j + q) % 2 ≡ 2 * j + (q + q % 2)
     parity q = omega arith
+
     shift : (q : ℕ) (o : Ordering) → nearest (2 * j + q) o ≡ 2 * j + nearest q o
     shift q Ordering·lt = refl
     shift q Ordering·eq = parity q
@@ -239,8 +257,10 @@ module _ (q b rest u : ℕ) (small : rest < b) where
     where
       r : ℕ
       r = q % (2 * u)
+
       is : (o : Ordering) → Cmp o ((r * b + rest) * 2) (2 * u * b) → compare ((r * b + rest) * 2) (2 * u * b) ≡ o
       is o = compare-is ((r * b + rest) * 2) (2 * u * b) o
+
       go : (o : Ordering) → Cmp o r u → (rest ≡ 0) ⊎ (0 < rest) → compare ((r * b + rest) * 2) (2 * u * b) ≡ side o (eqb rest 0)
       go Ordering·lt l z = is Ordering·lt (omega (arith, small, mul-le-mul-right b l))
       go Ordering·gt g z = is Ordering·gt (omega (arith, small, B, mul-le-mul-right b g))
@@ -268,8 +288,10 @@ closest-sticky q b rest u small U =
     half : (c : Bool) → cond c 0 1 < 2
     half true = lit< tt
     half false = lit< tt
+
     four : (u : ℕ) → 2 * u * 2 ≡ 4 * u
     four u = omega arith
+
     test : (rest ≡ 0) ⊎ (0 < rest) → eqb rest 0 ≡ eqb (cond (eqb rest 0) 0 1) 0
     test (inl z) = rw (eq-eqb rest 0 z)
     test (inr p) = rw (ne-eqb rest 0 (λ (z : rest ≡ 0). omega arith))

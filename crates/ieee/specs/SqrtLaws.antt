@@ -18,8 +18,10 @@ digit n r h = go (leb (suc (2 * r) * suc (2 * r)) n) (leb→le (suc (2 * r) * su
   where
     lo : 2 * r * (2 * r) ≤ n
     lo = omega (arith, h .at-most)
+
     hi : n < suc (suc (2 * r)) * suc (suc (2 * r))
     hi = omega (arith, h .below)
+
     go : (b : Bool) → (T b → suc (2 * r) * suc (2 * r) ≤ n) → (T (not b) → n < suc (2 * r) * suc (2 * r)) → Root n (cond b (suc (2 * r)) (2 * r))
     go true p q = record { at-most = p tt; below = hi }
     go false p q = record { at-most = lo; below = q tt }

@@ -46,6 +46,7 @@ module _ (n t : ℕ) where
   -- the root of n, of n * 4 ^ t, and what the second has more
   q : ℕ
   q = isqrt n
+
   Q : ℕ
   Q = isqrt (n * 4 ^ t)
 
@@ -154,6 +155,7 @@ module _ (f : Format) (g t n : ℕ) (lo : 4 ^ (prec f + g) ≤ n) (hi : n < 4 ^ 
     where
       cancel : (p g t : ℕ) → p + g + t - p ≡ g + t
       cancel p g t = omega arith
+
       half-size : (j k : ℕ) → 1 ≤ j → 2 ^ j ≤ k → k < 2 * 2 ^ j → size (k / 2) ≡ j
       half-size zero k o l h = absurd (omega arith)
       half-size (suc j) k o l h = size-is (k / 2) j (omega (arith, pow-succ' 2 j)) (omega (arith, pow-succ' 2 j))
@@ -171,6 +173,7 @@ module _ (f : Format) (g t n : ℕ) (lo : 4 ^ (prec f + g) ≤ n) (hi : n < 4 ^ 
     where
       spread : (l a b : ℕ) → 2 * (2 * l) * (a * b) ≡ 2 * a * (2 * b) * l
       spread l a b = omega arith
+
       steps : 2 * 2 ^ suc (low f) * 2 ^ (g + t) ≡ 2 * 2 ^ g * (2 * 2 ^ t) * 2 ^ low f
       steps = ap (λ (z : ℕ). 2 * z * 2 ^ (g + t)) (pow-succ' 2 (low f)) ∙ ap (λ (z : ℕ). 2 * (2 * 2 ^ low f) * z) (pow-add 2 g t) ∙ spread (2 ^ low f) (2 ^ g) (2 ^ t)
 
@@ -180,6 +183,7 @@ module _ (f : Format) (g t n : ℕ) (lo : 4 ^ (prec f + g) ≤ n) (hi : n < 4 ^ 
       few : (k : ℕ) (b : Bool) → k < 2 ^ suc (prec f + g) → 2 * k + cond b 0 1 < 2 * 2 ^ suc (prec f + g)
       few k true h = omega arith
       few k false h = omega arith
+
       steps : 2 ^ prec f * 2 ^ (2 + g) ≡ 2 * 2 ^ suc (prec f + g)
       steps = sym (pow-add 2 (prec f) (2 + g)) ∙ ap (λ (z : ℕ). 2 ^ z) (place (prec f) g) ∙ pow-succ' 2 (suc (prec f + g))
         where
@@ -380,16 +384,20 @@ module _ (f : Format) (w : ℕ) (W : w < 2 * top f) where
       none (fin s zero x) (inr e) z = absurd (z s x refl)
       none (fin true (suc m) x) (inr e) z = unfold sqrt in refl
       none (fin false (suc m) x) (inr e) z = absurd (true≢false (sym e))
+
       zero-bits : (s : Bool) (e : ℤ) → toBits f (fin s 0 e) ≡ cond s (top f) 0
       zero-bits s e =
           toBits-value f (fin s 0 e) s 0 (refl, ap (λ (k : ℕ). k * 2 ^ low f) (zero-mul (up e)) ∙ zero-mul (2 ^ low f) ∙ sym (zero-mul (down e)))
           ∙ ap (λ (k : ℕ). cond s (top f) 0 + k) (pattern-at f 0 0 (zero-le, inl refl) ∙ ap (λ (k : ℕ). k + 0) (zero-mul (hid f)))
           ∙ add-zero (cond s (top f) 0)
+
       remains : (s : Bool) → cond s (top f) 0 % top f ≡ 0
       remains true = mod-self (top f)
       remains false = zero-mod (top f)
+
       no-zero : (s : Bool) (e : ℤ) → ofBits f w ≡ fin s 0 e → ⊥
       no-zero s e v = n (ap (λ (k : ℕ). k % top f) (sym (toBits-ofBits f w W (subst (λ (y : Float). T (not (isNan y))) (sym v) (unfold isNan in tt))) ∙ ap (toBits f) v ∙ zero-bits s e) ∙ remains s)
+
       go : (y : Float) → ofBits f w ≡ y → Dec (top f ≤ w) → sqrt f (ofBits f w) ≡ nan
       go y e (yes l) = none (ofBits f w) (flip (signed-word f w)) no-zero
         where
@@ -404,8 +412,8 @@ module _ (f : Format) (w : ℕ) (W : w < 2 * top f) where
         let below : w < top f = lt-of-lt-of-le F (subst (λ (k : ℕ). ones f * hid f ≤ k) (mul-comm (suc (ones f)) (hid f)) (mul-le-mul-right (hid f) (le-suc (ones f)))) in
         let plain : w % top f ≡ w = mod-eq-of-lt below in
         let v : HasValue (ofBits f w) false (magnitude f w) (2 ^ low f) =
-            subst (λ (b : Bool). HasValue (ofBits f w) b (magnitude f w) (2 ^ low f)) (lt-leb (top f) w below)
-            (subst (λ (a : ℕ). HasValue (ofBits f w) (leb (top f) w) (magnitude f a) (2 ^ low f)) plain (decode f w (field-of f (w % top f) (subst (λ (a : ℕ). a < ones f * hid f) (sym plain) F)))) in
+        subst (λ (b : Bool). HasValue (ofBits f w) b (magnitude f w) (2 ^ low f)) (lt-leb (top f) w below)
+        (subst (λ (a : ℕ). HasValue (ofBits f w) (leb (top f) w) (magnitude f a) (2 ^ low f)) plain (decode f w (field-of f (w % top f) (subst (λ (a : ℕ). a < ones f * hid f) (sym plain) F)))) in
         sqrt-units f (ofBits f w) (magnitude f w) v (magnitude-pos f w P)
 
     pub sqrt-subnormal : w < hid f → toBits f (rootOf f (suc (low f)) (w * 2 ^ (low f + 2))) ≡ toBits f (sqrt f (ofBits f w))
@@ -416,5 +424,5 @@ module _ (f : Format) (w : ℕ) (W : w < 2 * top f) where
         let x : 1 ≤ w / hid f = le-div-iff-mul-le (hid-pos f) .1 (subst (λ (k : ℕ). k ≤ w) (sym (one-mul (hid f))) h) in
         let e : w / hid f - 1 + (low f + 2) ≡ w / hid f + (low f + 1) = omega arith in
         let u : magnitude f w * 2 ^ (low f + 2) ≡ (hid f + w % hid f) * 2 ^ (w / hid f + (low f + 1)) =
-            ap (λ (k : ℕ). k * 2 ^ (low f + 2)) (magnitude-large f w h) ∙ mul-assoc (hid f + w % hid f) (2 ^ (w / hid f - 1)) (2 ^ (low f + 2)) ∙ ap (λ (k : ℕ). (hid f + w % hid f) * k) (sym (pow-add 2 (w / hid f - 1) (low f + 2)) ∙ ap (λ (k : ℕ). 2 ^ k) e) in
+        ap (λ (k : ℕ). k * 2 ^ (low f + 2)) (magnitude-large f w h) ∙ mul-assoc (hid f + w % hid f) (2 ^ (w / hid f - 1)) (2 ^ (low f + 2)) ∙ ap (λ (k : ℕ). (hid f + w % hid f) * k) (sym (pow-add 2 (w / hid f - 1) (low f + 2)) ∙ ap (λ (k : ℕ). 2 ^ k) e) in
         sym (ap (toBits f) (finite-root ∙ ap (rootOf f (suc (low f))) u))

@@ -39,6 +39,7 @@ module _ (x e u d : ℕ) (E : 0 < e) (D : 0 < d) (h : x * d ≡ u * e) where
     where
       none : (a b c f : ℕ) → a ≡ 0 → a * b ≡ c * f → 0 < c → 0 < f → ⊥
       none a b c f z p C F = lt-irrefl 0 (subst (λ (k : ℕ). 0 < k) (sym p ∙ ap (λ (k : ℕ). k * b) z ∙ zero-mul b) (mul-pos C F))
+
       go : (x % e ≡ 0) ⊎ (0 < x % e) → (u % d ≡ 0) ⊎ (0 < u % d) → eqb (x % e) 0 ≡ eqb (u % d) 0
       go (inl p) (inl q) = eq-eqb (x % e) 0 p ∙ sym (eq-eqb (u % d) 0 q)
       go (inr p) (inr q) = ne-eqb (x % e) 0 (λ (z : x % e ≡ 0). omega arith) ∙ sym (ne-eqb (u % d) 0 (λ (z : u % d ≡ 0). omega arith))
@@ -51,10 +52,13 @@ rounded-up u d D = go (eq-zero-or-pos (u % d))
   where
     w : u / d * d + u % d ≡ u
     w = div-add-mod' u d
+
     l : u % d < d
     l = mod-lt u D
+
     at : (k : ℕ) → k * d ≤ u + (d - 1) → u + (d - 1) < (k + 1) * d → k ≡ (u + (d - 1)) / d
     at k lo hi = sym (div-eq-of-lt-le d lo hi)
+
     go : (u % d ≡ 0) ⊎ (0 < u % d) → u / d + cond (not (eqb (u % d) 0)) 1 0 ≡ (u + (d - 1)) / d
     go (inl z) = rw (eq-eqb (u % d) 0 z) (add-zero (u / d) ∙ at (u / d) (omega (arith, w)) (omega (arith, w, z, D)))
     go (inr p) = rw (ne-eqb (u % d) 0 (λ (z : u % d ≡ 0). omega arith)) (at (u / d + 1) (omega (arith, w, p, D)) (omega (arith, w, l)))
@@ -85,6 +89,7 @@ roundAway-units f (fin t m e) s u d D h =
   where
     twice : (k : ℕ) → 0 < k → 0 < 2 * k
     twice k p = omega arith
+
     halves : (x e u d : ℕ) → x * d ≡ u * e → (2 * x + e) * (2 * d) ≡ (2 * u + d) * (2 * e)
     halves x e u d p = omega arith
 
@@ -132,6 +137,7 @@ floor-word f w = go (ofBits f w) (signed-word f w)
   where
     s : Bool
     s = leb (top f) w
+
     go : (v : Float) → (v ≡ nan) ⊎ (negative v ≡ s) → nextWhole f s v ≡ nextWhole f (negative v) v
     go v (inl e) = ap (nextWhole f s) e ∙ sym (ap (λ (y : Float). nextWhole f (negative y) y) e)
     go v (inr e) = ap (λ (b : Bool). nextWhole f b v) (sym e)
@@ -142,6 +148,7 @@ ceil-word f w = go (ofBits f w) (signed-word f w)
   where
     s : Bool
     s = leb (top f) w
+
     go : (v : Float) → (v ≡ nan) ⊎ (negative v ≡ s) → nextWhole f (not s) v ≡ nextWhole f (not (negative v)) v
     go v (inl e) = ap (nextWhole f (not s)) e ∙ sym (ap (λ (y : Float). nextWhole f (not (negative y)) y) e)
     go v (inr e) = ap (λ (b : Bool). nextWhole f (not b) v) (sym e)

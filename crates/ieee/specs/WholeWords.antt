@@ -54,8 +54,10 @@ module _ (w : ℕ) (W : w < 2 ^ 32) (lo : 150 * 2 ^ 23 ≤ w % 2 ^ 31) where
       part : (b : Bool) → cond b (2 ^ 149 - 1) 0 < 2 ^ 149
       part true = lit< tt
       part false = lit< tt
+
       infinite : (s : Bool) → nextWhole binary32 away (inf s) ≡ inf s
       infinite s = unfold nextWhole in refl
+
       go : (w % 2 ^ 31 ≡ 255 * 2 ^ 23) ⊎ (w % 2 ^ 31 < 255 * 2 ^ 23) → nextWhole binary32 away (ofBits binary32 w) ≡ ofBits binary32 w
       go (inl e) = ap (nextWhole binary32 away) (inf-bits binary32 w e) ∙ infinite (leb (2 ^ 31) w) ∙ sym (inf-bits binary32 w e)
       go (inr l) =
@@ -68,8 +70,10 @@ module _ (w : ℕ) (W : w < 2 ^ 32) (lo : 150 * 2 ^ 23 ≤ w % 2 ^ 31) where
     where
       infinite : (s : Bool) → roundAway binary32 (inf s) ≡ inf s
       infinite s = unfold roundAway in refl
+
       double : (n d : ℕ) → 2 * (n * d) + d ≡ n * (2 * d) + d
       double n d = omega arith
+
       go : (w % 2 ^ 31 ≡ 255 * 2 ^ 23) ⊎ (w % 2 ^ 31 < 255 * 2 ^ 23) → roundAway binary32 (ofBits binary32 w) ≡ ofBits binary32 w
       go (inl e) = ap (roundAway binary32) (inf-bits binary32 w e) ∙ infinite (leb (2 ^ 31) w) ∙ sym (inf-bits binary32 w e)
       go (inr l) =
@@ -117,6 +121,7 @@ module _ (w : ℕ) (W : w < 2 ^ 32) (hi : w % 2 ^ 31 < 127 * 2 ^ 23) where
     where
       u-zero : magnitude binary32 (w % 2 ^ 31) ≡ 0
       u-zero = ap (magnitude binary32) z ∙ (unfold magnitude in refl)
+
       none : (b : Bool) → (magnitude binary32 (w % 2 ^ 31) + cond b (2 ^ 149 - 1) 0) / 2 ^ 149 ≡ 0
       none true = ap (λ (u : ℕ). (u + (2 ^ 149 - 1)) / 2 ^ 149) u-zero
       none false = ap (λ (u : ℕ). (u + 0) / 2 ^ 149) u-zero
@@ -154,6 +159,7 @@ module _ (m p part : ℕ) (P : 0 < p) (Q : 0 < part) where
     where
       less : (k : ℕ) → 0 < k → suc (k - 1) ≡ k
       less k h = omega arith
+
       regroup : suc (part - 1) ≡ part → suc (p - 1) ≡ p → 0 < part * p → m * p + (part * p - 1) ≡ (m + (part - 1)) * p + (p - 1)
       regroup a b c =
           let d : part * p ≡ (part - 1) * p + p = ap (λ (z : ℕ). z * p) (sym a) ∙ native.Mathlib.Nat.suc-mul (part - 1) p in
@@ -218,14 +224,15 @@ module _ (w : ℕ) (W : w < 2 ^ 32) (lo : 127 * 2 ^ 23 ≤ w % 2 ^ 31) (hi : w %
       let few : n ≤ 2 ^ 24 = le-trans (native.Mathlib.Nat.le-mul-of-pos-right n G) high in
       let place : a + more ≡ k * c * 2 ^ g + (m + more) = sum k c (2 ^ g) (omega arith) c-is in
       let last : a + more - (a + more) % 2 ^ g ≡ k * 2 ^ 23 + n * 2 ^ g =
-          cut-off (a + more) (2 ^ g) ∙ ap (λ (z : ℕ). z / 2 ^ g * 2 ^ g) place ∙ ap (λ (z : ℕ). z * 2 ^ g) (mul-add-div-right G (k * c) (m + more) ∙ ap (λ (z : ℕ). k * c + z) e)
-          ∙ add-mul (k * c) n (2 ^ g) ∙ ap (λ (z : ℕ). z + n * 2 ^ g) (mul-assoc k c (2 ^ g) ∙ ap (λ (z : ℕ). k * z) c-is) in
+      cut-off (a + more) (2 ^ g) ∙ ap (λ (z : ℕ). z / 2 ^ g * 2 ^ g) place ∙ ap (λ (z : ℕ). z * 2 ^ g) (mul-add-div-right G (k * c) (m + more) ∙ ap (λ (z : ℕ). k * c + z) e)
+      ∙ add-mul (k * c) n (2 ^ g) ∙ ap (λ (z : ℕ). z + n * 2 ^ g) (mul-assoc k c (2 ^ g) ∙ ap (λ (z : ℕ). k * z) c-is) in
       whole-pattern binary32 (leb (2 ^ 31) w) n g k few (omega arith) (high, inr low)
       ∙ ap (λ (z : ℕ). z + (k * 2 ^ 23 + n * 2 ^ g)) (sign-bit binary32 w (2 ^ 31) W ∙ sign-part)
       ∙ ap (λ (z : ℕ). w - w % 2 ^ 31 + z) (sym last)
     where
       sign-part : w / 2 ^ 31 * 2 ^ 31 ≡ w - w % 2 ^ 31
       sign-part = omega arith
+
       sum : (k c p : ℕ) → w % 2 ^ 31 + more ≡ k * 2 ^ 23 + (2 ^ 23 + w % 2 ^ 31 % 2 ^ 23 + more) → c * p ≡ 2 ^ 23 → w % 2 ^ 31 + more ≡ k * c * p + (2 ^ 23 + w % 2 ^ 31 % 2 ^ 23 + more)
       sum k c p s q = s ∙ ap (λ (z : ℕ). z + (2 ^ 23 + w % 2 ^ 31 % 2 ^ 23 + more)) (ap (λ (z : ℕ). k * z) (sym q) ∙ sym (mul-assoc k c p))
 
@@ -260,5 +267,6 @@ module _ (w : ℕ) (W : w < 2 ^ 32) (lo : 127 * 2 ^ 23 ≤ w % 2 ^ 31) (hi : w %
       even : (g : ℕ) → 1 ≤ g → 2 ^ g ≡ 2 * (2 ^ g / 2)
       even zero h = absurd (omega arith)
       even (suc g) h = omega (arith, native.Mathlib.Nat.pow-succ' 2 g)
+
       halved : part ≡ 2 * (part / 2)
       halved = even (150 - w % 2 ^ 31 / 2 ^ 23) (omega arith)
