@@ -1,13 +1,13 @@
 -- The saturating casts of an f32 by its bit pattern, over the integer's width, which is 25 at least. Assumes nothing.
-use Prim.Native.Nat.{ℕ, zero, suc, _+_, _-_, _*_, _/_, _%_, _^_, _≤_, _<_, min, zero-le}
+use Prim.Native.Nat.{ℕ, suc, _+_, _-_, _*_, _/_, _%_, _^_, _≤_, _<_, min, zero-le}
 use mathlib.Core.Path.{_≡_, refl, sym, _∙_, ap, subst}
-use mathlib.Core.Bool.{Bool, true, false, cond, true≢false}
+use mathlib.Core.Bool.{Bool, true, false, true≢false}
 use mathlib.Core.Logic.{_⊎_, inl, inr}
-use native.Mathlib.Nat.{mul-assoc, mul-comm, mod-eq-of-lt, eq-or-lt-of-le, div-eq-of-lt, lt-of-lt-of-le, lt-of-le-of-lt, le-trans, le-of-eq, lt-of-not-le, mul-div-mul-right, mul-div-cancel, div-le-self, le-div-iff-mul-le, min-eq-left, min-eq-right, min-comm, mul-lt-mul-of-pos-right, mul-le-mul-left, mul-pos, sub-le}
+use native.Mathlib.Nat.{mul-assoc, mul-comm, mod-eq-of-lt, eq-or-lt-of-le, div-eq-of-lt, lt-of-lt-of-le, lt-of-le-of-lt, le-trans, le-of-eq, lt-of-not-le, mul-div-mul-right, mul-div-cancel, div-le-self, le-div-iff-mul-le, min-eq-left, min-eq-right, mul-lt-mul-of-pos-right, mul-le-mul-left, sub-le}
 use native.Mathlib.Omega.{arith}
 use native.Mathlib.Decide.{decLe}
 use lib.Dec.{leb, lit<, lit≤}
-use lib.Pow.{pow-pos, pow-add, pow-mono, pow-lt, le-ones}
+use lib.Pow.{pow-pos, pow-add, pow-mono, le-ones}
 use lib.Ieee.{binary32, Float, nan, inf, fin, ofBits, toUnsigned}
 use lib.Ieee.Exact.{HasValue}
 use borrow.Author.Tests.{le-leb, lt-leb}

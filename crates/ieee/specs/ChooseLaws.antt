@@ -1,17 +1,16 @@
 -- The functions of Choose.antt by the tests that code makes. Assumes nothing.
-use Prim.Native.Nat.{ℕ, zero, suc, _+_, _*_, _<_, _≤_}
+use Prim.Native.Nat.{ℕ, zero, suc, _+_, _*_, _<_}
 use mathlib.Core.Path.{_≡_, refl, sym, _∙_, ap, subst}
 use mathlib.Core.Logic.{inl, inr}
-use mathlib.Core.Bool.{Bool, true, false, not, _&&_, _||_, Bool·beq, cond}
+use mathlib.Core.Bool.{true, false, _||_, Bool·beq}
 use native.Mathlib.Nat.{mul-one, zero-mul, mul-pos, eq-zero-or-pos, lt-irrefl}
 use native.Mathlib.Omega.{arith}
-use lib.Dec.{T, eqb, ltb, eqb-refl, ltb→lt, eqb→eq}
+use lib.Dec.{T, eqb, eqb→eq}
 use lib.IntN.{ℤ, pos}
-use lib.Ieee.{Format, binary32, Float, nan, inf, fin, lt, eq, ne, neg, isNan, fits, up, down, below, level}
-use lib.Ieee.Bits.{is-true}
+use lib.Ieee.{Format, Float, nan, inf, fin, lt, eq, ne, neg, isNan, fits, up, down}
 use lib.Ieee.Back.{whole-unique}
 use lib.Ieee.Fits.{up-pos, and-l}
-use borrow.Author.Tests.{ltb-true, ltb-false, eqb-true, eq-eqb}
+use borrow.Author.Tests.{ltb-true, ltb-false, eq-eqb}
 use Rattle.ieee.specs.Choose.{fabs}
 
 -- only a NaN differs from itself

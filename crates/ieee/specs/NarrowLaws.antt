@@ -1,13 +1,13 @@
 -- Narrowing by cases of the magnitude's bit pattern: which digits go, and the pattern of what is kept. Assumes nothing.
-use Prim.Native.Nat.{ℕ, zero, suc, _+_, _-_, _*_, _/_, _%_, _^_, _≤_, _<_, min}
+use Prim.Native.Nat.{ℕ, suc, _+_, _-_, _*_, _/_, _%_, _^_, _≤_, _<_, min}
 use mathlib.Core.Path.{_≡_, refl, sym, _∙_, ap, subst}
-use mathlib.Core.Bool.{Bool, true, false, cond}
+use mathlib.Core.Bool.{Bool, cond}
 use mathlib.Core.Logic.{_≢_, _⊎_, inl, inr}
-use native.Mathlib.Nat.{zero-add, eq-or-lt-of-le, add-zero, mul-le-mul-left, mul-assoc, mul-comm, mul-one, one-mul, zero-mul, mul-div-mul-right, mul-right-comm, le-div-iff-mul-le, div-lt-iff-lt-mul, mul-le-mul-right, mul-lt-mul-of-pos-right, lt-of-lt-of-le, lt-of-le-of-lt, le-trans, le-of-eq, sub-eq-zero-of-le, min-eq-left, min-eq-right, mul-le-mul, mul-pos, div-eq-of-lt, div-eq-of-lt-le, le-of-lt}
+use native.Mathlib.Nat.{zero-add, eq-or-lt-of-le, add-zero, mul-le-mul-left, mul-assoc, mul-comm, mul-one, mul-div-mul-right, mul-right-comm, le-div-iff-mul-le, div-lt-iff-lt-mul, mul-le-mul-right, mul-lt-mul-of-pos-right, lt-of-lt-of-le, lt-of-le-of-lt, le-trans, le-of-eq, sub-eq-zero-of-le, min-eq-left, min-eq-right, mul-pos}
 use native.Mathlib.Omega.{arith}
 use lib.Dec.{T, leb, lit<, lit≤}
 use lib.Pow.{pow-pos, pow-mono, pow-add}
-use lib.Ieee.{Format, binary32, binary64, Float, nan, inf, fin, prec, low, hid, ones, top, up, down, size, ofBits, toBits, round, fits}
+use lib.Ieee.{binary32, binary64, Float, nan, inf, fin, hid, ones, top, up, down, size, ofBits, toBits, round, fits}
 use lib.Ieee.Digits.{size-le, size-lt}
 use lib.Ieee.Exact.{HasValue}
 use lib.Ieee.Fits.{down-pos, nan-fits, inf-fits, round-fits}

@@ -2,7 +2,7 @@
 -- finite value of u units has the pattern `pattern f u`. Over the format. Assumes nothing.
 use Prim.Native.Nat.{ℕ, zero, suc, _+_, _-_, _*_, _/_, _%_, _^_, _≤_, _<_}
 use mathlib.Core.Path.{_≡_, refl, sym, _∙_, ap, subst}
-use mathlib.Core.Bool.{Bool, true, false, cond}
+use mathlib.Core.Bool.{Bool, true, cond}
 use mathlib.Core.Logic.{_≢_, _⊎_, inl, inr}
 use native.Mathlib.Nat.{mod-mod-of-dvd, dvd-mul-right, mod-eq-of-lt, mul-one, one-mul, mul-div-cancel, le-div-iff-mul-le, lt-irrefl, lt-of-not-le, not-le-of-lt, le-refl, le-antisymm, eq-or-lt-of-le, lt-of-le-of-lt, le-of-suc-le-suc, zero-lt-suc, add-assoc, sub-eq-zero-of-le, mul-le-mul-right, pow-succ', mul-left-comm, mul-assoc, mul-le-mul-left, mod-lt, div-lt-iff-lt-mul, lt-of-lt-of-le, mul-lt-mul-of-pos-right, le-trans, le-of-eq, mul-le-mul, le-add-right, mul-mod-left, mul-pos, div-eq-of-lt-le, div-eq-of-lt, zero-mul}
 use native.Mathlib.Decide.{decLe}
@@ -11,7 +11,7 @@ use lib.Dec.{T, ltb, leb, lit<}
 use native.Mathlib.Numerals.{one-add, add-one}
 use lib.Pow.{pow-pos, pow-mono, pow-lt, pow-add, shl-lt, shl-exact}
 use lib.Ieee.{Format, binary32, binary64, Float, nan, inf, fin, prec, emax, low, hid, ones, top, up, down, size, ofBits, ofFields, toBits, odd, round, fits}
-use lib.Ieee.Digits.{size-lt, size-reaches, size-le}
+use lib.Ieee.Digits.{size-lt, size-le}
 use lib.Ieee.Bits.{ofBits-toBits, ofBits-fits}
 use lib.Ieee.Exact.{HasValue, odd-sign, round-exact}
 use lib.Ieee.Fits.{two, down-pos, round-fits}

@@ -5,7 +5,7 @@ use Prim.Native.Nat.{ℕ, zero, suc, _+_, _-_, _*_, _/_, _%_, _^_, _≤_, _<_, m
 use mathlib.Core.Path.{_≡_, refl, sym, _∙_, ap, subst}
 use mathlib.Core.Bool.{Bool, true, false, cond, not}
 use mathlib.Core.Logic.{_⊎_, inl, inr}
-use native.Mathlib.Nat.{le-trans, le-of-eq, le-of-lt, lt-of-lt-of-le, lt-of-le-of-lt, eq-or-lt-of-le, eq-zero-or-pos, div-div-eq-div-mul, le-div-iff-mul-le, mul-le-mul-right, mul-le-mul-left, mul-assoc, mul-comm, le-of-mul-le-mul-left, lt-of-mul-lt-mul-left, min-eq-left, min-eq-right, pow-succ', mul-left-comm, zero-mul, mul-lt-mul-of-pos-right, div-add-mod', mod-lt, mul-add-div-right, mul-add-mod-self-right, div-eq-of-lt-le, div-lt-iff-lt-mul, div-eq-of-lt, mod-eq-of-lt, add-zero, add-suc, mul-pos}
+use native.Mathlib.Nat.{le-trans, le-of-eq, lt-of-le-of-lt, eq-or-lt-of-le, eq-zero-or-pos, div-div-eq-div-mul, le-div-iff-mul-le, mul-le-mul-right, mul-assoc, mul-comm, le-of-mul-le-mul-left, lt-of-mul-lt-mul-left, min-eq-left, min-eq-right, pow-succ', mul-left-comm, zero-mul, mul-lt-mul-of-pos-right, div-add-mod', mod-lt, mul-add-div-right, mul-add-mod-self-right, div-eq-of-lt-le, div-lt-iff-lt-mul, div-eq-of-lt, mod-eq-of-lt, add-zero, add-suc, mul-pos}
 use native.Mathlib.Numerals.{add-one}
 use lib.Arith.{lt-of-le-ne, mod-mul}
 use borrow.Author.Tests.{eq-eqb, ne-eqb}
@@ -14,7 +14,7 @@ use lib.Dec.{T, ltb, eqb, ltb→lt, nltb→le, lit<, lit≤, isLe, isEq, leb→l
 use lib.Pow.{pow-pos, pow-add}
 use lib.Ieee.{Format, binary32, binary64, inf, prec, emax, low, hid, ones, top, size, odd, units, round, toBits, nearest}
 use lib.Ieee.Digits.{size-reaches}
-use lib.Ieee.Exact.{HasValue, odd-sign}
+use lib.Ieee.Exact.{odd-sign}
 use lib.Ieee.Fits.{eq→eqb, two, kept-lt, nearest-le, round-is}
 use lib.Ieee.Nearest.{closest, closest-same, nearest-ge}
 use lib.Ieee.Order.{drop, kept}

@@ -1,6 +1,6 @@
 -- The whole root: its square is at most n, and the next number's is above n. Assumes nothing.
-use Prim.Native.Nat.{ℕ, zero, suc, _+_, _-_, _*_, _/_, _%_, _^_, _≤_, _<_}
-use mathlib.Core.Path.{_≡_, refl, sym, _∙_, ap, subst}
+use Prim.Native.Nat.{ℕ, zero, suc, _*_, _/_, _^_, _≤_, _<_}
+use mathlib.Core.Path.{_≡_, sym, _∙_, subst}
 use mathlib.Core.Bool.{Bool, true, false, cond, not}
 use native.Mathlib.Nat.{lt-of-lt-of-le, lt-of-le-of-lt, le-trans, le-antisymm, le-of-suc-le-suc, lt-of-not-le, not-le-of-lt, mul-le-mul, pow-le-pow-left, pow-succ', div-lt-iff-lt-mul, mul-comm}
 use native.Mathlib.Omega.{arith}

@@ -4,17 +4,17 @@ use Prim.Native.Nat.{ℕ, zero, suc, _+_, _-_, _*_, _/_, _%_, _^_, _≤_, _<_, m
 use mathlib.Core.Path.{_≡_, refl, sym, _∙_, ap, subst}
 use mathlib.Core.Bool.{Bool, true, false, cond, not, true≢false}
 use mathlib.Core.Logic.{_⊎_, inl, inr, _≢_}
-use native.Mathlib.Nat.{mul-assoc, mul-comm, mul-one, one-mul, zero-mul, mul-pos, mul-right-comm, mul-left-comm, mul-mul-mul-comm, div-add-mod', mod-lt, lt-of-lt-of-le, lt-of-le-of-lt, le-trans, le-of-eq, le-refl, le-of-suc-le-suc, lt-of-not-le, not-le-of-lt, mul-le-mul, mul-le-mul-right, mul-lt-mul-of-pos-right, eq-of-mul-eq-mul-right, mul-div-cancel, mul-div-mul-right, div-div-eq-div-mul, le-div-iff-mul-le, div-lt-iff-lt-mul, div-eq-of-lt-le, pow-succ', pow-zero, eq-zero-or-pos, add-zero, min-eq-left, lt-irrefl, zero-add, zero-div, zero-mod, mod-self, mod-mod-of-dvd, dvd-mul-right, mod-eq-of-lt, le-suc}
+use native.Mathlib.Nat.{mul-assoc, mul-comm, mul-one, one-mul, zero-mul, mul-pos, mul-right-comm, mul-mul-mul-comm, div-add-mod', mod-lt, lt-of-lt-of-le, lt-of-le-of-lt, le-trans, le-of-eq, le-refl, le-of-suc-le-suc, lt-of-not-le, not-le-of-lt, mul-le-mul, mul-le-mul-right, mul-lt-mul-of-pos-right, eq-of-mul-eq-mul-right, mul-div-cancel, mul-div-mul-right, le-div-iff-mul-le, pow-succ', eq-zero-or-pos, add-zero, min-eq-left, lt-irrefl, zero-add, zero-div, zero-mod, mod-self, mod-mod-of-dvd, dvd-mul-right, mod-eq-of-lt, le-suc}
 use native.Mathlib.Decide.{decLe}
 use native.Mathlib.Omega.{arith}
 use lib.Dec.{T, eqb, leb, lit<, lit≤}
 use lib.IntN.{ℤ, pos}
 use lib.Count.{leadingZeros, leading-top}
-use lib.Pow.{pow-pos, pow-add, pow-mono}
-use lib.Ieee.{Format, binary32, binary64, Float, nan, inf, fin, prec, emax, low, hid, ones, top, up, down, size, round, odd, ofBits, ofFields, toBits, isNan, fits}
+use lib.Pow.{pow-pos, pow-add}
+use lib.Ieee.{Format, Float, nan, inf, fin, prec, low, hid, ones, top, up, down, size, odd, ofBits, ofFields, toBits, isNan, fits}
 use lib.Ieee.Bits.{toBits-ofBits}
 use lib.Ieee.Exact.{HasValue}
-use lib.Ieee.Fits.{down-pos, up-pos, two, nan-fits, inf-fits, round-fits}
+use lib.Ieee.Fits.{down-pos, two, nan-fits, inf-fits, round-fits}
 use lib.Ieee.Nearest.{closest}
 use lib.Ieee.Order.{drop, kept}
 use borrow.Author.Tests.{eq-eqb, ne-eqb, le-leb, lt-leb}

@@ -1,7 +1,7 @@
 -- Document 01's functions to whole numbers: "floor, ceil and round are exact, round's halves away from zero"; "casts to whole numbers saturate,
 -- NaN to 0". Each is taken of the magnitude m * 2 ^ e, and the result keeps the sign, a zero's too. Assumes nothing.
 use Prim.Native.Nat.{ℕ, _+_, _*_, _/_, _%_}
-use mathlib.Core.Bool.{Bool, true, false, cond, not, _&&_}
+use mathlib.Core.Bool.{Bool, false, cond, not, _&&_}
 use lib.IntN.{ℤ}
 use lib.Dec.{eqb}
 use lib.Ieee.{Float, nan, inf, fin, Format, up, down, round, toUnsigned}

@@ -2,15 +2,14 @@
 -- the nearest is (2 u + d) / (2 d). Assumes nothing.
 use Prim.Native.Nat.{ℕ, zero, suc, _+_, _-_, _*_, _/_, _%_, _^_, _≤_, _<_, min}
 use mathlib.Core.Path.{_≡_, refl, sym, _∙_, ap, subst}
-use mathlib.Core.Bool.{Bool, true, false, cond, not, _&&_}
-use mathlib.Core.Logic.{_≢_, _⊎_, inl, inr}
-use native.Mathlib.Nat.{mul-assoc, mul-comm, mul-one, one-mul, zero-mul, mul-pos, mul-right-comm, eq-of-mul-eq-mul-right, div-add-mod', mod-lt, add-right-cancel, add-left-cancel, add-mul, eq-zero-or-pos, div-eq-of-lt-le, lt-of-lt-of-le, le-trans, lt-irrefl, add-zero}
-use native.Mathlib.Numerals.{add-one}
+use mathlib.Core.Bool.{Bool, true, false, cond, not}
+use mathlib.Core.Logic.{_⊎_, inl, inr}
+use native.Mathlib.Nat.{mul-assoc, mul-one, zero-mul, mul-pos, mul-right-comm, div-add-mod', mod-lt, add-mul, eq-zero-or-pos, div-eq-of-lt-le, lt-irrefl, add-zero}
 use native.Mathlib.Omega.{arith}
 use lib.Dec.{T, leb, eqb}
 use lib.IntN.{ℤ}
-use lib.Pow.{pow-pos, pow-add}
-use lib.Ieee.{Format, binary32, Float, nan, inf, fin, prec, low, hid, ones, top, up, down, odd, round, ofFields, ofBits, toBits, toUnsigned, fits}
+use lib.Pow.{pow-add}
+use lib.Ieee.{Format, Float, nan, inf, fin, prec, low, hid, ones, top, up, down, odd, round, ofFields, ofBits, toBits, toUnsigned, fits}
 use lib.Ieee.Exact.{HasValue}
 use lib.Ieee.Back.{round-whole}
 use lib.Ieee.Fits.{down-pos, nan-fits, inf-fits, round-fits}

@@ -1,20 +1,20 @@
 -- The functions of Whole.antt by the bit pattern of an f32: a magnitude's pattern a = w % 2 ^ 31 with a field from 150 on is whole, one with a field below 127 is
 -- below 1, and between them the last 150 - field digits are the fraction. Assumes nothing.
-use Prim.Native.Nat.{ℕ, zero, suc, _+_, _-_, _*_, _/_, _%_, _^_, _≤_, _<_, min}
+use Prim.Native.Nat.{ℕ, zero, suc, _+_, _-_, _*_, _/_, _%_, _^_, _≤_, _<_}
 use mathlib.Core.Path.{_≡_, refl, sym, _∙_, ap, subst}
 use mathlib.Core.Bool.{Bool, true, false, cond, not}
 use mathlib.Core.Logic.{_≢_, _⊎_, inl, inr}
-use native.Mathlib.Nat.{mul-assoc, mul-comm, mul-one, one-mul, zero-mul, mul-pos, mul-right-comm, mul-left-comm, div-add-mod', mod-lt, eq-or-lt-of-le, div-eq-of-lt-le, div-eq-of-lt, lt-of-lt-of-le, lt-of-le-of-lt, le-trans, le-of-eq, add-zero, add-assoc, mul-add-div-right, mul-add-mod-self-right, mul-div-cancel, div-div-eq-div-mul, le-div-iff-mul-le, div-lt-iff-lt-mul, mul-le-mul-right, mul-lt-mul-of-pos-right, mul-le-mul-left, div-mul-le-self, mul-div-mul-right, min-eq-left, min-eq-right, add-mul, zero-mod}
+use native.Mathlib.Nat.{mul-assoc, mul-comm, mul-one, mul-pos, mul-left-comm, div-add-mod', eq-or-lt-of-le, div-eq-of-lt-le, div-eq-of-lt, lt-of-lt-of-le, lt-of-le-of-lt, le-trans, add-zero, mul-add-div-right, div-div-eq-div-mul, le-div-iff-mul-le, div-lt-iff-lt-mul, mul-le-mul-right, mul-div-mul-right, add-mul}
 use native.Mathlib.Omega.{arith}
-use lib.Dec.{T, leb, eqb, lit<, lit≤, T-not}
-use lib.Pow.{pow-pos, pow-add, pow-mono}
-use lib.Ieee.{Format, binary32, Float, nan, inf, fin, ofBits, toBits, round, toUnsigned, isNan, nanBits}
+use lib.Dec.{T, leb, lit<, lit≤}
+use lib.Pow.{pow-pos, pow-add}
+use lib.Ieee.{binary32, inf, ofBits, toBits, round}
 use lib.Ieee.Bits.{toBits-ofBits, nanBits-is, nanBits-above}
 use lib.Ieee.Exact.{HasValue}
 use lib.Ieee.Scale.{round-same}
 use Rattle.ieee.specs.Whole.{nextWhole, roundAway}
 use Rattle.ieee.specs.WholeLaws.{nextWhole-units, roundAway-units, whole-pattern}
-use Rattle.ieee.specs.Patterns.{magnitude, magnitude-large, magnitude-lt, magnitude-ge, magnitude-pos, decode, field-of, inf-bits, sign-bit, round-decoded, Digits}
+use Rattle.ieee.specs.Patterns.{magnitude, magnitude-large, magnitude-lt, magnitude-ge, magnitude-pos, decode, field-of, inf-bits, sign-bit, round-decoded}
 
 -- the value of a finite pattern, in units of 2 ^ -149
 value : (w : ℕ) → w % 2 ^ 31 < 255 * 2 ^ 23 → HasValue (ofBits binary32 w) (leb (2 ^ 31) w) (magnitude binary32 (w % 2 ^ 31)) (2 ^ 149)

@@ -1,8 +1,8 @@
 -- `floats::choose::clamp` meets its contract: the tests are the definition's. Assumes nothing.
-use mathlib.Core.Path.{_≡_, refl, sym, ap}
+use mathlib.Core.Path.{_≡_}
 use mathlib.Core.Bool.{cond}
 use mathlib.Core.Logic.{⊎-elim}
-use lib.Ieee.{Float, lt}
+use lib.Ieee.{lt}
 use Rattle.ieee.specs.Choose.{clamp}
 use Rattle.floats.proofs.choose.clamp.Statement.{statement}
 use Rattle.floats.proofs.choose.clamp.Tie as tie

@@ -1,5 +1,4 @@
 -- `floats::choose::min` meets its contract: the tests are the definition's. Assumes nothing.
-use lib.Ieee.{isNan}
 use Rattle.ieee.specs.Choose.{fmin}
 use Rattle.ieee.specs.ChooseLaws.{nan-test}
 use Rattle.floats.proofs.choose.min.Statement.{statement}

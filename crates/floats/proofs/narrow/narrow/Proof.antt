@@ -1,7 +1,6 @@
 -- `floats::narrow::narrow` meets its contract: the word that is read back is that of the narrowed value. Assumes nothing.
 use borrow.Author.Needs.{needs}
-use mathlib.Core.Path.{_≡_, _∙_, ap}
-use lib.Ieee.{binary32, binary64, ofBits, toBits}
+use lib.Ieee.{binary32, binary64}
 use Rattle.ieee.specs.Narrow.{narrow}
 use Rattle.ieee.specs.NarrowLaws.{narrow-fits}
 use Rattle.ieee.specs.Patterns.{by-words}

@@ -1,9 +1,8 @@
 -- `floats::narrow::narrow_word` meets its contract: each branch is a case of NarrowLaws. Assumes nothing.
-use Prim.Native.Nat.{ℕ, _-_, _*_, _%_, _^_, _≤_, _<_}
-use mathlib.Core.Path.{_≡_, ap, sym, subst}
+use Prim.Native.Nat.{_*_, _%_, _^_, _≤_}
 use native.Mathlib.Omega.{arith}
 use borrow.Author.Needs.{needs}
-use lib.Ieee.{binary32, binary64, toBits}
+use lib.Ieee.{binary64, toBits}
 use Rattle.ieee.specs.Nans.{nan-bits}
 use Rattle.ieee.specs.Narrow.{narrow}
 use Rattle.ieee.specs.NarrowLaws.{narrow-large, narrow-normal, narrow-small, narrow-subnormal, normal-room, subnormal-room}

@@ -3,7 +3,7 @@ use borrow.Author.Needs.{needs}
 use mathlib.Core.Path.{sym, subst}
 use mathlib.Core.Bool.{not}
 use lib.Dec.{T}
-use lib.Ieee.{binary32, binary64, fits, isNan, div, ofBits}
+use lib.Ieee.{binary64, fits, isNan, div, ofBits}
 use lib.Ieee.Fits.{and-i, fits-widens}
 use Rattle.ieee.specs.Nans.{no-nan, a-nan}
 use Rattle.floats.proofs.narrow.widen.Statement.{statement}

@@ -1,6 +1,5 @@
 -- `floats::root::sticky_root` meets its contract. Assumes nothing.
-use Prim.Native.Nat.{_*_, _^_, _<_}
-use native.Mathlib.Nat.{lt-of-le-of-lt}
+use Prim.Native.Nat.{_^_, _<_}
 use native.Mathlib.Omega.{arith}
 use borrow.Author.Needs.{needs}
 use Rattle.ieee.specs.SqrtLaws.{Root, root-of, root-below}

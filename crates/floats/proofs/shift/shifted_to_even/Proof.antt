@@ -1,7 +1,7 @@
 -- `floats::shift::shifted_to_even` meets its contract: half a unit less one, and one more where the last digit kept is odd, carries exactly where it
 -- should. Assumes nothing.
-use Prim.Native.Nat.{ℕ, _-_, _*_, _%_, _^_, _≤_, _<_}
-use mathlib.Core.Path.{_≡_, ap, _∙_}
+use Prim.Native.Nat.{_-_, _*_, _%_, _^_, _<_}
+use mathlib.Core.Path.{_≡_}
 use native.Mathlib.Omega.{arith}
 use borrow.Author.Needs.{needs}
 use lib.Pow.{pow-pos, pow-lt}

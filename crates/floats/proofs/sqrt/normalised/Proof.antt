@@ -1,6 +1,6 @@
 -- `floats::sqrt::normalised` meets its contract: the leading zeros say how far the digits can be shifted. Assumes nothing.
-use Prim.Native.Nat.{ℕ, _-_, _*_, _/_, _%_, _^_, _≤_, _<_}
-use mathlib.Core.Path.{_≡_, ap, _∙_, subst, sym}
+use Prim.Native.Nat.{ℕ, _-_, _*_, _%_, _^_, _≤_, _<_}
+use mathlib.Core.Path.{_≡_, subst, sym}
 use mathlib.Core.Logic.{⊎-elim}
 use native.Mathlib.Nat.{mod-eq-of-lt, lt-of-lt-of-le}
 use native.Mathlib.Omega.{arith}

@@ -1,6 +1,6 @@
 -- `floats::sqrt::sqrt64` meets its contract: the word that is read back is that of the root. Assumes nothing.
 use Prim.Native.Nat.{ℕ}
-use mathlib.Core.Path.{_≡_, _∙_, ap, sym, subst}
+use mathlib.Core.Path.{_∙_, ap, sym, subst}
 use borrow.Author.Needs.{needs}
 use lib.Dec.{T}
 use lib.Ieee.{binary64, ofBits, toBits}

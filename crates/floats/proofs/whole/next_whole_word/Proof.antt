@@ -1,6 +1,5 @@
 -- `floats::whole::next_whole_word` meets its contract: each branch is a case of WholeWords. Assumes nothing.
-use Prim.Native.Nat.{ℕ, _+_, _-_, _%_, _/_, _^_, _≤_, _<_}
-use mathlib.Core.Path.{_≡_, sym, ap, subst}
+use Prim.Native.Nat.{_+_, _-_, _%_, _/_, _^_, _≤_}
 use native.Mathlib.Nat.{mod-le}
 use native.Mathlib.Omega.{arith}
 use borrow.Author.Needs.{needs}

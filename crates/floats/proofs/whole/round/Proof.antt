@@ -1,6 +1,6 @@
 -- `floats::whole::round` meets its contract: the word that is read back is that of the rounded value. Assumes nothing.
 use Prim.Native.Nat.{ℕ}
-use mathlib.Core.Path.{_≡_, _∙_, ap}
+use mathlib.Core.Path.{_∙_, ap}
 use borrow.Author.Needs.{needs}
 use lib.Ieee.{binary32, ofBits, toBits}
 use Rattle.ieee.specs.Patterns.{by-words}

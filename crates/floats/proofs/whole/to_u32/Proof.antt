@@ -1,6 +1,6 @@
 -- `floats::whole::to_u32` meets its contract: the cast is taken of the word. Assumes nothing.
 use Prim.Native.Nat.{ℕ}
-use mathlib.Core.Path.{_≡_, _∙_, ap, sym, subst}
+use mathlib.Core.Path.{_∙_, ap, sym, subst}
 use borrow.Author.Needs.{needs}
 use lib.Dec.{T}
 use lib.Ieee.{binary32, ofBits}
