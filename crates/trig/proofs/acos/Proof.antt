@@ -1,0 +1,77 @@
+-- `trig::acos` meets its contract: its steps are the definition's. Assumes nothing.
+use mathlib.Core.Path.{_≡_, refl, sym, _∙_, ap, subst}
+use mathlib.Core.Bool.{true, false}
+use borrow.Author.Needs.{needs}
+use lib.Ieee.{Float, binary64, nan, ofBits, le, lt, mul, sub, div, neg}
+use Rattle.ieee.specs.Choose.{fabs}
+use Rattle.ieee.specs.Narrow.{narrow}
+use Rattle.trig.specs.Series.{one, arc}
+use Rattle.trig.specs.Trig.{acos, half, pi, halfPi, twiceArc}
+use Rattle.trig.proofs.acos.Statement.{statement}
+use Rattle.trig.proofs.acos.Tie as tie
+
+-- the tests, of the argument's size
+inside : (c : tie.Then1) → le (fabs (c .before .before .args .x)) one ≡ true
+unfolding ofBits
+inside c = subst (λ (v : Float). le v one ≡ true) (c .before .abs .ensures) (c .if1 .taken)
+
+outside : (c : tie.Else1) → le (fabs (c .before .before .args .x)) one ≡ false
+unfolding ofBits
+outside c = subst (λ (v : Float). le v one ≡ false) (c .before .abs .ensures) (c .if1 .left)
+
+small : (c : tie.Then2) → le (fabs (c .before .before .before .before .args .x)) half ≡ true
+unfolding ofBits
+small c = subst (λ (v : Float). le v half ≡ true) (c .before .before .before .abs .ensures) (c .if2 .taken)
+
+large : (c : tie.Else2) → le (fabs (c .before .before .before .before .args .x)) half ≡ false
+unfolding ofBits
+large c = subst (λ (v : Float). le v half ≡ false) (c .before .before .before .abs .ensures) (c .if2 .left)
+
+abs-requires : tie.Need-abs-requires
+abs-requires c κs = search needs
+
+widen-requires : tie.Need-widen-requires
+widen-requires c κs = search needs
+
+arc-requires : tie.Need-arc-requires
+arc-requires c κs = search needs
+
+narrow-requires : tie.Need-narrow-requires
+narrow-requires c κs = search needs
+
+returns : tie.Need-returns
+unfolding acos
+returns c =
+    let t = c .before .before in
+    rw (inside (t .before .before), small t) (c .narrow .ensures ∙ ap (λ (v : Float). narrow (sub binary64 halfPi v)) (c .before .arc .ensures ∙ ap arc (t .before .widen .ensures)))
+
+twice-arc-requires : tie.Need-twice-arc-requires
+twice-arc-requires c κs = search needs
+
+narrow-requires-2 : tie.Need-narrow-requires-2
+narrow-requires-2 c κs = search needs
+
+returns-2 : tie.Need-returns-2
+unfolding acos ofBits
+returns-2 c =
+    let t = c .before .before in
+    rw (inside (t .before .before .before), large (t .before), t .if3 .taken) (c .narrow2 .ensures ∙ ap narrow (c .before .twice-arc .ensures ∙ ap twiceArc (t .before .before .widen .ensures)))
+
+twice-arc-requires-2 : tie.Need-twice-arc-requires-2
+twice-arc-requires-2 c κs = search needs
+
+narrow-requires-3 : tie.Need-narrow-requires-3
+narrow-requires-3 c κs = search needs
+
+returns-3 : tie.Need-returns-3
+unfolding acos ofBits
+returns-3 c =
+    let t = c .before .before in
+    rw (inside (t .before .before .before), large (t .before), t .if3 .left) (c .narrow3 .ensures ∙ ap (λ (v : Float). narrow (sub binary64 pi v)) (c .before .twice-arc2 .ensures ∙ ap (λ (w : Float). twiceArc (neg w)) (t .before .before .widen .ensures)))
+
+returns-4 : tie.Need-returns-4
+unfolding acos div ofBits
+returns-4 c = rw (outside c)
+
+pub acos-spec : {M : Type 1} → statement M
+acos-spec = tie.close (tie.spec abs-requires widen-requires arc-requires narrow-requires returns twice-arc-requires narrow-requires-2 returns-2 twice-arc-requires-2 narrow-requires-3 returns-3 returns-4)

@@ -1,0 +1,42 @@
+-- `trig::series_step` meets its contract. Assumes nothing.
+use Prim.Native.Nat.{ℕ, _+_, _-_, _*_, _≤_}
+use mathlib.Core.Path.{refl}
+use native.Mathlib.Nat.{mul-le-mul}
+use native.Mathlib.Omega.{arith}
+use borrow.Author.Needs.{needs}
+use Rattle.trig.specs.Series.{seriesStep}
+use Rattle.trig.proofs.series_step.Statement.{statement}
+use Rattle.trig.proofs.series_step.Tie as tie
+
+mul-divisor : tie.Need-mul-divisor
+mul-divisor c = search needs
+
+sub-divisor : tie.Need-sub-divisor
+sub-divisor c = search needs
+
+mul-divisor-2 : tie.Need-mul-divisor-2
+mul-divisor-2 c = search needs
+
+add-divisor : tie.Need-add-divisor
+add-divisor c = search needs
+
+sub-divisor-2 : tie.Need-sub-divisor-2
+sub-divisor-2 c = search needs
+
+mul-divisor-3 : tie.Need-mul-divisor-3
+mul-divisor-3 c =
+    let a : 2 * c .args .m - c .args .s ≤ 40 = omega arith in
+    let b : 2 * c .args .m + 1 - c .args .s ≤ 41 = omega arith in
+    omega (arith, mul-le-mul a b)
+
+int-to-float-divisor : tie.Need-int-to-float-divisor
+int-to-float-divisor c = search needs
+
+returns : tie.Need-returns
+unfolding seriesStep
+returns c = refl
+
+pub series-step-spec : {M : Type 1} → statement M
+series-step-spec =
+    tie.close
+    (tie.spec mul-divisor sub-divisor mul-divisor-2 add-divisor sub-divisor-2 mul-divisor-3 int-to-float-divisor returns)
