@@ -1,3 +1,4 @@
+pub mod Single
 pub mod Choose
 pub mod ChooseLaws
 pub mod Whole

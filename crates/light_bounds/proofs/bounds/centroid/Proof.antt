@@ -1,0 +1,12 @@
+-- `light_bounds::bounds::centroid` meets its contract: its steps are the definition's. Assumes nothing.
+use mathlib.Core.Path.{refl}
+use Rattle.light_bounds.specs.Boxes.{centroid}
+use Rattle.light_bounds.proofs.bounds.centroid.Statement.{statement}
+use Rattle.light_bounds.proofs.bounds.centroid.Tie as tie
+
+returns : tie.Need-returns
+unfolding centroid
+returns c = refl
+
+pub centroid-spec : {M : Type 1} → statement M
+centroid-spec = tie.close (tie.spec returns)

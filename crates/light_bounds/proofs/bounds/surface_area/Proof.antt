@@ -1,0 +1,18 @@
+-- `light_bounds::bounds::surface_area` meets its contract: its steps are the definition's. Assumes nothing.
+use mathlib.Core.Path.{_≡_, refl, sym, _∙_, ap, ap₂}
+use Rattle.ieee.specs.Single.{_⊕_, _⊗_, two}
+use Rattle.light_bounds.specs.Boxes.{surfaceArea}
+use Rattle.light_bounds.specs.declared.vecmath.Vec3.{Vec3}
+use borrow.Author.Needs.{needs}
+use Rattle.light_bounds.proofs.bounds.surface_area.Statement.{statement}
+use Rattle.light_bounds.proofs.bounds.surface_area.Tie as tie
+
+diagonal-requires : tie.Need-diagonal-requires
+diagonal-requires c κs = search needs
+
+returns : tie.Need-returns
+unfolding surfaceArea
+returns c = ap (λ (d : Vec3). two ⊗ (d .x ⊗ d .y ⊕ d .y ⊗ d .z ⊕ d .z ⊗ d .x)) (c .before .before .before .diagonal .ensures)
+
+pub surface-area-spec : {M : Type 1} → statement M
+surface-area-spec = tie.close (tie.spec diagonal-requires returns)

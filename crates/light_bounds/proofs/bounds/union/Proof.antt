@@ -1,0 +1,18 @@
+-- `light_bounds::bounds::union` meets its contract: its steps are the definition's. Assumes nothing.
+use Rattle.light_bounds.specs.Boxes.{boxUnion}
+use borrow.Author.Needs.{needs}
+use Rattle.light_bounds.proofs.bounds.union.Statement.{statement}
+use Rattle.light_bounds.proofs.bounds.union.Tie as tie
+
+lesser-requires : tie.Need-lesser-requires
+lesser-requires c κs = search needs
+
+greater-requires : tie.Need-greater-requires
+greater-requires c κs = search needs
+
+returns : tie.Need-returns
+unfolding boxUnion
+returns c = λ i. record { min = c .before .lesser .ensures i; max = c .greater .ensures i }
+
+pub union-spec : {M : Type 1} → statement M
+union-spec = tie.close (tie.spec lesser-requires greater-requires returns)

@@ -1,0 +1,15 @@
+-- `light_bounds::cones::cos_sub_clamped` meets its contract: its steps are the definition's. Assumes nothing.
+use Rattle.light_bounds.specs.Cones.{cosSubClamped}
+use Rattle.light_bounds.proofs.cones.cos_sub_clamped.Statement.{statement}
+use Rattle.light_bounds.proofs.cones.cos_sub_clamped.Tie as tie
+
+returns : tie.Need-returns
+unfolding cosSubClamped
+returns c = rw (c .if1 .taken)
+
+returns-2 : tie.Need-returns-2
+unfolding cosSubClamped
+returns-2 c = rw (c .if1 .left)
+
+pub cos-sub-clamped-spec : {M : Type 1} → statement M
+cos-sub-clamped-spec = tie.close (tie.spec returns returns-2)

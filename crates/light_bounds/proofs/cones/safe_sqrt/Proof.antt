@@ -1,0 +1,21 @@
+-- `light_bounds::cones::safe_sqrt` meets its contract: its steps are the definition's. Assumes nothing.
+use mathlib.Core.Path.{_≡_, refl, sym, _∙_, ap, ap₂}
+use lib.Ieee.{binary32}
+use Rattle.ieee.specs.Sqrt.{sqrt}
+use Rattle.light_bounds.specs.Cones.{safeSqrt}
+use borrow.Author.Needs.{needs}
+use Rattle.light_bounds.proofs.cones.safe_sqrt.Statement.{statement}
+use Rattle.light_bounds.proofs.cones.safe_sqrt.Tie as tie
+
+max-requires : tie.Need-max-requires
+max-requires c κs = search needs
+
+sqrt-requires : tie.Need-sqrt-requires
+sqrt-requires c κs = search needs
+
+returns : tie.Need-returns
+unfolding safeSqrt
+returns c = c .sqrt .ensures ∙ ap (sqrt binary32) (c .before .max .ensures)
+
+pub safe-sqrt-spec : {M : Type 1} → statement M
+safe-sqrt-spec = tie.close (tie.spec max-requires sqrt-requires returns)

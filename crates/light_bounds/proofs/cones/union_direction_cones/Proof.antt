@@ -1,0 +1,82 @@
+-- `light_bounds::cones::union_direction_cones` meets its contract: its steps are the definition's. Assumes nothing.
+use mathlib.Core.Path.{_≡_, sym, _∙_, ap}
+use lib.Ieee.{Float, le, neg, ofBits}
+use Rattle.ieee.specs.Choose.{fmin, clamp}
+use Rattle.ieee.specs.Single.{_⊕_, _⊗_, half, one, minusOne, pi}
+use Rattle.trig.specs.Trig.{acos}
+use Rattle.light_bounds.specs.Cones.{unionDirectionCones, joined}
+use Rattle.light_bounds.specs.Vectors.{angleBetween}
+use borrow.Author.Needs.{needs}
+use Rattle.light_bounds.proofs.cones.union_direction_cones.Statement.{statement}
+use Rattle.light_bounds.proofs.cones.union_direction_cones.Tie as tie
+
+-- the three angles
+theta-a : (c : tie.After-acos) → acos (clamp (c .before .before .args .cos-a) minusOne one) ≡ c .acos .result
+unfolding neg ofBits
+theta-a c = sym (c .acos .ensures ∙ ap acos (c .before .clamp .ensures))
+
+theta-b : (c : tie.After-acos2) → acos (clamp (c .before .before .before .before .args .cos-b) minusOne one) ≡ c .acos2 .result
+unfolding neg ofBits
+theta-b c = sym (c .acos2 .ensures ∙ ap acos (c .before .clamp2 .ensures))
+
+theta-d : (c : tie.After-angle-between) → (let s = c .before .before .before .before .before .args in angleBetween (s .a) (s .b)) ≡ c .angle-between .result
+theta-d c = sym (c .angle-between .ensures)
+
+-- the two sums, at most half a turn
+first : (c : tie.After-min) → fmin (c .before .angle-between .result ⊕ c .before .before .acos2 .result) pi ≡ c .min .result
+first c = sym (c .min .ensures)
+
+second : (c : tie.After-min2) → fmin (c .before .before .before .angle-between .result ⊕ c .before .before .before .before .before .before .acos .result) pi ≡ c .min2 .result
+second c = sym (c .min2 .ensures)
+
+clamp-requires : tie.Need-clamp-requires
+clamp-requires c κs = search needs
+
+acos-requires : tie.Need-acos-requires
+acos-requires c κs = search needs
+
+clamp-requires-2 : tie.Need-clamp-requires-2
+clamp-requires-2 c κs = search needs
+
+acos-requires-2 : tie.Need-acos-requires-2
+acos-requires-2 c κs = search needs
+
+angle-between-requires : tie.Need-angle-between-requires
+angle-between-requires c κs = search needs
+
+min-requires : tie.Need-min-requires
+min-requires c κs = search needs
+
+returns : tie.Need-returns
+unfolding unionDirectionCones
+returns c = rw (theta-a (c .before .before .before .before .before), theta-b (c .before .before .before), theta-d (c .before .before), first (c .before), c .if1 .taken)
+
+min-requires-2 : tie.Need-min-requires-2
+min-requires-2 c κs = search needs
+
+returns-2 : tie.Need-returns-2
+unfolding unionDirectionCones
+returns-2 c = rw (theta-a (c .before .before .before .before .before .before .before), theta-b (c .before .before .before .before .before), theta-d (c .before .before .before .before), first (c .before .before .before), c .before .before .if1 .left, second (c .before), c .if2 .taken)
+
+join-requires : tie.Need-join-requires
+join-requires c κs = search needs
+
+returns-3 : tie.Need-returns-3
+unfolding unionDirectionCones
+returns-3 c = rw (theta-a (c .before .before .before .before .before .before .before .before), theta-b (c .before .before .before .before .before .before), theta-d (c .before .before .before .before .before), first (c .before .before .before .before), c .before .before .before .if1 .left, second (c .before .before), c .before .if2 .left) (c .join .ensures)
+
+pub union-direction-cones-spec : {M : Type 1} → statement M
+union-direction-cones-spec =
+    tie.close
+    (tie.spec
+    clamp-requires
+    acos-requires
+    clamp-requires-2
+    acos-requires-2
+    angle-between-requires
+    min-requires
+    returns
+    min-requires-2
+    returns-2
+    join-requires
+    returns-3)

@@ -1,0 +1,52 @@
+-- `light_bounds::vecmath::angle_between` meets its contract: its steps are the definition's. Assumes nothing.
+use mathlib.Core.Path.{_≡_, refl, sym, _∙_, ap, ap₂, subst}
+use lib.Ieee.{Float}
+use Rattle.ieee.specs.Single.{_⊕_, _⊖_, _⊗_, _⊘_, zero, one, two, pi}
+use Rattle.trig.specs.Trig.{asin}
+use Rattle.light_bounds.specs.Vectors.{dot, plus, minus, length, angleBetween}
+use borrow.Author.Needs.{needs}
+use Rattle.light_bounds.proofs.vecmath.angle_between.Statement.{statement}
+use Rattle.light_bounds.proofs.vecmath.angle_between.Tie as tie
+
+dot-requires : tie.Need-dot-requires
+dot-requires c κs = search needs
+
+add-requires : tie.Need-add-requires
+add-requires c κs = search needs
+
+length-requires : tie.Need-length-requires
+length-requires c κs = search needs
+
+asin-requires : tie.Need-asin-requires
+asin-requires c κs = search needs
+
+sub-requires : tie.Need-sub-requires
+sub-requires c κs = search needs
+
+length-requires-2 : tie.Need-length-requires-2
+length-requires-2 c κs = search needs
+
+asin-requires-2 : tie.Need-asin-requires-2
+asin-requires-2 c κs = search needs
+
+returns : tie.Need-returns
+unfolding angleBetween
+returns c = rw (← c .before .before .before .before .dot .ensures, c .before .before .before .if1 .taken) (ap (λ (v : Float). pi ⊖ two ⊗ v) (c .asin .ensures ∙ ap (λ (l : Float). asin (l ⊘ two)) (c .before .length .ensures ∙ ap length (c .before .before .add .ensures))))
+
+returns-2 : tie.Need-returns-2
+unfolding angleBetween
+returns-2 c = rw (← c .before .before .before .before .dot .ensures, c .before .before .before .if1 .left) (ap (λ (v : Float). two ⊗ v) (c .asin2 .ensures ∙ ap (λ (l : Float). asin (l ⊘ two)) (c .before .length2 .ensures ∙ ap length (c .before .before .sub .ensures))))
+
+pub angle-between-spec : {M : Type 1} → statement M
+angle-between-spec =
+    tie.close
+    (tie.spec
+    dot-requires
+    add-requires
+    length-requires
+    asin-requires
+    sub-requires
+    length-requires-2
+    asin-requires-2
+    returns
+    returns-2)

@@ -1,0 +1,12 @@
+-- `light_bounds::vecmath::cross` meets its contract: its steps are the definition's. Assumes nothing.
+use mathlib.Core.Path.{refl}
+use Rattle.light_bounds.specs.Vectors.{cross}
+use Rattle.light_bounds.proofs.vecmath.cross.Statement.{statement}
+use Rattle.light_bounds.proofs.vecmath.cross.Tie as tie
+
+returns : tie.Need-returns
+unfolding cross
+returns c = refl
+
+pub cross-spec : {M : Type 1} → statement M
+cross-spec = tie.close (tie.spec returns)

@@ -1,0 +1,12 @@
+-- `light_bounds::vecmath::dot` meets its contract: its steps are the definition's. Assumes nothing.
+use mathlib.Core.Path.{refl}
+use Rattle.light_bounds.specs.Vectors.{dot}
+use Rattle.light_bounds.proofs.vecmath.dot.Statement.{statement}
+use Rattle.light_bounds.proofs.vecmath.dot.Tie as tie
+
+returns : tie.Need-returns
+unfolding dot
+returns c = refl
+
+pub dot-spec : {M : Type 1} → statement M
+dot-spec = tie.close (tie.spec returns)

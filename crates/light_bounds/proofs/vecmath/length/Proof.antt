@@ -1,0 +1,21 @@
+-- `light_bounds::vecmath::length` meets its contract: its steps are the definition's. Assumes nothing.
+use mathlib.Core.Path.{_≡_, refl, sym, _∙_, ap, subst}
+use lib.Ieee.{binary32}
+use Rattle.ieee.specs.Sqrt.{sqrt}
+use Rattle.light_bounds.specs.Vectors.{length}
+use borrow.Author.Needs.{needs}
+use Rattle.light_bounds.proofs.vecmath.length.Statement.{statement}
+use Rattle.light_bounds.proofs.vecmath.length.Tie as tie
+
+dot-requires : tie.Need-dot-requires
+dot-requires c κs = search needs
+
+sqrt-requires : tie.Need-sqrt-requires
+sqrt-requires c κs = search needs
+
+returns : tie.Need-returns
+unfolding length
+returns c = c .sqrt .ensures ∙ ap (sqrt binary32) (c .before .dot .ensures)
+
+pub length-spec : {M : Type 1} → statement M
+length-spec = tie.close (tie.spec dot-requires sqrt-requires returns)

@@ -1,0 +1,40 @@
+-- `light_bounds::vecmath::normalize` meets its contract: its steps are the definition's. Assumes nothing.
+use mathlib.Core.Path.{_≡_, refl, sym, _∙_, ap, subst}
+use mathlib.Core.Bool.{true, false}
+use lib.Ieee.{Float, ofBits, eq}
+use lib.Ieee.Scale.{finite}
+use Rattle.ieee.specs.Single.{zero, one, _⊘_}
+use Rattle.words.specs.Answers.{given}
+use Rattle.light_bounds.specs.Vectors.{length, normalize, scaled}
+use borrow.Author.Needs.{needs}
+use Rattle.light_bounds.proofs.vecmath.normalize.Statement.{statement}
+use Rattle.light_bounds.proofs.vecmath.normalize.Tie as tie
+
+known : (c : tie.After-is-finite) → finite (length (c .before .before .args .v)) ≡ c .is-finite .result
+known c = sym (c .is-finite .ensures ∙ ap finite (c .before .length .ensures))
+
+length-requires : tie.Need-length-requires
+length-requires c κs = search needs
+
+is-finite-requires : tie.Need-is-finite-requires
+is-finite-requires c κs = search needs
+
+returns : tie.Need-returns
+unfolding normalize
+returns c = rw (known (c .before), c .if1 .taken)
+
+returns-2 : tie.Need-returns-2
+unfolding normalize ofBits
+returns-2 c = rw (known (c .before .before), c .before .if1 .left, ← c .before .before .before .length .ensures, c .if2 .taken)
+
+scale-vector-requires : tie.Need-scale-vector-requires
+scale-vector-requires c κs = search needs
+
+returns-3 : tie.Need-returns-3
+unfolding normalize ofBits
+returns-3 c = rw (known (c .before .before .before), c .before .before .if1 .left, ← c .before .before .before .before .length .ensures, c .before .if2 .left) (ap given (c .scale-vector .ensures))
+
+pub normalize-spec : {M : Type 1} → statement M
+normalize-spec =
+    tie.close
+    (tie.spec length-requires is-finite-requires returns returns-2 scale-vector-requires returns-3)

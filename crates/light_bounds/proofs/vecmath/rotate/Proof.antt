@@ -1,0 +1,67 @@
+-- `light_bounds::vecmath::rotate` meets its contract: its steps are the definition's. Assumes nothing.
+use mathlib.Core.Path.{_≡_, _∙_, ap, ap₂}
+use lib.Ieee.{Float}
+use Rattle.ieee.specs.Single.{_⊖_, _⊗_, one}
+use Rattle.light_bounds.specs.Vectors.{plus, scaled, rotate}
+use borrow.Author.Needs.{needs}
+use Rattle.light_bounds.proofs.vecmath.rotate.Statement.{statement}
+use Rattle.light_bounds.proofs.vecmath.rotate.Tie as tie
+
+sin-requires : tie.Need-sin-requires
+sin-requires c κs = search needs
+
+cos-requires : tie.Need-cos-requires
+cos-requires c κs = search needs
+
+scale-vector-requires : tie.Need-scale-vector-requires
+scale-vector-requires c κs = search needs
+
+cross-requires : tie.Need-cross-requires
+cross-requires c κs = search needs
+
+scale-vector-requires-2 : tie.Need-scale-vector-requires-2
+scale-vector-requires-2 c κs = search needs
+
+add-requires : tie.Need-add-requires
+add-requires c κs = search needs
+
+dot-requires : tie.Need-dot-requires
+dot-requires c κs = search needs
+
+scale-vector-requires-3 : tie.Need-scale-vector-requires-3
+scale-vector-requires-3 c κs = search needs
+
+add-requires-2 : tie.Need-add-requires-2
+add-requires-2 c κs = search needs
+
+returns : tie.Need-returns
+unfolding rotate
+returns c = 
+    let c8 = c .before in
+    let c7 = c8 .before in
+    let c6 = c7 .before in
+    let c5 = c6 .before in
+    let c4 = c5 .before in
+    let c3 = c4 .before in
+    let c2 = c3 .before in
+    let c1 = c2 .before in
+    let a = c1 .before .args in
+    c .add2 .ensures
+    ∙ ap₂ plus
+    (c6 .add .ensures ∙ ap₂ plus (c3 .scale-vector .ensures ∙ ap (scaled (a .v)) (c2 .cos .ensures)) (c5 .scale-vector2 .ensures ∙ ap₂ scaled (c4 .cross .ensures) (c1 .sin .ensures)))
+    (c8 .scale-vector3 .ensures ∙ ap (scaled (a .axis)) (ap₂ (λ (d k : Float). d ⊗ (one ⊖ k)) (c7 .dot .ensures) (c2 .cos .ensures)))
+
+pub rotate-spec : {M : Type 1} → statement M
+rotate-spec =
+    tie.close
+    (tie.spec
+    sin-requires
+    cos-requires
+    scale-vector-requires
+    cross-requires
+    scale-vector-requires-2
+    add-requires
+    dot-requires
+    scale-vector-requires-3
+    add-requires-2
+    returns)

@@ -1,0 +1,98 @@
+// Boxes (specs/Boxes.antt).
+ghost use mathlib.Core.Path.{_≡_};
+ghost use Rattle.light_bounds.specs.Boxes.{boxCheck, boxUnion, diagonal as diagonalOf, centroid as centroidOf, surfaceArea, leastOf, greatestOf, validity};
+use floats::choose::max;
+use floats::choose::min;
+use super::vecmath::Vec3;
+use super::vecmath::is_finite_vec;
+use words::refusal::Refusal;
+
+pub struct Bounds3 {
+    pub min: Vec3,
+    pub max: Vec3,
+}
+
+// Whether a box or a record passes its check.
+pub enum Validity {
+    Valid,
+    Refused(Refusal),
+}
+
+// Every coordinate finite (5), no min above its max (6).
+pub fn check(b: Bounds3) -> Validity
+    ensures { λ r. ⌜ validity r ≡ boxCheck b ⌝ }
+{
+    if !is_finite_vec(b.min) {
+        return Validity::Refused(Refusal::NotFinite);
+    }
+    if !is_finite_vec(b.max) {
+        return Validity::Refused(Refusal::NotFinite);
+    }
+    if b.min.x > b.max.x {
+        return Validity::Refused(Refusal::Inverted);
+    }
+    if b.min.y > b.max.y {
+        return Validity::Refused(Refusal::Inverted);
+    }
+    if b.min.z > b.max.z {
+        return Validity::Refused(Refusal::Inverted);
+    }
+    Validity::Valid
+}
+
+// The box around both, axis by axis.
+pub fn union(a: Bounds3, b: Bounds3) -> Bounds3
+    ensures { λ r. ⌜ r ≡ boxUnion a b ⌝ }
+{
+    Bounds3 {
+        min: lesser(a.min, b.min),
+        max: greater(a.max, b.max),
+    }
+}
+
+fn lesser(a: Vec3, b: Vec3) -> Vec3
+    ensures { λ r. ⌜ r ≡ leastOf a b ⌝ }
+{
+    Vec3 {
+        x: min(a.x, b.x),
+        y: min(a.y, b.y),
+        z: min(a.z, b.z),
+    }
+}
+
+fn greater(a: Vec3, b: Vec3) -> Vec3
+    ensures { λ r. ⌜ r ≡ greatestOf a b ⌝ }
+{
+    Vec3 {
+        x: max(a.x, b.x),
+        y: max(a.y, b.y),
+        z: max(a.z, b.z),
+    }
+}
+
+pub fn diagonal(b: Bounds3) -> Vec3
+    ensures { λ r. ⌜ r ≡ diagonalOf b ⌝ }
+{
+    Vec3 {
+        x: b.max.x - b.min.x,
+        y: b.max.y - b.min.y,
+        z: b.max.z - b.min.z,
+    }
+}
+
+pub fn centroid(b: Bounds3) -> Vec3
+    ensures { λ r. ⌜ r ≡ centroidOf b ⌝ }
+{
+    Vec3 {
+        x: (b.min.x + b.max.x) * 0.5,
+        y: (b.min.y + b.max.y) * 0.5,
+        z: (b.min.z + b.max.z) * 0.5,
+    }
+}
+
+pub fn surface_area(b: Bounds3) -> f32
+    ensures { λ r. ⌜ r ≡ surfaceArea b ⌝ }
+{
+    let d = diagonal(b);
+    2.0 * (d.x * d.y + d.y * d.z + d.z * d.x)
+}

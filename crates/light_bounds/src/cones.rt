@@ -1,0 +1,137 @@
+// Cones of directions (specs/Cones.antt).
+ghost use mathlib.Core.Path.{_≡_};
+ghost use Rattle.light_bounds.specs.Cones.{cosSubClamped, sinSubClamped, safeSqrt, boundSubtendedDirections, unionDirectionCones, axisOr, joined, wholeSphere};
+ghost use Rattle.light_bounds.specs.Vectors.{normalized};
+use floats::choose::clamp;
+use floats::choose::max;
+use floats::choose::min;
+use floats::sqrt::sqrt as root;
+use super::bounds::Bounds3;
+use super::bounds::centroid;
+use super::bounds::diagonal;
+use super::vecmath::Direction;
+use super::vecmath::Vec3;
+use super::vecmath::angle_between;
+use super::vecmath::cross;
+use super::vecmath::dot;
+use super::vecmath::length;
+use super::vecmath::normalize;
+use super::vecmath::rotate;
+use super::vecmath::sub;
+use trig::acos;
+use trig::cos;
+
+// The directions within an angle of one, by its cosine.
+pub struct Cone {
+    pub direction: Vec3,
+    pub cos_theta: f32,
+}
+
+pub fn safe_sqrt(value: f32) -> f32
+    ensures { λ r. ⌜ r ≡ safeSqrt value ⌝ }
+{
+    root(max(value, 0.0))
+}
+
+// The cosine of a - b, and of 0 where a is the smaller angle.
+pub fn cos_sub_clamped(sin_a: f32, cos_a: f32, sin_b: f32, cos_b: f32) -> f32
+    ensures { λ r. ⌜ r ≡ cosSubClamped «sin_a» «cos_a» «sin_b» «cos_b» ⌝ }
+{
+    if cos_a > cos_b {
+        1.0
+    } else {
+        cos_a * cos_b + sin_a * sin_b
+    }
+}
+
+// The sine likewise.
+pub fn sin_sub_clamped(sin_a: f32, cos_a: f32, sin_b: f32, cos_b: f32) -> f32
+    ensures { λ r. ⌜ r ≡ sinSubClamped «sin_a» «cos_a» «sin_b» «cos_b» ⌝ }
+{
+    if cos_a > cos_b {
+        0.0
+    } else {
+        sin_a * cos_b - cos_a * sin_b
+    }
+}
+
+// The cosine of the angle under which a box is seen from p, -1 inside its ball.
+pub fn bound_subtended_directions(bounds: Bounds3, p: Vec3) -> f32
+    ensures { λ r. ⌜ r ≡ boundSubtendedDirections bounds p ⌝ }
+{
+    let radius = 0.5 * length(diagonal(bounds));
+    let to_center = sub(centroid(bounds), p);
+    let d2 = dot(to_center, to_center);
+    if d2 < radius * radius {
+        return -1.0;
+    }
+    if d2 == 0.0 {
+        return -1.0;
+    }
+    safe_sqrt(1.0 - radius * radius / d2)
+}
+
+// The cone around both cones.
+pub fn union_direction_cones(a: Vec3, cos_a: f32, b: Vec3, cos_b: f32) -> Cone
+    ensures { λ r. ⌜ r ≡ unionDirectionCones a «cos_a» b «cos_b» ⌝ }
+{
+    let theta_a = acos(clamp(cos_a, -1.0, 1.0));
+    let theta_b = acos(clamp(cos_b, -1.0, 1.0));
+    let theta_d = angle_between(a, b);
+    if min(theta_d + theta_b, 3.1415927) <= theta_a {
+        return Cone {
+            direction: a,
+            cos_theta: cos_a,
+        };
+    }
+    if min(theta_d + theta_a, 3.1415927) <= theta_b {
+        return Cone {
+            direction: b,
+            cos_theta: cos_b,
+        };
+    }
+    join(a, b, theta_a, (theta_a + theta_d + theta_b) * 0.5)
+}
+
+// The cone of half the angle theta_o, from a's far side to b's: every direction where that is half a turn or more, or the axes are parallel.
+fn join(a: Vec3, b: Vec3, theta_a: f32, theta_o: f32) -> Cone
+    ensures { λ r. ⌜ r ≡ joined a b «theta_a» «theta_o» ⌝ }
+{
+    if theta_o >= 3.1415927 {
+        return everywhere();
+    }
+    let axis = cross(a, b);
+    if dot(axis, axis) == 0.0 {
+        return everywhere();
+    }
+    Cone {
+        direction: rotate(a, unit_or_z(normalize(axis)), theta_o - theta_a),
+        cos_theta: cos(theta_o),
+    }
+}
+
+fn everywhere() -> Cone
+    ensures { λ r. ⌜ r ≡ wholeSphere ⌝ }
+{
+    Cone {
+        direction: Vec3 {
+            x: 0.0,
+            y: 0.0,
+            z: 1.0,
+        },
+        cos_theta: -1.0,
+    }
+}
+
+fn unit_or_z(unit: Direction) -> Vec3
+    ensures { λ r. ⌜ r ≡ axisOr (normalized unit) ⌝ }
+{
+    match unit {
+        Direction::Unit(u) => u,
+        Direction::Refused(_) => Vec3 {
+            x: 0.0,
+            y: 0.0,
+            z: 1.0,
+        },
+    }
+}

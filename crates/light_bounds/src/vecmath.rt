@@ -1,0 +1,128 @@
+// Vectors of three f32, by value (specs/Vectors.antt). Sums run left to right, each step rounded once.
+ghost use mathlib.Core.Path.{_≡_};
+ghost use lib.Ieee.Scale.{finite};
+ghost use Rattle.light_bounds.specs.Vectors.{dot as dotOf, cross as crossOf, plus, minus, scaled, normalized, normalize as normalizeOf, finiteVec, rotate as rotateOf, angleBetween, length as lengthOf};
+use floats::sqrt::sqrt as root;
+use trig::asin;
+use trig::cos;
+use trig::sin;
+use words::refusal::Refusal;
+
+pub struct Vec3 {
+    pub x: f32,
+    pub y: f32,
+    pub z: f32,
+}
+
+pub fn is_finite(x: f32) -> bool
+    ensures { λ r. ⌜ r ≡ finite x ⌝ }
+{
+    if x < 1.0 / 0.0 {
+        -1.0 / 0.0 < x
+    } else {
+        false
+    }
+}
+
+pub fn is_finite_vec(v: Vec3) -> bool
+    ensures { λ r. ⌜ r ≡ finiteVec v ⌝ }
+{
+    if is_finite(v.x) {
+        if is_finite(v.y) { is_finite(v.z) } else { false }
+    } else {
+        false
+    }
+}
+
+pub fn dot(a: Vec3, b: Vec3) -> f32
+    ensures { λ r. ⌜ r ≡ dotOf a b ⌝ }
+{
+    a.x * b.x + a.y * b.y + a.z * b.z
+}
+
+pub fn add(a: Vec3, b: Vec3) -> Vec3
+    ensures { λ r. ⌜ r ≡ plus a b ⌝ }
+{
+    Vec3 {
+        x: a.x + b.x,
+        y: a.y + b.y,
+        z: a.z + b.z,
+    }
+}
+
+pub fn sub(a: Vec3, b: Vec3) -> Vec3
+    ensures { λ r. ⌜ r ≡ minus a b ⌝ }
+{
+    Vec3 {
+        x: a.x - b.x,
+        y: a.y - b.y,
+        z: a.z - b.z,
+    }
+}
+
+pub fn cross(a: Vec3, b: Vec3) -> Vec3
+    ensures { λ r. ⌜ r ≡ crossOf a b ⌝ }
+{
+    Vec3 {
+        x: a.y * b.z - a.z * b.y,
+        y: a.z * b.x - a.x * b.z,
+        z: a.x * b.y - a.y * b.x,
+    }
+}
+
+pub fn scale_vector(v: Vec3, scale: f32) -> Vec3
+    ensures { λ r. ⌜ r ≡ scaled v scale ⌝ }
+{
+    Vec3 {
+        x: v.x * scale,
+        y: v.y * scale,
+        z: v.z * scale,
+    }
+}
+
+pub fn length(v: Vec3) -> f32
+    ensures { λ r. ⌜ r ≡ lengthOf v ⌝ }
+{
+    root(dot(v, v))
+}
+
+// A vector of length 1, or why there is none.
+pub enum Direction {
+    Unit(Vec3),
+    Refused(Refusal),
+}
+
+// By the reciprocal of the length; the packed file divides instead.
+pub fn normalize(v: Vec3) -> Direction
+    ensures { λ r. ⌜ normalized r ≡ normalizeOf v ⌝ }
+{
+    let l = length(v);
+    if !is_finite(l) {
+        return Direction::Refused(Refusal::NoDirection);
+    }
+    if l == 0.0 {
+        return Direction::Refused(Refusal::NoDirection);
+    }
+    Direction::Unit(scale_vector(v, 1.0 / l))
+}
+
+pub fn rotate(v: Vec3, axis: Vec3, angle: f32) -> Vec3
+    ensures { λ r. ⌜ r ≡ rotateOf v axis angle ⌝ }
+{
+    let s = sin(angle);
+    let c = cos(angle);
+    add(
+        add(scale_vector(v, c), scale_vector(cross(axis, v), s)),
+        scale_vector(axis, dot(axis, v) * (1.0 - c)),
+    )
+}
+
+pub fn angle_between(a: Vec3, b: Vec3) -> f32
+    ensures { λ r. ⌜ r ≡ angleBetween a b ⌝ }
+{
+    if dot(a, b) < 0.0 {
+        3.1415927 - 2.0 * asin(length(add(a, b)) / 2.0)
+    } else {
+        2.0 * asin(length(sub(b, a)) / 2.0)
+    }
+}
