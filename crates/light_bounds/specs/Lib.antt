@@ -1,3 +1,4 @@
 pub mod Vectors
 pub mod Boxes
 pub mod Cones
+pub mod Records
