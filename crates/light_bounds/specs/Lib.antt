@@ -2,3 +2,4 @@ pub mod Vectors
 pub mod Boxes
 pub mod Cones
 pub mod Records
+pub mod Importance

@@ -10,6 +10,8 @@ use Rattle.light_bounds.specs.Boxes.{boxCheck, boxUnion}
 use Rattle.light_bounds.specs.Cones.{unionDirectionCones}
 use Rattle.light_bounds.specs.Vectors.{finiteVec, dot}
 use Rattle.light_bounds.specs.declared.light_bounds.LightBounds.{LightBounds}
+use Rattle.light_bounds.specs.declared.light_bounds.Joined.{Joined}
+use Rattle.light_bounds.specs.declared.light_bounds.Joined.the-variants.{Whole, Refused}
 
 -- a cosine lies from -1 to 1
 unfoldable pub isCosine : Float → Bool
@@ -27,3 +29,36 @@ coneCheck r = cond (finiteVec (r .direction) && (finite (r .phi) && (finite (r .
 
 unfoldable pub validate : LightBounds → Answer (Unit {0})
 validate r = boxCheck (r .bounds) then λ _. coneCheck r
+
+-- ---- union
+
+-- an operand that fails its check is refusal 10, whatever failed
+abbrev pub operand : Answer (Unit {0}) → Answer (Unit {0})
+operand (given u) = given u
+operand (refused n) = refused 10
+
+-- the side of a union
+abbrev pub either : Bool → Bool → Bool
+either a b = a || b
+
+-- zero power gives the other record whole, the first operand's tested first; the result is not checked
+unfoldable pub join : LightBounds → LightBounds → LightBounds
+join a b =
+    let c = unionDirectionCones (a .direction) (a .«cos_theta_o») (b .direction) (b .«cos_theta_o») in
+    cond (eq (a .phi) zero) b
+    (cond (eq (b .phi) zero) a
+    (record {
+      bounds = boxUnion (a .bounds) (b .bounds);
+      direction = c .direction;
+      phi = a .phi ⊕ b .phi;
+      «cos_theta_o» = c .«cos_theta»;
+      «cos_theta_e» = fmin (a .«cos_theta_e») (b .«cos_theta_e»);
+      «two_sided» = either (a .«two_sided») (b .«two_sided»);
+    }))
+
+unfoldable pub union : LightBounds → LightBounds → Answer LightBounds
+union a b = operand (validate a) then λ _. operand (validate b) then λ _. given (join a b)
+
+abbrev pub joined : Joined → Answer LightBounds
+joined (Whole r) = given r
+joined (Refused r) = refused (number r)

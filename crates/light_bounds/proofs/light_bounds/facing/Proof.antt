@@ -1,0 +1,32 @@
+-- `light_bounds::light_bounds::facing` meets its contract: its steps are the definition's. Assumes nothing.
+use mathlib.Core.Path.{_≡_, refl, sym, _∙_, ap, ap₂}
+use lib.Ieee.{Float}
+use Rattle.ieee.specs.Single.{_⊕_, _⊗_}
+use Rattle.light_bounds.specs.Cones.{cosSubClamped}
+use Rattle.light_bounds.specs.Importance.{normalFactor}
+use borrow.Author.Needs.{needs}
+use Rattle.light_bounds.proofs.light_bounds.facing.Statement.{statement}
+use Rattle.light_bounds.proofs.light_bounds.facing.Tie as tie
+
+abs-requires : tie.Need-abs-requires
+abs-requires c κs = search needs
+
+sine-requires : tie.Need-sine-requires
+sine-requires c κs = search needs
+
+sine-requires-2 : tie.Need-sine-requires-2
+sine-requires-2 c κs = search needs
+
+returns : tie.Need-returns
+unfolding normalFactor cosSubClamped
+returns c = rw (← c .before .abs .ensures, c .if1 .taken)
+
+returns-2 : tie.Need-returns-2
+unfolding normalFactor cosSubClamped
+returns-2 c = 
+    let i = c .before .before .before .abs .result in
+    let k = c .before .before .before .before .args .cos-b in
+    rw (← c .before .before .before .abs .ensures, c .before .before .if1 .left) (ap₂ (λ (s t : Float). i ⊗ k ⊕ s ⊗ t) (c .before .sine .ensures) (c .sine2 .ensures))
+
+pub facing-spec : {M : Type 1} → statement M
+facing-spec = tie.close (tie.spec abs-requires sine-requires sine-requires-2 returns returns-2)

@@ -1,0 +1,56 @@
+-- `light_bounds::light_bounds::finished` meets its contract: its steps are the definition's. Assumes nothing.
+use mathlib.Core.Path.{_≡_, refl, sym, _∙_, ap, ap₂}
+use Rattle.words.specs.Answers.{_then_, given}
+use Rattle.light_bounds.specs.Importance.{finish}
+use borrow.Author.Needs.{needs}
+use Rattle.light_bounds.proofs.light_bounds.finished.Statement.{statement}
+use Rattle.light_bounds.proofs.light_bounds.finished.Tie as tie
+
+enum-told : tie.Need-enum-told
+enum-told c = search needs
+
+enum-known-view : tie.Need-enum-known-view
+enum-known-view c = search needs
+
+max-requires : tie.Need-max-requires
+max-requires c κs = search needs
+
+enum-known-view-2 : tie.Need-enum-known-view-2
+enum-known-view-2 c = search needs
+
+max-requires-2 : tie.Need-max-requires-2
+max-requires-2 c κs = search needs
+
+enum-known-view-3 : tie.Need-enum-known-view-3
+enum-known-view-3 c = search needs
+
+returns : tie.Need-returns
+unfolding finish _then_
+returns c = rw (c .enum-told .given .1)
+
+returns-2 : tie.Need-returns-2
+unfolding finish _then_
+returns-2 c = rw (c .before .before .view .given .1) (ap given (c .max .ensures))
+
+returns-3 : tie.Need-returns-3
+unfolding finish _then_
+returns-3 c = rw (c .before .before .view2 .given .1) (ap given (c .max2 .ensures))
+
+returns-4 : tie.Need-returns-4
+unfolding finish _then_
+returns-4 c = rw (c .before .view3 .given .1)
+
+pub finished-spec : {M : Type 1} → statement M
+finished-spec =
+    tie.close
+    (tie.spec
+    enum-told
+    enum-known-view
+    max-requires
+    enum-known-view-2
+    max-requires-2
+    enum-known-view-3
+    returns
+    returns-2
+    returns-3
+    returns-4)

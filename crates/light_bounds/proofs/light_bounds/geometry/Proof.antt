@@ -1,0 +1,77 @@
+-- `light_bounds::light_bounds::geometry` meets its contract: its steps are the definition's. Assumes nothing.
+use mathlib.Core.Path.{_≡_, refl, sym, _∙_, ap, ap₂}
+use Rattle.words.specs.Answers.{_then_}
+use Rattle.light_bounds.specs.Boxes.{diagonal, centroid}
+use Rattle.light_bounds.specs.Importance.{geometry, distance2, diagonalLength}
+use Rattle.light_bounds.specs.Vectors.{minus, length}
+use Rattle.light_bounds.specs.declared.vecmath.Vec3.{Vec3}
+use borrow.Author.Needs.{needs}
+use Rattle.light_bounds.proofs.light_bounds.geometry.Statement.{statement}
+use Rattle.light_bounds.proofs.light_bounds.geometry.Tie as tie
+
+-- from the centre to the point, and the diagonal's length
+delta : (c : tie.After-sub) → (let s = c .before .before .args in minus (s .query .p) (centroid (s .record .bounds))) ≡ c .sub .result
+delta c = sym (c .sub .ensures ∙ ap (λ (v : Vec3). minus (c .before .before .args .query .p) v) (c .before .centroid .ensures))
+
+size : (c : tie.After-length) → diagonalLength (c .before .before .before .before .args .record) ≡ c .length .result
+size c = sym (c .length .ensures ∙ ap length (c .before .diagonal .ensures))
+
+centroid-requires : tie.Need-centroid-requires
+centroid-requires c κs = search needs
+
+sub-requires : tie.Need-sub-requires
+sub-requires c κs = search needs
+
+diagonal-requires : tie.Need-diagonal-requires
+diagonal-requires c κs = search needs
+
+length-requires : tie.Need-length-requires
+length-requires c κs = search needs
+
+dot-requires : tie.Need-dot-requires
+dot-requires c κs = search needs
+
+max-requires : tie.Need-max-requires
+max-requires c κs = search needs
+
+returns : tie.Need-returns
+unfolding geometry distance2
+returns c = rw (delta (c .before .before .before .before .before), size (c .before .before .before), ← c .before .before .dot .ensures, ← c .before .max .ensures, c .if1 .taken)
+
+normalize-requires : tie.Need-normalize-requires
+normalize-requires c κs = search needs
+
+enum-known-wi : tie.Need-enum-known-wi
+enum-known-wi c = search needs
+
+toward-requires : tie.Need-toward-requires
+toward-requires c κs = sym (size (c .before .before .before .before .before .before .before))
+
+enum-known-why : tie.Need-enum-known-why
+enum-known-why c = search needs
+
+returns-2 : tie.Need-returns-2
+unfolding geometry distance2 _then_
+returns-2 c = rw (delta (c .before .before .before .before .before .before .before .before .before .before), size (c .before .before .before .before .before .before .before .before), ← c .before .before .before .before .before .before .before .dot .ensures, ← c .before .before .before .before .before .before .max .ensures, c .before .before .before .before .before .if1 .left, ← c .before .before .before .before .normalize .ensures, c .before .before .wi .given .1) (c .toward .ensures)
+
+returns-3 : tie.Need-returns-3
+unfolding geometry distance2 _then_
+returns-3 c = rw (delta (c .before .before .before .before .before .before .before .before .before), size (c .before .before .before .before .before .before .before), ← c .before .before .before .before .before .before .dot .ensures, ← c .before .before .before .before .before .max .ensures, c .before .before .before .before .if1 .left, ← c .before .before .before .normalize .ensures, c .before .why .given .1)
+
+pub geometry-spec : {M : Type 1} → statement M
+geometry-spec =
+    tie.close
+    (tie.spec
+    centroid-requires
+    sub-requires
+    diagonal-requires
+    length-requires
+    dot-requires
+    max-requires
+    returns
+    normalize-requires
+    enum-known-wi
+    toward-requires
+    enum-known-why
+    returns-2
+    returns-3)

@@ -1,0 +1,55 @@
+-- `light_bounds::light_bounds::subtended` meets its contract: its steps are the definition's. Assumes nothing.
+use mathlib.Core.Path.{_≡_, refl, sym, _∙_, ap, ap₂}
+use lib.Ieee.{neg, ofBits}
+use Rattle.light_bounds.specs.Boxes.{centroid, diagonal}
+use Rattle.light_bounds.specs.Cones.{boundSubtendedDirections}
+use Rattle.light_bounds.specs.Vectors.{dot, minus, length}
+use Rattle.light_bounds.specs.declared.vecmath.Vec3.{Vec3}
+use borrow.Author.Needs.{needs}
+use Rattle.light_bounds.proofs.light_bounds.subtended.Statement.{statement}
+use Rattle.light_bounds.proofs.light_bounds.subtended.Tie as tie
+
+size : (c : tie.Start) → length (diagonal (c .args .bounds)) ≡ c .args .diagonal-length
+size c = sym (c .pre)
+
+-- the raw squared distance to the centre
+distance : (c : tie.After-dot) → (let s = c .before .before .before .args in dot (minus (centroid (s .bounds)) (s .p)) (minus (centroid (s .bounds)) (s .p))) ≡ c .dot .result
+distance c =
+    let p = c .before .before .before .args .p in
+    sym (c .dot .ensures ∙ ap (λ (v : Vec3). dot v v) (c .before .sub .ensures ∙ ap (λ (v : Vec3). minus v p) (c .before .before .centroid .ensures)))
+
+centroid-requires : tie.Need-centroid-requires
+centroid-requires c κs = search needs
+
+sub-requires : tie.Need-sub-requires
+sub-requires c κs = search needs
+
+dot-requires : tie.Need-dot-requires
+dot-requires c κs = search needs
+
+returns : tie.Need-returns
+unfolding boundSubtendedDirections neg ofBits
+returns c = rw (size (c .before .before .before .before), distance (c .before), c .if1 .taken)
+
+returns-2 : tie.Need-returns-2
+unfolding boundSubtendedDirections neg ofBits
+returns-2 c = rw (size (c .before .before .before .before .before), distance (c .before .before), c .before .if1 .left, c .if2 .taken)
+
+safe-sqrt-requires : tie.Need-safe-sqrt-requires
+safe-sqrt-requires c κs = search needs
+
+returns-3 : tie.Need-returns-3
+unfolding boundSubtendedDirections
+returns-3 c = rw (size (c .before .before .before .before .before .before), distance (c .before .before .before), c .before .before .if1 .left, c .before .if2 .left) (c .safe-sqrt .ensures)
+
+pub subtended-spec : {M : Type 1} → statement M
+subtended-spec =
+    tie.close
+    (tie.spec
+    centroid-requires
+    sub-requires
+    dot-requires
+    returns
+    returns-2
+    safe-sqrt-requires
+    returns-3)

@@ -1,0 +1,99 @@
+-- The importance of a record for a point and a normal, step by step as `importance` of `light_bounds.rs` has it. The power enters in the last step alone (`finish`).
+-- Assumes nothing.
+use mathlib.Core.Bool.{Bool, cond, _&&_}
+use lib.Ieee.{Float, le, eq}
+use Rattle.ieee.specs.Choose.{fmax, fabs}
+use Rattle.ieee.specs.Single.{_⊖_, _⊗_, _⊘_, zero, half, one}
+use Rattle.words.specs.Answers.{Answer, given, refused, _then_}
+use Rattle.words.specs.Refusals.{number}
+use Rattle.light_bounds.specs.Boxes.{diagonal, centroid}
+use Rattle.light_bounds.specs.Cones.{safeSqrt, cosSubClamped, sinSubClamped, boundSubtendedDirections}
+use Rattle.light_bounds.specs.Records.{validate}
+use Rattle.light_bounds.specs.Vectors.{finiteVec, dot, minus, length, normalize}
+use Rattle.light_bounds.specs.declared.vecmath.Vec3.{Vec3}
+use Rattle.light_bounds.specs.declared.light_bounds.LightBounds.{LightBounds}
+use Rattle.light_bounds.specs.declared.light_bounds.Query.{Query}
+use Rattle.light_bounds.specs.declared.light_bounds.Weight.{Weight}
+use Rattle.light_bounds.specs.declared.light_bounds.Weight.the-variants.{Importance, Refused}
+use Rattle.light_bounds.specs.declared.light_bounds.View.{View}
+use Rattle.light_bounds.specs.declared.light_bounds.View.the-variants.{Dark, Lit, Facing, Refused as View·Refused}
+
+-- how a point sees a record: not at all; with the cosine of the cone's nearest direction, over a squared distance; and with the normal's factor
+pub data Seen : Type 0 where
+  dark : Seen
+  lit : Float → Float → Seen
+  facing : Float → Float → Float → Seen
+
+-- the sine of an angle by its cosine
+unfoldable pub sine : Float → Float
+sine c = safeSqrt (one ⊖ c ⊗ c)
+
+-- the cosine between the record's direction and the point's, a two-sided lamp's without its sign
+unfoldable pub cosW : LightBounds → Vec3 → Float
+cosW r wi = cond (r .«two_sided») (fabs (dot (r .direction) wi)) (dot (r .direction) wi)
+
+-- the cosine of the smallest angle between the cone's directions and the box's
+unfoldable pub cosP : LightBounds → Vec3 → Float → Float
+cosP r wi cosB =
+    let w = cosW r wi in
+    let o = r .«cos_theta_o» in
+    cosSubClamped (sinSubClamped (sine w) w (sine o) o) (cosSubClamped (sine w) w (sine o) o) (sine cosB) cosB
+
+-- the normal's factor, by the cosine between it and the direction
+unfoldable pub normalFactor : Float → Float → Float
+normalFactor c cosB = let i = fabs c in cosSubClamped (sine i) i (sine cosB) cosB
+
+-- `dot(n, n)` = 0 means no normal
+unfoldable pub withNormal : Vec3 → Vec3 → Float → Float → Float → Answer Seen
+withNormal n wi cosB p d2 =
+    cond (eq (dot n n) zero) (given (lit p d2))
+    (normalize n then λ (u : Vec3). given (facing p d2 (normalFactor (dot wi u) cosB)))
+
+unfoldable pub toward : LightBounds → Query → Float → Vec3 → Answer Seen
+toward r q d2 wi =
+    let cosB = boundSubtendedDirections (r .bounds) (q .p) in
+    let p = cosP r wi cosB in
+    cond (le p (r .«cos_theta_e»)) (given dark) (withNormal (q .n) wi cosB p d2)
+
+abbrev pub diagonalLength : LightBounds → Float
+diagonalLength r = length (diagonal (r .bounds))
+
+-- the squared distance to the centre, at least half the diagonal's length
+unfoldable pub distance2 : LightBounds → Vec3 → Float
+distance2 r delta = fmax (dot delta delta) (diagonalLength r ⊗ half)
+
+unfoldable pub geometry : LightBounds → Query → Answer Seen
+geometry r q =
+    let delta = minus (q .p) (centroid (r .bounds)) in
+    let d2 = distance2 r delta in
+    cond (le d2 zero) (given dark) (normalize delta then λ (wi : Vec3). toward r q d2 wi)
+
+unfoldable pub finish : Float → Seen → Float
+finish phi dark = zero
+finish phi (lit p d2) = fmax (phi ⊗ p ⊘ d2) zero
+finish phi (facing p d2 i) = fmax (phi ⊗ p ⊘ d2 ⊗ i) zero
+
+abbrev pub finishView : Float → Answer Seen → Answer Float
+finishView phi v = v then λ (s : Seen). given (finish phi s)
+
+-- of a record that passed its check
+unfoldable pub checkedImportance : LightBounds → Query → Answer Float
+checkedImportance r q = cond (finiteVec (q .p) && finiteVec (q .n)) (finishView (r .phi) (geometry r q)) (refused 5)
+
+unfoldable pub importance : LightBounds → Query → Answer Float
+importance r q = validate r then λ _. checkedImportance r q
+
+-- what a walk weighs a record by
+unfoldable pub weigh : LightBounds → Query → Answer Float
+weigh r q = importance r q
+
+-- what the code's view answers
+abbrev pub viewed : View → Answer Seen
+viewed Dark = given dark
+viewed (Lit p d2) = given (lit p d2)
+viewed (Facing p d2 i) = given (facing p d2 i)
+viewed (View·Refused r) = refused (number r)
+
+abbrev pub weight : Weight → Answer Float
+weight (Importance x) = given x
+weight (Refused r) = refused (number r)
