@@ -4,7 +4,6 @@ use lib.Ieee.{Float, binary32, ofBits, add, sub, mul, div}
 
 infixl 60 _⊕_ _⊖_
 infixl 70 _⊗_ _⊘_
-
 abbrev pub _⊕_ : Float → Float → Float
 _⊕_ x y = add binary32 x y
 

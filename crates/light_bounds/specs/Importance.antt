@@ -1,6 +1,6 @@
 -- The importance of a record for a point and a normal, step by step as `importance` of `light_bounds.rs` has it. The power enters in the last step alone (`finish`).
 -- Assumes nothing.
-use mathlib.Core.Bool.{Bool, cond, _&&_}
+use mathlib.Core.Bool.{cond, _&&_}
 use lib.Ieee.{Float, le, eq}
 use Rattle.ieee.specs.Choose.{fmax, fabs}
 use Rattle.ieee.specs.Single.{_⊖_, _⊗_, _⊘_, zero, half, one}

@@ -3,3 +3,5 @@ pub mod Boxes
 pub mod Cones
 pub mod Records
 pub mod Importance
+pub mod RecordWords
+pub mod RecordLaws

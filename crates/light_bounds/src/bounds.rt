@@ -1,10 +1,10 @@
 // Boxes (specs/Boxes.antt).
 ghost use mathlib.Core.Path.{_≡_};
 ghost use Rattle.light_bounds.specs.Boxes.{boxCheck, boxUnion, diagonal as diagonalOf, centroid as centroidOf, surfaceArea, leastOf, greatestOf, validity};
-use floats::choose::max;
-use floats::choose::min;
 use super::vecmath::Vec3;
 use super::vecmath::is_finite_vec;
+use floats::choose::max;
+use floats::choose::min;
 use words::refusal::Refusal;
 
 pub struct Bounds3 {

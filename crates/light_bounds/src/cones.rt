@@ -2,10 +2,6 @@
 ghost use mathlib.Core.Path.{_≡_};
 ghost use Rattle.light_bounds.specs.Cones.{cosSubClamped, sinSubClamped, safeSqrt, boundSubtendedDirections, unionDirectionCones, axisOr, joined, wholeSphere};
 ghost use Rattle.light_bounds.specs.Vectors.{normalized};
-use floats::choose::clamp;
-use floats::choose::max;
-use floats::choose::min;
-use floats::sqrt::sqrt as root;
 use super::bounds::Bounds3;
 use super::bounds::centroid;
 use super::bounds::diagonal;
@@ -18,6 +14,10 @@ use super::vecmath::length;
 use super::vecmath::normalize;
 use super::vecmath::rotate;
 use super::vecmath::sub;
+use floats::choose::clamp;
+use floats::choose::max;
+use floats::choose::min;
+use floats::sqrt::sqrt as root;
 use trig::acos;
 use trig::cos;
 

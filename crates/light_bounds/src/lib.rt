@@ -2,4 +2,5 @@
 pub mod bounds;
 pub mod cones;
 pub mod light_bounds;
+pub mod record_words;
 pub mod vecmath;

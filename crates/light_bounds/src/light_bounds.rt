@@ -6,9 +6,6 @@ ghost use Rattle.light_bounds.specs.Cones.{boundSubtendedDirections, cos
 ghost use Rattle.light_bounds.specs.Boxes.{diagonal as diagonalOf};
 ghost use Rattle.light_bounds.specs.Vectors.{length as lengthOf};
 ghost use Rattle.light_bounds.specs.Records.{validate as validateOf, coneCheck, rangeCheck, isCosine, union as unionOf, joined, join as joinOf, either as eitherOf};
-use floats::choose::abs;
-use floats::choose::max;
-use floats::choose::min;
 use super::bounds::Bounds3;
 use super::bounds::Validity;
 use super::bounds::centroid;
@@ -28,6 +25,9 @@ use super::vecmath::is_finite_vec;
 use super::vecmath::length;
 use super::vecmath::normalize;
 use super::vecmath::sub;
+use floats::choose::abs;
+use floats::choose::max;
+use floats::choose::min;
 use words::refusal::Refusal;
 
 pub struct LightBounds {

@@ -17,18 +17,18 @@ pub struct Vec3 {
 pub fn is_finite(x: f32) -> bool
     ensures { λ r. ⌜ r ≡ finite x ⌝ }
 {
-    if x < 1.0 / 0.0 {
-        -1.0 / 0.0 < x
-    } else {
-        false
-    }
+    if x < 1.0 / 0.0 { -1.0 / 0.0 < x } else { false }
 }
 
 pub fn is_finite_vec(v: Vec3) -> bool
     ensures { λ r. ⌜ r ≡ finiteVec v ⌝ }
 {
     if is_finite(v.x) {
-        if is_finite(v.y) { is_finite(v.z) } else { false }
+        if is_finite(v.y) {
+            is_finite(v.z)
+        } else {
+            false
+        }
     } else {
         false
     }

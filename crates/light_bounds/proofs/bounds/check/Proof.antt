@@ -1,5 +1,5 @@
 -- `light_bounds::bounds::check` meets its contract: its steps are the definition's. Assumes nothing.
-use mathlib.Core.Path.{_≡_, refl, sym, _∙_, ap, ap₂}
+use mathlib.Core.Path.{_≡_, sym}
 use Rattle.light_bounds.specs.Boxes.{boxCheck}
 use Rattle.light_bounds.specs.Vectors.{finiteVec}
 use borrow.Author.Needs.{needs}

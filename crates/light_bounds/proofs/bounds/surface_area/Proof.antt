@@ -1,5 +1,5 @@
 -- `light_bounds::bounds::surface_area` meets its contract: its steps are the definition's. Assumes nothing.
-use mathlib.Core.Path.{_≡_, refl, sym, _∙_, ap, ap₂}
+use mathlib.Core.Path.{ap}
 use Rattle.ieee.specs.Single.{_⊕_, _⊗_, two}
 use Rattle.light_bounds.specs.Boxes.{surfaceArea}
 use Rattle.light_bounds.specs.declared.vecmath.Vec3.{Vec3}

@@ -1,9 +1,8 @@
 -- `light_bounds::cones::bound_subtended_directions` meets its contract: its steps are the definition's. Assumes nothing.
-use mathlib.Core.Path.{_≡_, refl, sym, _∙_, ap, ap₂}
-use lib.Ieee.{Float, ofBits, neg}
-use Rattle.ieee.specs.Single.{_⊖_, _⊗_, _⊘_, half, one}
+use mathlib.Core.Path.{_≡_, sym, _∙_, ap}
+use lib.Ieee.{ofBits, neg}
 use Rattle.light_bounds.specs.Boxes.{diagonal, centroid}
-use Rattle.light_bounds.specs.Cones.{boundSubtendedDirections, safeSqrt}
+use Rattle.light_bounds.specs.Cones.{boundSubtendedDirections}
 use Rattle.light_bounds.specs.Vectors.{dot, minus, length}
 use borrow.Author.Needs.{needs}
 use Rattle.light_bounds.proofs.cones.bound_subtended_directions.Statement.{statement}

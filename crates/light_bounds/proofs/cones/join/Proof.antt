@@ -1,6 +1,5 @@
 -- `light_bounds::cones::join` meets its contract: its steps are the definition's. Assumes nothing.
 use mathlib.Core.Path.{_≡_, sym, _∙_, ap}
-use lib.Ieee.{Float}
 use Rattle.ieee.specs.Single.{_⊖_}
 use Rattle.light_bounds.specs.Cones.{axisOr, joined}
 use Rattle.light_bounds.specs.Vectors.{dot, cross, normalize, rotate}
@@ -46,7 +45,7 @@ cos-requires c κs = search needs
 
 returns-3 : tie.Need-returns-3
 unfolding joined
-returns-3 c = 
+returns-3 c =
     let a = c .before .before .before .before .before .before .before .before .args in
     let turned = c .before .rotate .ensures ∙ ap (λ (v : Vec3). rotate (a .a) v (a .theta-o ⊖ a .theta-a)) (c .before .before .unit-or-z .ensures ∙ ap axisOr (c .before .before .before .normalize .ensures ∙ ap normalize (c .before .before .before .before .before .before .cross .ensures))) in
     rw (c .before .before .before .before .before .before .before .if1 .left, parallel (c .before .before .before .before .before), c .before .before .before .before .if2 .left) (λ i. record { direction = turned i; «cos_theta» = c .cos .ensures i })

@@ -1,5 +1,5 @@
 -- `light_bounds::cones::safe_sqrt` meets its contract: its steps are the definition's. Assumes nothing.
-use mathlib.Core.Path.{_≡_, refl, sym, _∙_, ap, ap₂}
+use mathlib.Core.Path.{_∙_, ap}
 use lib.Ieee.{binary32}
 use Rattle.ieee.specs.Sqrt.{sqrt}
 use Rattle.light_bounds.specs.Cones.{safeSqrt}

@@ -1,10 +1,10 @@
 -- `light_bounds::cones::union_direction_cones` meets its contract: its steps are the definition's. Assumes nothing.
 use mathlib.Core.Path.{_≡_, sym, _∙_, ap}
-use lib.Ieee.{Float, le, neg, ofBits}
+use lib.Ieee.{neg, ofBits}
 use Rattle.ieee.specs.Choose.{fmin, clamp}
-use Rattle.ieee.specs.Single.{_⊕_, _⊗_, half, one, minusOne, pi}
+use Rattle.ieee.specs.Single.{_⊕_, one, minusOne, pi}
 use Rattle.trig.specs.Trig.{acos}
-use Rattle.light_bounds.specs.Cones.{unionDirectionCones, joined}
+use Rattle.light_bounds.specs.Cones.{unionDirectionCones}
 use Rattle.light_bounds.specs.Vectors.{angleBetween}
 use borrow.Author.Needs.{needs}
 use Rattle.light_bounds.proofs.cones.union_direction_cones.Statement.{statement}

@@ -1,5 +1,5 @@
 -- `light_bounds::light_bounds::cos_w` meets its contract: its steps are the definition's. Assumes nothing.
-use mathlib.Core.Path.{_≡_, refl, sym, _∙_, ap, ap₂}
+use mathlib.Core.Path.{_∙_, ap}
 use Rattle.ieee.specs.Choose.{fabs}
 use Rattle.light_bounds.specs.Importance.{cosW}
 use borrow.Author.Needs.{needs}

@@ -1,5 +1,5 @@
 -- `light_bounds::light_bounds::facing` meets its contract: its steps are the definition's. Assumes nothing.
-use mathlib.Core.Path.{_≡_, refl, sym, _∙_, ap, ap₂}
+use mathlib.Core.Path.{ap₂}
 use lib.Ieee.{Float}
 use Rattle.ieee.specs.Single.{_⊕_, _⊗_}
 use Rattle.light_bounds.specs.Cones.{cosSubClamped}
@@ -23,7 +23,7 @@ returns c = rw (← c .before .abs .ensures, c .if1 .taken)
 
 returns-2 : tie.Need-returns-2
 unfolding normalFactor cosSubClamped
-returns-2 c = 
+returns-2 c =
     let i = c .before .before .before .abs .result in
     let k = c .before .before .before .before .args .cos-b in
     rw (← c .before .before .before .abs .ensures, c .before .before .if1 .left) (ap₂ (λ (s t : Float). i ⊗ k ⊕ s ⊗ t) (c .before .sine .ensures) (c .sine2 .ensures))

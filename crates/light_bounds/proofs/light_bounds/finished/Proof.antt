@@ -1,5 +1,5 @@
 -- `light_bounds::light_bounds::finished` meets its contract: its steps are the definition's. Assumes nothing.
-use mathlib.Core.Path.{_≡_, refl, sym, _∙_, ap, ap₂}
+use mathlib.Core.Path.{ap}
 use Rattle.words.specs.Answers.{_then_, given}
 use Rattle.light_bounds.specs.Importance.{finish}
 use borrow.Author.Needs.{needs}

@@ -1,5 +1,5 @@
 -- `light_bounds::light_bounds::finite_importance` meets its contract: its steps are the definition's. Assumes nothing.
-use mathlib.Core.Path.{_≡_, refl, sym, _∙_, ap, ap₂}
+use mathlib.Core.Path.{_∙_, ap}
 use Rattle.light_bounds.specs.Importance.{checkedImportance, finishView}
 use borrow.Author.Needs.{needs}
 use Rattle.light_bounds.proofs.light_bounds.finite_importance.Statement.{statement}

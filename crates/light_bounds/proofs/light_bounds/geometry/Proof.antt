@@ -1,5 +1,5 @@
 -- `light_bounds::light_bounds::geometry` meets its contract: its steps are the definition's. Assumes nothing.
-use mathlib.Core.Path.{_≡_, refl, sym, _∙_, ap, ap₂}
+use mathlib.Core.Path.{_≡_, sym, _∙_, ap}
 use Rattle.words.specs.Answers.{_then_}
 use Rattle.light_bounds.specs.Boxes.{diagonal, centroid}
 use Rattle.light_bounds.specs.Importance.{geometry, distance2, diagonalLength}

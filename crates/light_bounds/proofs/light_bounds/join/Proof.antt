@@ -1,8 +1,6 @@
 -- `light_bounds::light_bounds::join` meets its contract: its steps are the definition's. Assumes nothing.
-use mathlib.Core.Path.{_≡_, refl, sym, _∙_, ap}
 use Rattle.ieee.specs.Single.{_⊕_}
 use Rattle.light_bounds.specs.Records.{join}
-use Rattle.light_bounds.specs.declared.cones.Cone.{Cone}
 use borrow.Author.Needs.{needs}
 use Rattle.light_bounds.proofs.light_bounds.join.Statement.{statement}
 use Rattle.light_bounds.proofs.light_bounds.join.Tie as tie
@@ -29,7 +27,7 @@ either-requires c κs = search needs
 
 returns-3 : tie.Need-returns-3
 unfolding join
-returns-3 c = 
+returns-3 c =
     let a = c .before .before .before .before .before .before .before .before .before .before .before .args in
     let cone = c .before .before .before .before .before .before .union-direction-cones .ensures in
     rw (c .before .before .before .before .before .before .before .before .before .if1 .left, c .before .before .before .before .before .before .before .if2 .left)

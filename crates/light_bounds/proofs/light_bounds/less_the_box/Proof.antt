@@ -1,5 +1,5 @@
 -- `light_bounds::light_bounds::less_the_box` meets its contract: its steps are the definition's. Assumes nothing.
-use mathlib.Core.Path.{_≡_, refl, sym, _∙_, ap, ap₂}
+use mathlib.Core.Path.{ap}
 use lib.Ieee.{Float}
 use Rattle.ieee.specs.Single.{_⊕_, _⊗_}
 use Rattle.light_bounds.specs.Cones.{cosSubClamped}
@@ -16,7 +16,7 @@ returns c = rw (c .if1 .taken)
 
 returns-2 : tie.Need-returns-2
 unfolding cosSubClamped
-returns-2 c = 
+returns-2 c =
     let a = c .before .before .args in
     rw (c .before .if1 .left) (ap (λ (s : Float). a .cos-x ⊗ a .cos-b ⊕ a .sin-x ⊗ s) (c .sine .ensures))
 

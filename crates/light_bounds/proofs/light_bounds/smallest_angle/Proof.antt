@@ -1,5 +1,4 @@
 -- `light_bounds::light_bounds::smallest_angle` meets its contract: its steps are the definition's. Assumes nothing.
-use mathlib.Core.Path.{_≡_, refl, sym, _∙_, ap, ap₂}
 use Rattle.light_bounds.proofs.Clamped.{cut-cos, cut-sin, kept-cos, kept-sin}
 use Rattle.light_bounds.specs.Importance.{cosP, sine}
 use borrow.Author.Needs.{needs}
@@ -14,7 +13,7 @@ less-the-box-requires c κs = search needs
 
 returns : tie.Need-returns
 unfolding cosP
-returns c = 
+returns c =
     let w = c .before .before .cos-w .result in
     let o = c .before .before .before .args .record .«cos_theta_o» in
     rw (← c .before .before .cos-w .ensures, cut-sin (sine w) w (sine o) o (c .before .if1 .taken), cut-cos (sine w) w (sine o) o (c .before .if1 .taken)) (c .less-the-box .ensures)
@@ -30,7 +29,7 @@ less-the-box-requires-2 c κs = search needs
 
 returns-2 : tie.Need-returns-2
 unfolding cosP
-returns-2 c = 
+returns-2 c =
     let w = c .before .before .before .before .cos-w .result in
     let o = c .before .before .before .before .before .args .record .«cos_theta_o» in
     rw (← c .before .before .before .before .cos-w .ensures, kept-sin (sine w) w (sine o) o (c .before .before .before .if1 .left), kept-cos (sine w) w (sine o) o (c .before .before .before .if1 .left), ← c .before .before .sine .ensures, ← c .before .sine2 .ensures) (c .less-the-box2 .ensures)

@@ -1,5 +1,5 @@
 -- `light_bounds::light_bounds::subtended` meets its contract: its steps are the definition's. Assumes nothing.
-use mathlib.Core.Path.{_≡_, refl, sym, _∙_, ap, ap₂}
+use mathlib.Core.Path.{_≡_, sym, _∙_, ap}
 use lib.Ieee.{neg, ofBits}
 use Rattle.light_bounds.specs.Boxes.{centroid, diagonal}
 use Rattle.light_bounds.specs.Cones.{boundSubtendedDirections}

@@ -1,5 +1,5 @@
 -- `light_bounds::light_bounds::union` meets its contract: its steps are the definition's. Assumes nothing.
-use mathlib.Core.Path.{_≡_, refl, sym, _∙_, ap}
+use mathlib.Core.Path.{ap}
 use Rattle.words.specs.Answers.{_then_, given}
 use Rattle.light_bounds.specs.Records.{union}
 use borrow.Author.Needs.{needs}

@@ -1,5 +1,5 @@
 -- `light_bounds::light_bounds::with_normal` meets its contract: its steps are the definition's. Assumes nothing.
-use mathlib.Core.Path.{_≡_, refl, sym, _∙_, ap, ap₂}
+use mathlib.Core.Path.{_∙_, ap}
 use lib.Ieee.{Float}
 use Rattle.words.specs.Answers.{_then_, given}
 use Rattle.light_bounds.specs.Importance.{withNormal, normalFactor, facing}
@@ -31,7 +31,7 @@ enum-known-why c = search needs
 
 returns-2 : tie.Need-returns-2
 unfolding withNormal _then_
-returns-2 c = 
+returns-2 c =
     let a = c .before .before .before .before .before .before .before .before .args in
     rw (← c .before .before .before .before .before .before .before .dot .ensures, c .before .before .before .before .before .before .if1 .left, ← c .before .before .before .before .before .normalize .ensures, c .before .before .before .u .given .1)
     (ap (λ (k : Float). given (facing (a .cos-p) (a .d2) k)) (c .facing .ensures ∙ ap (λ (k : Float). normalFactor k (a .cos-b)) (c .before .dot2 .ensures)))

@@ -1,9 +1,9 @@
 -- `light_bounds::vecmath::angle_between` meets its contract: its steps are the definition's. Assumes nothing.
-use mathlib.Core.Path.{_≡_, refl, sym, _∙_, ap, ap₂, subst}
+use mathlib.Core.Path.{_∙_, ap}
 use lib.Ieee.{Float}
-use Rattle.ieee.specs.Single.{_⊕_, _⊖_, _⊗_, _⊘_, zero, one, two, pi}
+use Rattle.ieee.specs.Single.{_⊖_, _⊗_, _⊘_, two, pi}
 use Rattle.trig.specs.Trig.{asin}
-use Rattle.light_bounds.specs.Vectors.{dot, plus, minus, length, angleBetween}
+use Rattle.light_bounds.specs.Vectors.{dot, length, angleBetween}
 use borrow.Author.Needs.{needs}
 use Rattle.light_bounds.proofs.vecmath.angle_between.Statement.{statement}
 use Rattle.light_bounds.proofs.vecmath.angle_between.Tie as tie

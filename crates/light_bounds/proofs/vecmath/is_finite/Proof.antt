@@ -1,7 +1,7 @@
 -- `light_bounds::vecmath::is_finite` meets its contract: a float is finite where it lies between the infinities. Assumes nothing.
-use mathlib.Core.Path.{_≡_, refl, sym, _∙_, ap, subst}
-use mathlib.Core.Bool.{Bool, true, false}
-use lib.Ieee.{Float, nan, inf, fin, binary32, ofBits, div, neg, lt}
+use mathlib.Core.Path.{_≡_, refl, sym, subst}
+use mathlib.Core.Bool.{true, false}
+use lib.Ieee.{Float, nan, inf, fin, ofBits, div, neg, lt}
 use lib.Dec.{T}
 use lib.Ieee.Scale.{finite}
 use Rattle.light_bounds.proofs.vecmath.is_finite.Statement.{statement}

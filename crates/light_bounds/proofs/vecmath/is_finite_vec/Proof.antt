@@ -1,6 +1,4 @@
 -- `light_bounds::vecmath::is_finite_vec` meets its contract: its steps are the definition's. Assumes nothing.
-use mathlib.Core.Path.{_≡_, refl, sym, _∙_, ap, subst}
-use lib.Ieee.Scale.{finite}
 use Rattle.light_bounds.specs.Vectors.{finiteVec}
 use borrow.Author.Needs.{needs}
 use Rattle.light_bounds.proofs.vecmath.is_finite_vec.Statement.{statement}

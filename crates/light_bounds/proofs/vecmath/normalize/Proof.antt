@@ -1,11 +1,9 @@
 -- `light_bounds::vecmath::normalize` meets its contract: its steps are the definition's. Assumes nothing.
-use mathlib.Core.Path.{_≡_, refl, sym, _∙_, ap, subst}
-use mathlib.Core.Bool.{true, false}
-use lib.Ieee.{Float, ofBits, eq}
+use mathlib.Core.Path.{_≡_, sym, _∙_, ap}
+use lib.Ieee.{ofBits}
 use lib.Ieee.Scale.{finite}
-use Rattle.ieee.specs.Single.{zero, one, _⊘_}
 use Rattle.words.specs.Answers.{given}
-use Rattle.light_bounds.specs.Vectors.{length, normalize, scaled}
+use Rattle.light_bounds.specs.Vectors.{length, normalize}
 use borrow.Author.Needs.{needs}
 use Rattle.light_bounds.proofs.vecmath.normalize.Statement.{statement}
 use Rattle.light_bounds.proofs.vecmath.normalize.Tie as tie

@@ -1,5 +1,5 @@
 -- `light_bounds::vecmath::rotate` meets its contract: its steps are the definition's. Assumes nothing.
-use mathlib.Core.Path.{_≡_, _∙_, ap, ap₂}
+use mathlib.Core.Path.{_∙_, ap, ap₂}
 use lib.Ieee.{Float}
 use Rattle.ieee.specs.Single.{_⊖_, _⊗_, one}
 use Rattle.light_bounds.specs.Vectors.{plus, scaled, rotate}
@@ -36,7 +36,7 @@ add-requires-2 c κs = search needs
 
 returns : tie.Need-returns
 unfolding rotate
-returns c = 
+returns c =
     let c8 = c .before in
     let c7 = c8 .before in
     let c6 = c7 .before in
