@@ -1,0 +1,305 @@
+-- The order of floats, and how min, max and the operations keep it. `le` and `lt` compare by value: -0 equals +0, and a NaN is in no order.
+-- `nonneg` is "not below zero" by value, so -0 counts. Over the format, but for the last lemma. Assumes nothing.
+use Prim.Native.Nat.{ℕ, zero, suc, _+_, _-_, _*_, _^_, _≤_, _<_, zero-le}
+use mathlib.Core.Path.{_≡_, refl, sym, _∙_, ap, subst}
+use mathlib.Core.Bool.{Bool, true, false, not, _&&_, _||_, Bool·beq, cond}
+use mathlib.Core.Logic.{_⊎_, inl, inr, _↔_}
+use native.Mathlib.Nat.{le-of-lt, le-of-eq, mul-pos, eq-or-lt-of-le, eq-zero-or-pos, lt-of-not-le, zero-mul, le-of-mul-le-mul-right, mul-le-mul-right}
+use native.Mathlib.Decide.{decLe}
+use native.Mathlib.Omega.{arith}
+use lib.Dec.{T, ltb, eqb, eqb→eq, eqb-refl, ltb→lt, lt→ltb, not-T, T-not}
+use lib.IntN.{ℤ, pos, negsuc}
+use lib.Ieee.{Format, Float, nan, inf, fin, up, down, below, level, lt, eq, le, isNan}
+use lib.Ieee.Fits.{eq→eqb, up-pos, down-pos, and-i, and-l, and-r}
+use Rattle.ieee.specs.Choose.{fmin, fmax}
+
+-- ---- the order of finite values, as one of numbers: the sizes a and b count on one side or the other by their signs
+
+abbrev gain : Bool → ℕ → ℕ
+gain s a = cond s 0 a
+
+abbrev loss : Bool → ℕ → ℕ
+loss s a = cond s a 0
+
+or-split : (a b : Bool) → T (a || b) → T a ⊎ T b
+or-split true b t = inl tt
+or-split false b t = inr t
+
+or-left : (a b : Bool) → T a → T (a || b)
+or-left true b t = tt
+or-left false b t = absurd t
+
+or-right : (a b : Bool) → T b → T (a || b)
+or-right true b t = tt
+or-right false b t = t
+
+le-test : (a b : ℕ) (r : Bool) → (T r → a ≤ b) → (a ≡ b → T r) → T (ltb a b || r) ↔ (a ≤ b)
+le-test a b r h k = (
+  λ t. elim (or-split (ltb a b) r t) [ inl u ↦ le-of-lt (ltb→lt a b u) | inr u ↦ h u ],
+  λ l. elim (eq-or-lt-of-le l) [ inl e ↦ or-right (ltb a b) r (k e) | inr u ↦ or-left (ltb a b) r (lt→ltb a b u) ],
+)
+
+zeros : (a b : ℕ) → T (eqb a b && eqb a 0) ↔ (a + b ≤ 0)
+zeros a b = (
+  λ t. let e : a ≡ b = eqb→eq a b (and-l (eqb a b) (eqb a 0) t) in let z : a ≡ 0 = eqb→eq a 0 (and-r (eqb a b) (eqb a 0) t) in omega arith,
+  λ l. let e : a ≡ b = omega arith in let z : a ≡ 0 = omega arith in and-i (eqb a b) (eqb a 0) (eq→eqb e) (eq→eqb z),
+)
+
+le-sizes : (s : Bool) (a : ℕ) (t : Bool) (b : ℕ) → T (below s a t b || level s a t b) ↔ (gain s a + loss t b ≤ gain t b + loss s a)
+le-sizes false a false b =
+    let i = le-test a b (eqb a b && true) (λ t. le-of-eq (eqb→eq a b (and-l (eqb a b) true t))) (λ e. and-i (eqb a b) true (eq→eqb e) tt) in
+    (λ t. let l = i .0 t in omega arith, λ l. i .1 (omega arith))
+le-sizes false a true b = (λ t. let l = zeros a b .0 t in omega arith, λ l. zeros a b .1 (omega arith))
+le-sizes true a false b = (λ t. omega arith, λ l. le-test 0 (a + b) (eqb a b && eqb a 0) (λ t. zero-le) (λ e. zeros a b .1 (omega arith)) .1 zero-le)
+le-sizes true a true b =
+    let i = le-test b a (eqb a b && true) (λ t. le-of-eq (sym (eqb→eq a b (and-l (eqb a b) true t)))) (λ e. and-i (eqb a b) true (eq→eqb (sym e)) tt) in
+    (λ t. let l = i .0 t in omega arith, λ l. i .1 (omega arith))
+
+lt-sizes : (s : Bool) (a : ℕ) (t : Bool) (b : ℕ) → T (below s a t b) ↔ (gain s a + loss t b < gain t b + loss s a)
+lt-sizes false a false b = (λ t. omega (arith, ltb→lt a b t), λ l. lt→ltb a b (omega arith))
+lt-sizes false a true b = (λ t. absurd t, λ l. absurd (omega arith))
+lt-sizes true a false b = (λ t. omega (arith, ltb→lt 0 (a + b) t), λ l. lt→ltb 0 (a + b) (omega arith))
+lt-sizes true a true b = (λ t. omega (arith, ltb→lt b a t), λ l. lt→ltb b a (omega arith))
+
+-- three values gain - loss over a denominator
+chain : (px nx dx py ny dy pz nz dz : ℕ) → 0 < dy → px * dy + ny * dx ≤ py * dx + nx * dy → py * dz + nz * dy ≤ pz * dy + ny * dz → px * dz + nz * dx ≤ pz * dx + nx * dz
+chain px nx dx py ny dy pz nz dz D h k =
+    let a : (px * dy + ny * dx) * dz ≤ (py * dx + nx * dy) * dz = mul-le-mul-right dz h in
+    let b : (py * dz + nz * dy) * dx ≤ (pz * dy + ny * dz) * dx = mul-le-mul-right dx k in
+    le-of-mul-le-mul-right (omega arith) D
+
+gain-mul : (s : Bool) (a k : ℕ) → gain s (a * k) ≡ gain s a * k
+gain-mul true a k = sym (zero-mul k)
+gain-mul false a k = refl
+
+loss-mul : (s : Bool) (a k : ℕ) → loss s (a * k) ≡ loss s a * k
+loss-mul true a k = refl
+loss-mul false a k = sym (zero-mul k)
+
+module _ (s : Bool) (m : ℕ) (e : ℤ) (t : Bool) (n : ℕ) (d : ℤ) where
+  le-fin : T (le (fin s m e) (fin t n d)) ↔ (gain s (m * up e) * down d + loss t (n * up d) * down e ≤ gain t (n * up d) * down e + loss s (m * up e) * down d)
+  unfolding le
+  le-fin =
+      let i = le-sizes s (m * up e * down d) t (n * up d * down e) in
+      (λ h. rw (← gain-mul s (m * up e) (down d), ← loss-mul t (n * up d) (down e), ← gain-mul t (n * up d) (down e), ← loss-mul s (m * up e) (down d)) (i .0 h),
+       λ h. i .1 (rw (gain-mul s (m * up e) (down d), loss-mul t (n * up d) (down e), gain-mul t (n * up d) (down e), loss-mul s (m * up e) (down d)) h))
+
+  lt-fin : T (lt (fin s m e) (fin t n d)) ↔ (gain s (m * up e) * down d + loss t (n * up d) * down e < gain t (n * up d) * down e + loss s (m * up e) * down d)
+  unfolding lt
+  lt-fin =
+      let i = lt-sizes s (m * up e * down d) t (n * up d * down e) in
+      (λ h. rw (← gain-mul s (m * up e) (down d), ← loss-mul t (n * up d) (down e), ← gain-mul t (n * up d) (down e), ← loss-mul s (m * up e) (down d)) (i .0 h),
+       λ h. i .1 (rw (gain-mul s (m * up e) (down d), loss-mul t (n * up d) (down e), gain-mul t (n * up d) (down e), loss-mul s (m * up e) (down d)) h))
+
+-- ---- a total order on the values that are not NaN
+
+abbrev pub nonneg : Float → Bool
+nonneg nan = false
+nonneg (inf s) = not s
+nonneg (fin s m e) = not s || eqb m 0
+
+-- what is in order is no NaN
+pub le-left : (x y : Float) → T (le x y) → T (not (isNan x))
+unfolding le isNan
+le-left nan y h = h
+le-left (inf s) y h = tt
+le-left (fin s m e) y h = tt
+
+pub le-right : (x y : Float) → T (le x y) → T (not (isNan y))
+unfolding le isNan
+le-right nan y h = absurd h
+le-right (inf s) nan h = h
+le-right (inf s) (inf t) h = tt
+le-right (inf s) (fin t n d) h = tt
+le-right (fin s m e) nan h = h
+le-right (fin s m e) (inf t) h = tt
+le-right (fin s m e) (fin t n d) h = tt
+
+-- the least value and the greatest
+pub le-bottom : (x : Float) → T (not (isNan x)) → T (le (inf true) x)
+unfolding le isNan
+le-bottom nan h = h
+le-bottom (inf true) h = tt
+le-bottom (inf false) h = tt
+le-bottom (fin s m e) h = tt
+
+pub le-top : (x : Float) → T (not (isNan x)) → T (le x (inf false))
+unfolding le isNan
+le-top nan h = h
+le-top (inf true) h = tt
+le-top (inf false) h = tt
+le-top (fin s m e) h = tt
+
+pub le-refl : (x : Float) → T (not (isNan x)) → T (le x x)
+unfolding le isNan
+le-refl nan h = h
+le-refl (inf true) h = tt
+le-refl (inf false) h = tt
+le-refl (fin s m e) h = le-fin s m e s m e .1 (omega arith)
+
+pub le-trans : (x y z : Float) → T (le x y) → T (le y z) → T (le x z)
+unfolding le
+le-trans nan y z h k = absurd h
+le-trans (inf true) y z h k = le-bottom z (le-right y z k)
+le-trans (inf false) nan z h k = absurd h
+le-trans (inf false) (inf true) z h k = absurd h
+le-trans (inf false) (inf false) z h k = k
+le-trans (inf false) (fin t n d) z h k = absurd h
+le-trans (fin s m e) nan z h k = absurd h
+le-trans (fin s m e) (inf true) z h k = absurd h
+le-trans (fin s m e) (inf false) nan h k = absurd k
+le-trans (fin s m e) (inf false) (inf true) h k = absurd k
+le-trans (fin s m e) (inf false) (inf false) h k = tt
+le-trans (fin s m e) (inf false) (fin u o b) h k = absurd k
+le-trans (fin s m e) (fin t n d) nan h k = absurd k
+le-trans (fin s m e) (fin t n d) (inf true) h k = absurd k
+le-trans (fin s m e) (fin t n d) (inf false) h k = tt
+le-trans (fin s m e) (fin t n d) (fin u o b) h k =
+    le-fin s m e u o b .1
+    (chain (gain s (m * up e)) (loss s (m * up e)) (down e) (gain t (n * up d)) (loss t (n * up d)) (down d) (gain u (o * up b)) (loss u (o * up b)) (down b) (down-pos d)
+    (le-fin s m e t n d .0 h) (le-fin t n d u o b .0 k))
+
+-- below, or at least
+pub lt-or-le : (x y : Float) → T (not (isNan x)) → T (not (isNan y)) → T (lt x y) ⊎ T (le y x)
+unfolding lt le isNan
+lt-or-le nan y h k = absurd h
+lt-or-le (inf s) nan h k = absurd k
+lt-or-le (inf true) (inf true) h k = inr tt
+lt-or-le (inf true) (inf false) h k = inl tt
+lt-or-le (inf false) (inf true) h k = inr tt
+lt-or-le (inf false) (inf false) h k = inr tt
+lt-or-le (inf true) (fin t n d) h k = inl tt
+lt-or-le (inf false) (fin t n d) h k = inr tt
+lt-or-le (fin s m e) nan h k = absurd k
+lt-or-le (fin s m e) (inf true) h k = inr tt
+lt-or-le (fin s m e) (inf false) h k = inl tt
+lt-or-le (fin s m e) (fin t n d) h k = go (decLe (gain t (n * up d) * down e + loss s (m * up e) * down d) (gain s (m * up e) * down d + loss t (n * up d) * down e))
+  where
+    go : Dec (gain t (n * up d) * down e + loss s (m * up e) * down d ≤ gain s (m * up e) * down d + loss t (n * up d) * down e) → T (lt (fin s m e) (fin t n d)) ⊎ T (le (fin t n d) (fin s m e))
+    go (yes l) = inr (le-fin t n d s m e .1 l)
+    go (no l) = inl (lt-fin s m e t n d .1 (lt-of-not-le l))
+
+pub lt→le : (x y : Float) → T (lt x y) → T (le x y)
+unfolding le
+lt→le x y h = or-left (lt x y) (eq x y) h
+
+pub not-le-of-lt : (x y : Float) → T (lt x y) → T (le y x) → ⊥
+unfolding lt le
+not-le-of-lt nan y h k = h
+not-le-of-lt (inf s) nan h k = h
+not-le-of-lt (inf true) (inf true) h k = h
+not-le-of-lt (inf true) (inf false) h k = k
+not-le-of-lt (inf false) (inf t) h k = h
+not-le-of-lt (inf true) (fin t n d) h k = k
+not-le-of-lt (inf false) (fin t n d) h k = h
+not-le-of-lt (fin s m e) nan h k = h
+not-le-of-lt (fin s m e) (inf true) h k = h
+not-le-of-lt (fin s m e) (inf false) h k = k
+not-le-of-lt (fin s m e) (fin t n d) h k = omega (arith, lt-fin s m e t n d .0 h, le-fin t n d s m e .0 k)
+
+pub le-total : (x y : Float) → T (not (isNan x)) → T (not (isNan y)) → T (le x y) ⊎ T (le y x)
+le-total x y h k = elim (lt-or-le x y h k) [ inl l ↦ inl (lt→le x y l) | inr l ↦ inr l ]
+
+pub le-of-not-lt : (x y : Float) → T (not (isNan x)) → T (not (isNan y)) → T (not (lt y x)) → T (le x y)
+le-of-not-lt x y h k n = elim (lt-or-le y x k h) [ inl l ↦ absurd (T-not (lt y x) n l) | inr l ↦ l ]
+
+pub lt-of-lt-of-le : (x y z : Float) → T (lt x y) → T (le y z) → T (lt x z)
+lt-of-lt-of-le x y z h k = elim (lt-or-le x z (le-left x y (lt→le x y h)) (le-right y z k)) [ inl l ↦ l | inr l ↦ absurd (not-le-of-lt x y h (le-trans y z x k l)) ]
+
+pub lt-of-le-of-lt : (x y z : Float) → T (le x y) → T (lt y z) → T (lt x z)
+lt-of-le-of-lt x y z h k = elim (lt-or-le x z (le-left x y h) (le-right y z (lt→le y z k))) [ inl l ↦ l | inr l ↦ absurd (not-le-of-lt y z k (le-trans z x y l h)) ]
+
+-- ---- not below zero
+
+times-pos : (m : ℕ) (e : ℤ) → m * up e ≤ 0 → m ≡ 0
+times-pos m e h = elim (eq-zero-or-pos m) [ inl z ↦ z | inr p ↦ absurd (omega (arith, mul-pos p (up-pos e))) ]
+
+pub nonneg→le : (x : Float) → T (nonneg x) → T (le (fin false 0 (pos 0)) x)
+unfolding le
+nonneg→le nan h = h
+nonneg→le (inf true) h = h
+nonneg→le (inf false) h = tt
+nonneg→le (fin true m e) h = le-fin false 0 (pos 0) true m e .1 (omega (arith, ap (λ (z : ℕ). z * up e) (eqb→eq m 0 h)))
+nonneg→le (fin false m e) h = le-fin false 0 (pos 0) false m e .1 (omega arith)
+
+pub le→nonneg : (x : Float) → T (le (fin false 0 (pos 0)) x) → T (nonneg x)
+unfolding le
+le→nonneg nan h = h
+le→nonneg (inf true) h = h
+le→nonneg (inf false) h = tt
+le→nonneg (fin true m e) h = eq→eqb (times-pos m e (omega (arith, le-fin false 0 (pos 0) true m e .0 h)))
+le→nonneg (fin false m e) h = tt
+
+pub nonneg-le : (x : Float) → T (nonneg x) ↔ T (le (fin false 0 (pos 0)) x)
+nonneg-le x = (nonneg→le x, le→nonneg x)
+
+pub nonneg-known : (x : Float) → T (nonneg x) → T (not (isNan x))
+nonneg-known x h = le-right (fin false 0 (pos 0)) x (nonneg→le x h)
+
+-- what is at least a value not below zero is not below zero
+pub nonneg-up : (x y : Float) → T (nonneg x) → T (le x y) → T (nonneg y)
+nonneg-up x y h k = le→nonneg y (le-trans (fin false 0 (pos 0)) x y (nonneg→le x h) k)
+
+-- ---- min and max
+
+pick-is : (p q : Bool) (x y : Float) → (cond p y (cond q y x) ≡ x) ⊎ (cond p y (cond q y x) ≡ y)
+pick-is true q x y = inr refl
+pick-is false true x y = inr refl
+pick-is false false x y = inl refl
+
+pub fmin-is : (x y : Float) → (fmin x y ≡ x) ⊎ (fmin x y ≡ y)
+unfolding fmin
+fmin-is x y = pick-is (isNan x) (lt y x) x y
+
+pub fmax-is : (x y : Float) → (fmax x y ≡ x) ⊎ (fmax x y ≡ y)
+unfolding fmax
+fmax-is x y = pick-is (isNan x) (lt x y) x y
+
+pub fmin-nan : (y : Float) → fmin nan y ≡ y
+unfolding fmin isNan
+fmin-nan y = refl
+
+pub fmax-nan : (y : Float) → fmax nan y ≡ y
+unfolding fmax isNan
+fmax-nan y = refl
+
+module _ (x y : Float) (h : T (not (isNan x))) (k : T (not (isNan y))) where
+  pub fmin-le : T (le (fmin x y) x) × T (le (fmin x y) y)
+  unfolding fmin
+  fmin-le = go (isNan x) (lt y x) h (lt→le y x) (le-of-not-lt x y h k)
+    where
+      go : (p q : Bool) → T (not p) → (T q → T (le y x)) → (T (not q) → T (le x y)) → T (le (cond p y (cond q y x)) x) × T (le (cond p y (cond q y x)) y)
+      go true q n a b = absurd n
+      go false true n a b = (a tt, le-refl y k)
+      go false false n a b = (le-refl x h, b tt)
+
+  pub fmax-le : T (le x (fmax x y)) × T (le y (fmax x y))
+  unfolding fmax
+  fmax-le = go (isNan x) (lt x y) h (lt→le x y) (le-of-not-lt y x k h)
+    where
+      go : (p q : Bool) → T (not p) → (T q → T (le x y)) → (T (not q) → T (le y x)) → T (le x (cond p y (cond q y x))) × T (le y (cond p y (cond q y x)))
+      go true q n a b = absurd n
+      go false true n a b = (a tt, le-refl y k)
+      go false false n a b = (le-refl x h, b tt)
+
+pub fmin-mono : (x y c : Float) → T (not (isNan c)) → T (le x y) → T (le (fmin x c) (fmin y c))
+fmin-mono x y c n l =
+    let b = fmin-le x c (le-left x y l) n in
+    elim (fmin-is y c) [
+      | inl e ↦ subst (λ (z : Float). T (le (fmin x c) z)) (sym e) (le-trans (fmin x c) x y (b .0) l)
+      | inr e ↦ subst (λ (z : Float). T (le (fmin x c) z)) (sym e) (b .1)
+    ]
+
+pub fmax-mono : (x y c : Float) → T (not (isNan c)) → T (le x y) → T (le (fmax x c) (fmax y c))
+fmax-mono x y c n l =
+    let b = fmax-le y c (le-right x y l) n in
+    elim (fmax-is x c) [
+      | inl e ↦ subst (λ (z : Float). T (le z (fmax y c))) (sym e) (le-trans x y (fmax y c) l (b .0))
+      | inr e ↦ subst (λ (z : Float). T (le z (fmax y c))) (sym e) (b .1)
+    ]
+
+-- max with zero is no NaN and not below zero, whatever x is
+pub fmax-nonneg : (x : Float) → T (nonneg (fmax x (fin false 0 (pos 0))))
+fmax-nonneg nan = subst (λ (z : Float). T (nonneg z)) (sym (fmax-nan (fin false 0 (pos 0)))) tt
+fmax-nonneg (inf s) = le→nonneg (fmax (inf s) (fin false 0 (pos 0))) (fmax-le (inf s) (fin false 0 (pos 0)) (unfold isNan in tt) (unfold isNan in tt) .1)
+fmax-nonneg (fin s m e) = le→nonneg (fmax (fin s m e) (fin false 0 (pos 0))) (fmax-le (fin s m e) (fin false 0 (pos 0)) (unfold isNan in tt) (unfold isNan in tt) .1)
