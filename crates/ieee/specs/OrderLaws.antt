@@ -2,14 +2,14 @@
 -- `nonneg` is "not below zero" by value, so -0 counts. Over the format, but for the last lemma. Assumes nothing.
 use Prim.Native.Nat.{ℕ, zero, suc, _+_, _-_, _*_, _/_, _%_, _^_, _≤_, _<_, zero-le, compare}
 use mathlib.Core.Path.{_≡_, refl, sym, _∙_, ap, subst}
-use mathlib.Core.Bool.{Bool, true, false, not, _&&_, _||_, Bool·beq, cond}
+use mathlib.Core.Bool.{Bool, true, false, not, _&&_, _||_, cond}
 use mathlib.Core.Logic.{_⊎_, inl, inr, _↔_}
 use native.Mathlib.Nat.{le-of-lt, le-of-eq, mul-pos, mul-comm, mul-le-mul, mul-sub, mul-one, mul-assoc, eq-or-lt-of-le, eq-zero-or-pos, lt-of-not-le, zero-mul, le-of-mul-le-mul-right, mul-le-mul-right}
 use native.Mathlib.Decide.{decLe}
 use native.Mathlib.Omega.{arith}
-use lib.Dec.{T, ltb, eqb, eqb→eq, eqb-refl, ltb→lt, lt→ltb, nltb→le, T-not}
+use lib.Dec.{T, ltb, eqb, eqb→eq, ltb→lt, lt→ltb, nltb→le, T-not, not-T}
 use lib.IntN.{ℤ, pos, negsuc}
-use lib.Ieee.{Format, binary32, binary64, Float, nan, inf, fin, prec, emax, low, unlike, up, down, size, nearest, odd, units, round, neg, sum, add, sub, mul, div, below, level, lt, eq, le, fits, isNan, ofBits}
+use lib.Ieee.{Format, binary32, Float, nan, inf, fin, prec, emax, low, unlike, up, down, size, nearest, odd, units, round, sum, add, sub, mul, div, below, level, lt, eq, le, fits, isNan, ofBits}
 use lib.Ieee.Fits.{eq→eqb, up-pos, down-pos, and-i, and-l, and-r, round-is}
 use lib.Ieee.Exact.{HasValue, round-exact}
 use lib.Ieee.Order.{le-of-values, round-mono}
@@ -205,6 +205,13 @@ not-le-of-lt (fin s m e) nan h k = h
 not-le-of-lt (fin s m e) (inf true) h k = h
 not-le-of-lt (fin s m e) (inf false) h k = k
 not-le-of-lt (fin s m e) (fin t n d) h k = omega (arith, lt-fin s m e t n d .0 h, le-fin t n d s m e .0 k)
+
+pub eq→le : (x y : Float) → T (eq x y) → T (le x y)
+unfolding le
+eq→le x y h = or-right (lt x y) (eq x y) h
+
+pub not-eq-of-lt : (x y : Float) → T (lt x y) → T (not (eq y x))
+not-eq-of-lt x y h = not-T (eq y x) (λ (e : T (eq y x)). not-le-of-lt x y h (eq→le y x e))
 
 pub le-total : (x y : Float) → T (not (isNan x)) → T (not (isNan y)) → T (le x y) ⊎ T (le y x)
 le-total x y h k = elim (lt-or-le x y h k) [ inl l ↦ inl (lt→le x y l) | inr l ↦ inr l ]

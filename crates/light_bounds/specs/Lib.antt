@@ -3,3 +3,4 @@ pub mod Boxes
 pub mod Cones
 pub mod Records
 pub mod Importance
+pub mod BoundsLaws
