@@ -514,8 +514,19 @@ add-nonneg f (fin s m e) (inf true) p q = absurd q
 add-nonneg f (fin s m e) (inf false) p q = tt
 add-nonneg f (fin s m e) (fin t n d) p q = add-rounds f (fin s m e) (fin t n d) p q tt tt .0
 
-pub sub-nonneg : (f : Format) (x y : Float) → T (nonneg x) → T (nonneg y) → T (finite x) → T (finite y) → T (le y x) → T (nonneg (sub f x y))
-sub-nonneg f x y p q a b l = sub-rounds f x y p q a b l .0
+-- what is at most a finite value is finite
+finite-under : (x y : Float) → T (nonneg x) → T (finite y) → T (le x y) → T (finite x)
+unfolding le
+finite-under nan y p b h = absurd p
+finite-under (inf true) y p b h = absurd p
+finite-under (inf false) nan p b h = absurd b
+finite-under (inf false) (inf t) p b h = absurd b
+finite-under (inf false) (fin t n d) p b h = absurd h
+finite-under (fin s m e) y p b h = tt
+
+-- the difference, for a y up to x
+pub sub-nonneg : (f : Format) (x y : Float) → T (nonneg y) → T (finite x) → T (le y x) → T (nonneg (sub f x y))
+sub-nonneg f x y q a l = sub-rounds f x y (nonneg-up y x q l) q a (finite-under y x q a l) l .0
 
 inf-or-nan : (b t : Bool) → T (not t || b) → (cond b nan (inf t) ≡ nan) ⊎ T (nonneg (cond b nan (inf t)))
 inf-or-nan true t h = inl refl
@@ -552,16 +563,6 @@ div-nonneg f (fin s m e) (inf t) p q = inr (or-right (not (unlike s t)) (eqb 0 0
 div-nonneg f (fin s m e) (fin t n d) p q = inr (div-rounds f (fin s m e) (fin t n d) p tt (lt→positive (fin t n d) tt q) .0)
 
 -- ---- the operations keep the order
-
--- what is at most a finite value is finite
-finite-under : (x y : Float) → T (nonneg x) → T (finite y) → T (le x y) → T (finite x)
-unfolding le
-finite-under nan y p b h = absurd p
-finite-under (inf true) y p b h = absurd p
-finite-under (inf false) nan p b h = absurd b
-finite-under (inf false) (inf t) p b h = absurd b
-finite-under (inf false) (fin t n d) p b h = absurd h
-finite-under (fin s m e) y p b h = tt
 
 module _ (f : Format) (u v w z : Float) (p : T (nonneg u)) (q : T (nonneg w)) (h : T (le u v)) (k : T (le w z)) where
   nonneg-v : T (nonneg v)

@@ -1,12 +1,12 @@
 -- What document 02 asks of a bounds record beyond its steps: an importance is no NaN and not below zero, and a union of two records with power
 -- has power and a box that holds both boxes. Assumes nothing.
 use mathlib.Core.Path.{_≡_, refl, sym, subst}
-use mathlib.Core.Bool.{Bool, true, false, cond, not, _&&_, _||_}
+use mathlib.Core.Bool.{Bool, true, false, cond, not, _&&_}
 use lib.Dec.{T}
 use lib.Ieee.{Float, nan, inf, fin, binary32, lt, le, eq, fits, isNan, ofBits}
 use lib.Ieee.Fits.{and-l, and-r}
 use lib.Ieee.Scale.{finite}
-use Rattle.ieee.specs.Choose.{fmin, fmax}
+use Rattle.ieee.specs.Choose.{fmin}
 use Rattle.ieee.specs.OrderLaws.{nonneg, fmax-nonneg, fmin-le, fmax-le, le→nonneg, lt→le, not-eq-of-lt, add-positive}
 use Rattle.ieee.specs.Single.{_⊕_, _⊗_, _⊘_, zero}
 use Rattle.words.specs.Answers.{Answer, given, refused, _then_}
@@ -15,7 +15,6 @@ use Rattle.light_bounds.specs.Cones.{unionDirectionCones}
 use Rattle.light_bounds.specs.Importance.{Seen, dark, lit, facing, finish, geometry, checkedImportance, importance}
 use Rattle.light_bounds.specs.Records.{validate, coneCheck, join, either}
 use Rattle.light_bounds.specs.Vectors.{finiteVec}
-use Rattle.light_bounds.specs.declared.vecmath.Vec3.{Vec3}
 use Rattle.light_bounds.specs.declared.bounds.Bounds3.{Bounds3}
 use Rattle.light_bounds.specs.declared.light_bounds.LightBounds.{LightBounds}
 use Rattle.light_bounds.specs.declared.light_bounds.Query.{Query}
