@@ -89,16 +89,18 @@ module _ (s : Bool) (m : ℕ) (e : ℤ) (t : Bool) (n : ℕ) (d : ℤ) where
   le-fin : T (le (fin s m e) (fin t n d)) ↔ (gain s (m * up e) * down d + loss t (n * up d) * down e ≤ gain t (n * up d) * down e + loss s (m * up e) * down d)
   unfolding le
   le-fin =
-      let i = le-sizes s (m * up e * down d) t (n * up d * down e) in
-      (λ h. rw (← gain-mul s (m * up e) (down d), ← loss-mul t (n * up d) (down e), ← gain-mul t (n * up d) (down e), ← loss-mul s (m * up e) (down d)) (i .0 h),
-       λ h. i .1 (rw (gain-mul s (m * up e) (down d), loss-mul t (n * up d) (down e), gain-mul t (n * up d) (down e), loss-mul s (m * up e) (down d)) h))
+      let i = le-sizes s (m * up e * down d) t (n * up d * down e) in (
+        λ h. rw (← gain-mul s (m * up e) (down d), ← loss-mul t (n * up d) (down e), ← gain-mul t (n * up d) (down e), ← loss-mul s (m * up e) (down d)) (i .0 h),
+        λ h. i .1 (rw (gain-mul s (m * up e) (down d), loss-mul t (n * up d) (down e), gain-mul t (n * up d) (down e), loss-mul s (m * up e) (down d)) h),
+      )
 
   lt-fin : T (lt (fin s m e) (fin t n d)) ↔ (gain s (m * up e) * down d + loss t (n * up d) * down e < gain t (n * up d) * down e + loss s (m * up e) * down d)
   unfolding lt
   lt-fin =
-      let i = lt-sizes s (m * up e * down d) t (n * up d * down e) in
-      (λ h. rw (← gain-mul s (m * up e) (down d), ← loss-mul t (n * up d) (down e), ← gain-mul t (n * up d) (down e), ← loss-mul s (m * up e) (down d)) (i .0 h),
-       λ h. i .1 (rw (gain-mul s (m * up e) (down d), loss-mul t (n * up d) (down e), gain-mul t (n * up d) (down e), loss-mul s (m * up e) (down d)) h))
+      let i = lt-sizes s (m * up e * down d) t (n * up d * down e) in (
+        λ h. rw (← gain-mul s (m * up e) (down d), ← loss-mul t (n * up d) (down e), ← gain-mul t (n * up d) (down e), ← loss-mul s (m * up e) (down d)) (i .0 h),
+        λ h. i .1 (rw (gain-mul s (m * up e) (down d), loss-mul t (n * up d) (down e), gain-mul t (n * up d) (down e), loss-mul s (m * up e) (down d)) h),
+      )
 
 -- ---- a total order on the values that are not NaN
 

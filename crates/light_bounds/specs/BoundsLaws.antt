@@ -1,4 +1,4 @@
--- What document 02 asks of a bounds record beyond its steps: an importance is no NaN and not below zero, and a union of two records with power
+-- Bounds records: an importance is no NaN and not below zero, and a union of two records with power
 -- has power and a box that holds both boxes. Assumes nothing.
 use mathlib.Core.Path.{_≡_, refl, sym, subst}
 use mathlib.Core.Bool.{Bool, true, false, cond, not, _&&_}
@@ -142,8 +142,7 @@ box-holds a b p q =
     let lz = fmin-le (a .min .z) (b .min .z) (p .min-z) (q .min-z) in
     let gx = fmax-le (a .max .x) (b .max .x) (p .max-x) (q .max-x) in
     let gy = fmax-le (a .max .y) (b .max .y) (p .max-y) (q .max-y) in
-    let gz = fmax-le (a .max .z) (b .max .z) (p .max-z) (q .max-z) in
-    (
+    let gz = fmax-le (a .max .z) (b .max .z) (p .max-z) (q .max-z) in (
       record { min-x = lx .0; min-y = ly .0; min-z = lz .0; max-x = gx .0; max-y = gy .0; max-z = gz .0 },
       record { min-x = lx .1; min-y = ly .1; min-z = lz .1; max-x = gx .1; max-y = gy .1; max-z = gz .1 },
     )
