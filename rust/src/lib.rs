@@ -4,4 +4,10 @@
 pub mod cases;
 pub mod functions;
 pub mod proved;
+pub mod records;
+#[cfg(reference)]
+pub mod reference;
+#[cfg(reference)]
+pub mod runs;
 pub mod standins;
+pub mod trig;
