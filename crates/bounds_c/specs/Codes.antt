@@ -1,0 +1,54 @@
+-- The bounds' answers as words, for C. A record is thirteen words, a query six; too few words or an unknown side are refusal 1. Assumes nothing.
+use Prim.Native.Nat.{ℕ, _+_}
+use mathlib.Core.Bool.{cond}
+use mathlib.Core.List.{List, [], _∷_}
+use lib.Dec.{leb}
+use lib.Ieee.{Float, binary32, toBits}
+use lib.ListN.{length}
+use Rattle.words.specs.Answers.{Answer, given, refused, _then_}
+use Rattle.light_bounds.specs.Importance.{importance}
+use Rattle.light_bounds.specs.Records.{validate, union}
+use Rattle.light_bounds.specs.RecordWords.{recordAt, recordWords, vecAt, sideWord}
+use Rattle.light_bounds.specs.declared.vecmath.Vec3.{Vec3}
+use Rattle.light_bounds.specs.declared.light_bounds.LightBounds.{LightBounds}
+use Rattle.light_bounds.specs.declared.light_bounds.Query.{Query}
+use Rattle.light_bounds.specs.declared.record_words.Found.{Found}
+use Rattle.light_bounds.specs.declared.record_words.Found.the-variants.{Record, UnknownSide, Past}
+
+-- 0 where it is done, else the refusal's number
+abbrev pub code : {A : Type 0} → Answer A → ℕ
+code (given a) = 0
+code (refused n) = n
+
+-- a value's bits, or 2^32 and the refusal's number
+abbrev pub valueCode : Answer Float → ℕ
+valueCode (given x) = toBits binary32 x
+valueCode (refused n) = 0x1_0000_0000 + n
+
+abbrev pub found : Found → Answer LightBounds
+found (Record r) = given r
+found UnknownSide = refused 1
+found Past = refused 1
+
+unfoldable pub validateWords : List ℕ → Answer (Unit {0})
+validateWords ws = found (recordAt ws 0) then λ r. validate r
+
+-- point, normal
+unfoldable pub queryOf : List ℕ → Query
+queryOf ws = record { p = vecAt ws 0; n = vecAt ws 3 }
+
+unfoldable pub importanceWords : List ℕ → List ℕ → Answer Float
+importanceWords ws qs = cond (leb 6 (length qs)) (found (recordAt ws 0) then λ r. importance r (queryOf qs)) (refused 1)
+
+-- `room` words are lent for the answer
+unfoldable pub unionWords : List ℕ → List ℕ → ℕ → Answer LightBounds
+unionWords ws vs room = found (recordAt ws 0) then λ a. found (recordAt vs 0) then λ b. cond (leb recordWords room) (union a b) (refused 3)
+
+abbrev pub vecList : Vec3 → List ℕ → List ℕ
+vecList v rest = toBits binary32 (v .x) ∷ toBits binary32 (v .y) ∷ toBits binary32 (v .z) ∷ rest
+
+-- a record's thirteen words
+unfoldable pub recordList : LightBounds → List ℕ
+recordList r =
+    vecList (r .bounds .min) (vecList (r .bounds .max) (vecList (r .direction)
+    (toBits binary32 (r .phi) ∷ toBits binary32 (r .«cos_theta_o») ∷ toBits binary32 (r .«cos_theta_e») ∷ sideWord (r .«two_sided») ∷ [])))

@@ -1,0 +1,147 @@
+// Cosines and arcs, and the bounds of lamps, for C and Rust, for the differential runs and the benchmark: records and queries as slices of words.
+ghost use mathlib.Core.Path.{_≡_};
+ghost use Prim.Native.Nat.{_≤_};
+ghost use lib.ListN.{length};
+ghost use Rattle.words.specs.Tray.{tray};
+ghost use Rattle.trig.specs.Trig.{cos as cosOf, sin as sinOf, acos as acosOf, asin as asinOf};
+ghost use Rattle.light_bounds.specs.Records.{union as unionOf};
+ghost use Rattle.bounds_c.specs.Codes.{code, valueCode, validateWords, importanceWords, unionWords, recordList, queryOf};
+use light_bounds::bounds::Validity;
+use light_bounds::light_bounds::Joined;
+use light_bounds::light_bounds::LightBounds;
+use light_bounds::light_bounds::Query;
+use light_bounds::light_bounds::Weight;
+use light_bounds::light_bounds::importance;
+use light_bounds::light_bounds::union;
+use light_bounds::light_bounds::validate;
+use light_bounds::record_words::Found;
+use light_bounds::record_words::read_record;
+use light_bounds::record_words::write_record;
+use light_bounds::vecmath::Vec3;
+use words::fill::fill_words;
+use words::floats::f32_of_word;
+use words::floats::word_of_f32;
+use words::refusal::refusal_number;
+
+#[no_mangle]
+pub extern "C" fn trig_cos(x: f32) -> f32
+    ensures { λ r. ⌜ r ≡ cosOf x ⌝ }
+{
+    trig::cos(x)
+}
+
+#[no_mangle]
+pub extern "C" fn trig_sin(x: f32) -> f32
+    ensures { λ r. ⌜ r ≡ sinOf x ⌝ }
+{
+    trig::sin(x)
+}
+
+#[no_mangle]
+pub extern "C" fn trig_acos(x: f32) -> f32
+    ensures { λ r. ⌜ r ≡ acosOf x ⌝ }
+{
+    trig::acos(x)
+}
+
+#[no_mangle]
+pub extern "C" fn trig_asin(x: f32) -> f32
+    ensures { λ r. ⌜ r ≡ asinOf x ⌝ }
+{
+    trig::asin(x)
+}
+
+// 0, or the refusal's number.
+#[no_mangle]
+pub extern "C" fn bounds_validate(record: &[u32]) -> u32
+    ensures { λ r. ⌜ r ≡ code (validateWords (now («record» .entry))) ⌝ }
+{
+    match read_record(record, 0) {
+        Found::Record(whole) => match validate(whole) {
+            Validity::Valid => 0,
+            Validity::Refused(why) => refusal_number(why),
+        },
+        Found::UnknownSide => 1,
+        Found::Past => 1,
+    }
+}
+
+// Point, normal.
+fn query_of(words: &[u32]) -> Query
+    requires { ⌜ 6 ≤ length (now words) ⌝ }
+    ensures { λ r. ⌜ r ≡ queryOf (now (words .entry)) ⌝ }
+{
+    let p = Vec3 {
+        x: f32_of_word(words[0]),
+        y: f32_of_word(words[1]),
+        z: f32_of_word(words[2]),
+    };
+    let n = Vec3 {
+        x: f32_of_word(words[3]),
+        y: f32_of_word(words[4]),
+        z: f32_of_word(words[5]),
+    };
+    Query { p, n }
+}
+
+// The importance's bits, or 2^32 and the refusal's number.
+#[no_mangle]
+pub extern "C" fn bounds_importance(record: &[u32], query: &[u32]) -> u64
+    ensures { λ r. ⌜ r ≡ valueCode (importanceWords (now («record» .entry)) (now (query .entry))) ⌝ }
+{
+    if query.len() < 6 {
+        return 0x1_0000_0001;
+    }
+    match read_record(record, 0) {
+        Found::Record(whole) => {
+            let query = query_of(query);
+            match importance(whole, query) {
+                Weight::Importance(x) => word_of_f32(x) as u64,
+                Weight::Refused(why) => 0x1_0000_0000 + refusal_number(why) as u64,
+            }
+        }
+        Found::UnknownSide => 0x1_0000_0001,
+        Found::Past => 0x1_0000_0001,
+    }
+}
+
+// The union of two records, its thirteen words written, or zeros where it is refused.
+fn write_union(a: LightBounds, b: LightBounds, out: &mut [u32]) -> u32
+    requires { ⌜ 13 ≤ length (now out) ⌝ }
+    ensures { λ r. ⌜ r ≡ code (unionOf a b) ⌝ }
+    ensures { λ _. ⌜ now (out .exit) ≡ tray recordList 13 (unionOf a b) (now (out .entry)) ⌝ }
+{
+    match union(a, b) {
+        Joined::Whole(record) => {
+            write_record(out, 0, record);
+            0
+        }
+        Joined::Refused(why) => {
+            fill_words(out, 0, 13, 0);
+            refusal_number(why)
+        }
+    }
+}
+
+// 0, or the refusal's number.
+#[no_mangle]
+pub extern "C" fn bounds_union(a: &[u32], b: &[u32], out: &mut [u32]) -> u32
+    ensures { λ r. ⌜ r ≡ code (unionWords (now (a .entry)) (now (b .entry)) (length (now (out .entry)))) ⌝ }
+    ensures { λ _. ⌜ now (out .exit) ≡ tray recordList 13 (unionWords (now (a .entry)) (now (b .entry)) (length (now (out .entry)))) (now (out .entry)) ⌝ }
+{
+    match read_record(a, 0) {
+        Found::Record(first) => match read_record(b, 0) {
+            Found::Record(second) => {
+                if out.len() < 13 {
+                    3
+                } else {
+                    write_union(first, second, out)
+                }
+            }
+            Found::UnknownSide => 1,
+            Found::Past => 1,
+        },
+        Found::UnknownSide => 1,
+        Found::Past => 1,
+    }
+}
