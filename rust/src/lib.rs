@@ -10,4 +10,5 @@ pub mod reference;
 #[cfg(reference)]
 pub mod runs;
 pub mod standins;
+pub mod stored;
 pub mod trig;

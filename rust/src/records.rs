@@ -191,8 +191,8 @@ impl Random {
         query[..3].copy_from_slice(&bits(point));
         query[3..].copy_from_slice(&bits(normal));
         if self.chance(24) {
-            let place = self.below(6) as usize;
-            query[place] = self.of(&[f32::NAN.to_bits(), 0x7f80_0000, 0xff80_0000, 0xffff_ffff, self.bits() as u32]);
+            let any = self.bits() as u32;
+            query[self.below(6) as usize] = self.of(&[f32::NAN.to_bits(), 0x7f80_0000, 0xff80_0000, 0xffff_ffff, any]);
         }
         query
     }

@@ -3,7 +3,7 @@
 use crate::cases::Random;
 use crate::records::Record;
 use crate::reference::{self, marked, Branch, Branches, BRANCHES};
-use crate::{proved, standins};
+use crate::proved;
 
 /// How the cases of a run ended: given or refused, and the branches on the way.
 #[derive(Default)]
@@ -177,26 +177,4 @@ pub fn importances(seed: u64, cases: u64) -> Tally {
         });
     }
     tally
-}
-
-/// A function of an angle or a cosine: its name, as proved and as stand-in.
-pub type Trig = (&'static str, fn(f32) -> f32, fn(f32) -> f32);
-
-pub const TRIG: [Trig; 4] = [
-    ("cos", proved::cos, crate::trig::cos),
-    ("sin", proved::sin, crate::trig::sin),
-    ("acos", proved::acos, crate::trig::acos),
-    ("asin", proved::asin, crate::trig::asin),
-];
-
-/// How many answers of a function were numbers and how many NaN; ends where one differs.
-pub fn trig((name, proved, standin): Trig, words: impl Iterator<Item = u32>) -> [u64; 2] {
-    let mut counts = [0; 2];
-    for word in words {
-        let x = f32::from_bits(word);
-        let (got, expected) = (standins::word(proved(x)), standins::word(standin(x)));
-        assert!(got == expected, "{name}({word:08x}): {got:08x}, not {expected:08x}");
-        counts[usize::from(expected == 0x7fc0_0000)] += 1;
-    }
-    counts
 }
