@@ -11,4 +11,5 @@ pub mod reference;
 pub mod runs;
 pub mod standins;
 pub mod stored;
+pub mod timing;
 pub mod trig;

@@ -139,6 +139,28 @@ impl Random {
         }
     }
 
+    /// A record as a scene has them: a small box or a point, a direction of length 1, a power above 0.
+    pub fn usual(&mut self) -> Record {
+        let mut record = self.sound();
+        let low = self.vector(4.0);
+        let size = if self.chance(3) { 0.0 } else { 2.0 };
+        let high = low.map(|x| x + self.within(size).abs());
+        let cones = [1.0 + self.within(1.0), self.within(1.0), self.within(1.0)];
+        record[..3].copy_from_slice(&bits(low));
+        record[3..6].copy_from_slice(&bits(high));
+        record[6..9].copy_from_slice(&bits(self.unit()));
+        record[9..12].copy_from_slice(&bits(cones));
+        record
+    }
+
+    /// A point among such records, and a normal of length 1.
+    pub fn usual_query(&mut self) -> Query {
+        let mut query = [0; 6];
+        query[..3].copy_from_slice(&bits(self.vector(8.0)));
+        query[3..].copy_from_slice(&bits(self.unit()));
+        query
+    }
+
     /// One in twelve damaged.
     pub fn record(&mut self) -> Record {
         let mut record = self.sound();

@@ -1,9 +1,9 @@
 //! Runs of the proved bounds against the oracle, counted by how each case ended.
 
 use crate::cases::Random;
+use crate::proved;
 use crate::records::Record;
 use crate::reference::{self, marked, Branch, Branches, BRANCHES};
-use crate::proved;
 
 /// How the cases of a run ended: given or refused, and the branches on the way.
 #[derive(Default)]

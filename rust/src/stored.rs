@@ -65,8 +65,6 @@ impl Stored {
         let cases = words.chunks_exact(WORDS);
         assert!(cases.remainder().is_empty() && bytes.len() % 4 == 0, "a part case");
         let of = |words: &[u32]| padded(words);
-        cases
-            .map(|w| Stored { kind: w[0], a: of(&w[1..14]), b: of(&w[14..27]), number: w[27], result: of(&w[28..]) })
-            .collect()
+        cases.map(|w| Stored { kind: w[0], a: of(&w[1..14]), b: of(&w[14..27]), number: w[27], result: of(&w[28..]) }).collect()
     }
 }

@@ -30,10 +30,7 @@ pub const MARKS: &[Pair] = &[
     ("return Ok(self);", "{ super::mark(super::Branch::SecondPowerless); return Ok(self); }"),
     ("return (a, cos_a);", "{ super::mark(super::Branch::FirstHolds); return (a, cos_a); }"),
     ("return (b, cos_b);", "{ super::mark(super::Branch::SecondHolds); return (b, cos_b); }"),
-    (
-        "if theta_o >= std::f32::consts::PI {",
-        "if theta_o >= std::f32::consts::PI { super::mark(super::Branch::AllDirections);",
-    ),
+    ("if theta_o >= std::f32::consts::PI {", "if theta_o >= std::f32::consts::PI { super::mark(super::Branch::AllDirections);"),
     ("if dot(axis, axis) == 0.0 {", "if dot(axis, axis) == 0.0 { super::mark(super::Branch::NoAxis);"),
     (
         "normalize(axis).unwrap_or([0.0, 0.0, 1.0])",
