@@ -3,7 +3,7 @@
 
 use std::convert::identity;
 
-use crate::cases::{special_cases, Random, Width};
+use crate::cases::{special, special_cases, Random, Width};
 use crate::{proved, standins, trig};
 
 /// The words of up to three arguments.
@@ -120,5 +120,19 @@ impl Function {
         special_cases(self).for_each(check);
         let mut random = Random::new(self.op.into());
         (0..random_cases).for_each(|_| check(random.case(self)));
+    }
+
+    /// The same on special words and on random angles and cosines; counts the answers that are numbers and those that are NaN.
+    pub fn check_angles(&self, seed: u64, random_cases: u64) -> [u64; 2] {
+        let mut random = Random::new(seed);
+        let words = special(self.width).into_iter().chain((0..random_cases).map(|_| random.angle().into()));
+        let mut counts = [0; 2];
+        for word in words {
+            let case = [word, 0, 0];
+            let expected = (self.standin)(&case);
+            assert!((self.proved)(&case) == expected, "{}", self.show(&case));
+            counts[usize::from(expected == f32::NAN.word())] += 1;
+        }
+        counts
     }
 }

@@ -161,9 +161,12 @@ impl Random {
         query
     }
 
-    /// One in twelve damaged.
+    /// One in forty of any bits but for the side, one in twelve damaged.
     pub fn record(&mut self) -> Record {
         let mut record = self.sound();
+        if self.chance(40) {
+            record[..12].fill_with(|| self.bits() as u32);
+        }
         if self.chance(12) {
             self.damage(&mut record);
         }

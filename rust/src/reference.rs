@@ -210,10 +210,11 @@ fn three(words: &[u32]) -> [f32; 3] {
     [0, 1, 2].map(|i| f32::from_bits(words[i]))
 }
 
-macro_rules! of_words {
-    ($side:ident, $name:ident) => {
-        /// A record of words, as the reference has it; an unknown side is refused.
-        pub fn $name(words: &Record) -> Result<$side::light_bounds::LightBounds, u32> {
+/// Records as words on one side, and that side's answers on words.
+macro_rules! on_words {
+    ($side:ident, $validate:ident, $union:ident, $importance:ident, $of_words:ident) => {
+        /// A record of words; an unknown side is refused.
+        pub fn $of_words(words: &Record) -> Result<$side::light_bounds::LightBounds, u32> {
             Ok($side::light_bounds::LightBounds {
                 bounds: $side::light_bounds::Bounds3 { min: three(&words[0..]), max: three(&words[3..]) },
                 direction: three(&words[6..]),
@@ -227,33 +228,33 @@ macro_rules! of_words {
                 },
             })
         }
+
+        pub fn $validate(record: &Record) -> Result<(), u32> {
+            $of_words(record)?.validate().map(|_| ()).map_err(number)
+        }
+
+        pub fn $union(a: &Record, b: &Record) -> Result<Record, u32> {
+            let (a, b) = ($of_words(a)?, $of_words(b)?);
+            let joined = a.union(b).map_err(|_| LOST_UNION)?;
+            let (bounds, cones) = (joined.bounds, [joined.phi, joined.cos_theta_o, joined.cos_theta_e]);
+            Ok(words_of([bounds.min, bounds.max, joined.direction, cones], joined.two_sided))
+        }
+
+        /// The importance as it is stored.
+        pub fn $importance(record: &Record, query: &Query) -> Result<u32, u32> {
+            let record = $of_words(record)?;
+            record.importance(three(&query[0..]), three(&query[3..])).map(standins::word).map_err(number)
+        }
     };
 }
 
-of_words!(oracle, oracle_of_words);
-of_words!(native, native_of_words);
-
-/// The words of a record; a NaN is stored as 7fc00000.
-fn to_words(record: oracle::light_bounds::LightBounds) -> Record {
-    let oracle::light_bounds::LightBounds { bounds, direction, phi, cos_theta_o, cos_theta_e, two_sided } = record;
+/// A record's words; a NaN is stored as 7fc00000.
+fn words_of(figures: [[f32; 3]; 4], two_sided: bool) -> Record {
     let mut words = [0; 13];
-    let figures = [bounds.min, bounds.max, direction, [phi, cos_theta_o, cos_theta_e]].concat();
-    words.iter_mut().zip(figures).for_each(|(word, figure)| *word = standins::word(figure));
+    words.iter_mut().zip(figures.as_flattened()).for_each(|(word, figure)| *word = standins::word(*figure));
     words[12] = two_sided.into();
     words
 }
 
-pub fn validate(record: &Record) -> Result<(), u32> {
-    oracle_of_words(record)?.validate().map(|_| ()).map_err(number)
-}
-
-pub fn union(a: &Record, b: &Record) -> Result<Record, u32> {
-    let (a, b) = (oracle_of_words(a)?, oracle_of_words(b)?);
-    a.union(b).map(to_words).map_err(|_| LOST_UNION)
-}
-
-/// The importance as it is stored.
-pub fn importance(record: &Record, query: &Query) -> Result<u32, u32> {
-    let record = oracle_of_words(record)?;
-    record.importance(three(&query[0..]), three(&query[3..])).map(standins::word).map_err(number)
-}
+on_words!(oracle, validate, union, importance, oracle_of_words);
+on_words!(native, native_validate, native_union, native_importance, native_of_words);

@@ -78,6 +78,9 @@ pub fn validates(seed: u64, cases: u64) -> Tally {
     tally
 }
 
+/// Not a difference: what the reference would answer with Rust's own library functions.
+const OWN: &str = "apart: another answer with Rust's own library functions";
+
 const UNION: &[&str] = &[
     "lost: the first fails its check",
     "lost: the second fails its check",
@@ -87,6 +90,7 @@ const UNION: &[&str] = &[
     "lost: by 8",
     "joined: NaN in the direction",
     "joined: the power is infinite",
+    OWN,
 ];
 
 /// The words that a union is written to lie at the front of a longer slice, whose rest must stay; a refusal 10 zeroes them, a
@@ -119,6 +123,7 @@ pub fn unions(seed: u64, cases: u64) -> Tally {
             why == Some(8),
             joined(6, 0x7fc0_0000),
             joined(9, 0x7f80_0000),
+            reference::native_union(&a, &b) != expected,
         ];
         tally.case(&expected, branches, &more, same, || {
             format!("union({a:08x?}, {b:08x?}): {answer:?} {:08x?}, not {expected:08x?}", &got[..13])
@@ -131,6 +136,7 @@ const IMPORTANCE: &[&str] = &[
     "weight: above 0",
     "weight: 0 where the cosine is within the cone",
     "weight: infinite",
+    "weight: -0",
     "weight: lit, without a normal",
     "weight: facing, with a normal",
     "refused: 5 of the record",
@@ -139,6 +145,7 @@ const IMPORTANCE: &[&str] = &[
     "refused: 7 at the centre of a box",
     "refused: 7 of a distance not finite",
     "refused: 7 of the normal",
+    OWN,
 ];
 
 fn at_center(record: &Record, query: &[u32]) -> bool {
@@ -163,6 +170,7 @@ pub fn importances(seed: u64, cases: u64) -> Tally {
             lit && weight > 0.0,
             lit && weight == 0.0,
             weight == f32::INFINITY,
+            expected == Ok(1 << 31),
             lit && !normal,
             lit && normal,
             expected == Err(5) && check.is_some(),
@@ -171,6 +179,7 @@ pub fn importances(seed: u64, cases: u64) -> Tally {
             seven && !normal && center,
             seven && !normal && !center,
             seven && normal,
+            reference::native_importance(&record, &query) != expected,
         ];
         tally.case(&expected, branches, &more, got == expected, || {
             format!("importance({record:08x?}, {query:08x?}): {got:08x?}, not {expected:08x?}")

@@ -1,24 +1,16 @@
 //! The differential runs of the gate: the proved cosines and arcs against document 01's, the proved bounds against the oracle, and
 //! the stored answers of both.
 
-use coltoctober::cases::{special, Random, Width};
+use coltoctober::cases::Random;
 use coltoctober::functions::Function;
 use coltoctober::proved;
 use coltoctober::stored::{Stored, PATH};
 
-const CASES: u64 = 400_000;
+const CASES: u64 = 1_000_000;
 
-/// Every special word, then random ones; both numbers and NaN are among the answers.
+/// Both numbers and NaN are among the answers.
 fn angles(name: &str) {
-    let f = Function::named(name);
-    let mut random = Random::new(0);
-    let words = special(Width::F32).into_iter().chain((0..CASES).map(|_| random.angle().into()));
-    let mut counts = [0; 2];
-    for word in words {
-        let case = [word, 0, 0];
-        assert!((f.proved)(&case) == (f.standin)(&case), "{}", f.show(&case));
-        counts[usize::from((f.standin)(&case) == 0x7fc0_0000)] += 1;
-    }
+    let counts = Function::named(name).check_angles(0, CASES);
     println!("{name}: {} numbers and {} NaN, none differs", counts[0], counts[1]);
     assert!(counts.iter().all(|count| *count > 0));
 }
@@ -43,10 +35,13 @@ fn asin() {
     angles("asin");
 }
 
-/// Marked in the issue: cos of the f32 next to π/2.
+/// Half a turn, a quarter and the cosine of the f32 nearest to it.
 #[test]
-fn cos_of_half_pi() {
-    assert_eq!(proved::cos(f32::from_bits(0x3fc9_0fdb)).to_bits(), 0xb33b_bd2e);
+fn marked_angles() {
+    let of = f32::from_bits;
+    assert_eq!(proved::cos(of(0x3fc9_0fdb)).to_bits(), 0xb33b_bd2e);
+    assert_eq!(proved::acos(of(0xbf80_0000)).to_bits(), 0x4049_0fdb);
+    assert_eq!(proved::asin(of(0x3f80_0000)).to_bits(), 0x3fc9_0fdb);
 }
 
 /// The oracle's stored answers, with no need of the reference.
@@ -91,7 +86,10 @@ fn lengths() {
 #[cfg(not(reference))]
 #[test]
 fn reference_is_absent() {
-    println!("The reference, ../shared/docs, is absent: only the stored answers were held against the proved bounds.");
+    use std::io::Write;
+    // not by a macro, whose lines a passing test keeps back
+    let said = "The reference, ../shared/docs, is absent: only its stored answers were held against the proved bounds.";
+    writeln!(std::io::stderr(), "{said}").unwrap();
 }
 
 #[cfg(reference)]

@@ -1,4 +1,5 @@
-//! By hand: `cargo run --release --bin bounds_run -- COUNT [SEED]`. So many unions, importances and checks, proved against oracle.
+//! By hand: `cargo run --release --bin bounds_run -- COUNT [SEED]`. So many unions, importances and checks, proved against
+//! oracle, and so many of each function of angles.
 
 #[cfg(not(reference))]
 fn main() {
@@ -8,6 +9,7 @@ fn main() {
 
 #[cfg(reference)]
 fn main() {
+    use coltoctober::functions::Function;
     use coltoctober::runs::{importances, unions, validates, Tally};
     use std::time::Instant;
 
@@ -22,6 +24,10 @@ fn main() {
         print!("{name}, seed {seed}: {tally}");
         println!("    {:.1} s", began.elapsed().as_secs_f64());
         differences += tally.differences;
+    }
+    for name in ["cos", "sin", "acos", "asin"] {
+        let [numbers, nans] = Function::named(name).check_angles(seed, count);
+        println!("{name}, seed {seed}: {numbers} numbers and {nans} NaN, none differs");
     }
     std::process::exit((differences > 0).into());
 }
