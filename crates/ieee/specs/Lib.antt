@@ -16,3 +16,4 @@ pub mod Rounding
 pub mod NearestLaws
 pub mod SqrtNearest
 pub mod WholeNumbers
+pub mod OrderLaws

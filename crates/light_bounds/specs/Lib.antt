@@ -5,3 +5,4 @@ pub mod Records
 pub mod Importance
 pub mod RecordWords
 pub mod RecordLaws
+pub mod BoundsLaws

@@ -1,0 +1,155 @@
+-- Bounds records: an importance is no NaN and not below zero, and a union of two records with power
+-- has power and a box that holds both boxes. Assumes nothing.
+use mathlib.Core.Path.{_≡_, refl, sym, subst}
+use mathlib.Core.Bool.{Bool, true, false, cond, not, _&&_}
+use lib.Dec.{T}
+use lib.Ieee.{Float, nan, inf, fin, binary32, lt, le, eq, fits, isNan, ofBits}
+use lib.Ieee.Fits.{and-l, and-r}
+use lib.Ieee.Scale.{finite}
+use Rattle.ieee.specs.Choose.{fmin}
+use Rattle.ieee.specs.OrderLaws.{nonneg, fmax-nonneg, fmin-le, fmax-le, le→nonneg, lt→le, not-eq-of-lt, add-positive}
+use Rattle.ieee.specs.Single.{_⊕_, _⊗_, _⊘_, zero}
+use Rattle.words.specs.Answers.{Answer, given, refused, _then_}
+use Rattle.light_bounds.specs.Boxes.{boxCheck, boxUnion, leastOf, greatestOf, inverted}
+use Rattle.light_bounds.specs.Cones.{unionDirectionCones}
+use Rattle.light_bounds.specs.Importance.{Seen, dark, lit, facing, finish, geometry, checkedImportance, importance}
+use Rattle.light_bounds.specs.Records.{validate, coneCheck, join, either}
+use Rattle.light_bounds.specs.Vectors.{finiteVec}
+use Rattle.light_bounds.specs.declared.bounds.Bounds3.{Bounds3}
+use Rattle.light_bounds.specs.declared.light_bounds.LightBounds.{LightBounds}
+use Rattle.light_bounds.specs.declared.light_bounds.Query.{Query}
+
+-- ---- the importance
+
+-- an answer that, where given, is no NaN and not below zero
+abbrev Good : Answer Float → Type 0
+Good (given x) = T (nonneg x)
+Good (refused n) = Unit {0}
+
+then-good : {A : Type 0} (v : Answer A) (next : A → Answer Float) → ((a : A) → Good (next a)) → Good (v then next)
+unfolding _then_
+then-good (given a) next h = h a
+then-good (refused n) next h = tt
+
+-- the last step is a max with zero
+finish-nonneg : (phi : Float) (s : Seen) → T (nonneg (finish phi s))
+unfolding finish ofBits
+finish-nonneg phi dark = tt
+finish-nonneg phi (lit p d2) = fmax-nonneg (phi ⊗ p ⊘ d2)
+finish-nonneg phi (facing p d2 i) = fmax-nonneg (phi ⊗ p ⊘ d2 ⊗ i)
+
+good : (r : LightBounds) (q : Query) → Good (importance r q)
+unfolding importance checkedImportance
+good r q = then-good (validate r) (λ _. checkedImportance r q) (λ _. go (finiteVec (q .p) && finiteVec (q .n)))
+  where
+    go : (b : Bool) → Good (cond b (geometry r q then λ (s : Seen). given (finish (r .phi) s)) (refused 5))
+    go true = then-good (geometry r q) (λ (s : Seen). given (finish (r .phi) s)) (finish-nonneg (r .phi))
+    go false = tt
+
+pub importance-nonneg : (r : LightBounds) (q : Query) (x : Float) → importance r q ≡ given x → T (nonneg x)
+importance-nonneg r q x e = subst Good e (good r q)
+
+-- ---- the union
+
+-- where neither power is zero, the union is this record
+abbrev made : LightBounds → LightBounds → LightBounds
+made a b =
+    let c = unionDirectionCones (a .direction) (a .«cos_theta_o») (b .direction) (b .«cos_theta_o») in
+    record {
+      bounds = boxUnion (a .bounds) (b .bounds);
+      direction = c .direction;
+      phi = a .phi ⊕ b .phi;
+      «cos_theta_o» = c .«cos_theta»;
+      «cos_theta_e» = fmin (a .«cos_theta_e») (b .«cos_theta_e»);
+      «two_sided» = either (a .«two_sided») (b .«two_sided»);
+    }
+
+join-made : (a b : LightBounds) → T (lt zero (a .phi)) → T (lt zero (b .phi)) → join a b ≡ made a b
+unfolding join
+join-made a b p q = go (eq (a .phi) zero) (eq (b .phi) zero) (not-eq-of-lt zero (a .phi) p) (not-eq-of-lt zero (b .phi) q)
+  where
+    go : (c d : Bool) → T (not c) → T (not d) → cond c b (cond d a (made a b)) ≡ made a b
+    go true d m n = absurd m
+    go false true m n = absurd n
+    go false false m n = refl
+
+-- the union of two records with power has power. That the first power is an f32 is asked: a sum rounds to 0 only below the smallest one.
+pub union-power : (a b : LightBounds) → T (fits binary32 (a .phi)) → T (lt zero (a .phi)) → T (lt zero (b .phi)) → T (lt zero (join a b .phi))
+unfolding ofBits
+union-power a b f p q =
+    subst (λ (r : LightBounds). T (lt zero (r .phi))) (sym (join-made a b p q))
+    (add-positive binary32 (a .phi) (b .phi) f p (le→nonneg (b .phi) (lt→le zero (b .phi) q)))
+
+-- "One box holds another where on each axis its min is at most the other's and its max at least"
+pub record Holds (outer inner : Bounds3) : Type 0 where
+  pub min-x : T (le (outer .min .x) (inner .min .x))
+  pub min-y : T (le (outer .min .y) (inner .min .y))
+  pub min-z : T (le (outer .min .z) (inner .min .z))
+  pub max-x : T (le (inner .max .x) (outer .max .x))
+  pub max-y : T (le (inner .max .y) (outer .max .y))
+  pub max-z : T (le (inner .max .z) (outer .max .z))
+
+known : (x : Float) → T (finite x) → T (not (isNan x))
+unfolding isNan
+known nan h = h
+known (inf s) h = absurd h
+known (fin s m e) h = tt
+
+-- no coordinate is a NaN
+record Known (b : Bounds3) : Type 0 where
+  min-x : T (not (isNan (b .min .x)))
+  min-y : T (not (isNan (b .min .y)))
+  min-z : T (not (isNan (b .min .z)))
+  max-x : T (not (isNan (b .max .x)))
+  max-y : T (not (isNan (b .max .y)))
+  max-z : T (not (isNan (b .max .z)))
+
+abbrev Fails : Answer (Unit {0}) → Type 0
+Fails (given u) = ⊥
+Fails (refused n) = Unit {0}
+
+-- a checked record's box is finite
+checked : (r : LightBounds) → validate r ≡ given tt → T (finiteVec (r .bounds .min) && finiteVec (r .bounds .max))
+unfolding validate boxCheck _then_
+checked r e = go (finiteVec (r .bounds .min) && finiteVec (r .bounds .max)) (cond (inverted (r .bounds)) (refused 6) (given tt)) e
+  where
+    go : (c : Bool) (v : Answer (Unit {0})) → (cond c v (refused 5) then λ _. coneCheck r) ≡ given tt → T c
+    go true v e = tt
+    go false v e = subst Fails e tt
+
+known-box : (r : LightBounds) → validate r ≡ given tt → Known (r .bounds)
+unfolding finiteVec
+known-box r e =
+    let a = r .bounds .min in
+    let b = r .bounds .max in
+    let h : T (finiteVec a && finiteVec b) = checked r e in
+    let l : T (finiteVec a) = and-l (finiteVec a) (finiteVec b) h in
+    let g : T (finiteVec b) = and-r (finiteVec a) (finiteVec b) h in
+    record {
+      min-x = known (a .x) (and-l (finite (a .x)) (finite (a .y) && finite (a .z)) l);
+      min-y = known (a .y) (and-l (finite (a .y)) (finite (a .z)) (and-r (finite (a .x)) (finite (a .y) && finite (a .z)) l));
+      min-z = known (a .z) (and-r (finite (a .y)) (finite (a .z)) (and-r (finite (a .x)) (finite (a .y) && finite (a .z)) l));
+      max-x = known (b .x) (and-l (finite (b .x)) (finite (b .y) && finite (b .z)) g);
+      max-y = known (b .y) (and-l (finite (b .y)) (finite (b .z)) (and-r (finite (b .x)) (finite (b .y) && finite (b .z)) g));
+      max-z = known (b .z) (and-r (finite (b .y)) (finite (b .z)) (and-r (finite (b .x)) (finite (b .y) && finite (b .z)) g));
+    }
+
+box-holds : (a b : Bounds3) → Known a → Known b → Holds (boxUnion a b) a × Holds (boxUnion a b) b
+unfolding boxUnion leastOf greatestOf
+box-holds a b p q =
+    let lx = fmin-le (a .min .x) (b .min .x) (p .min-x) (q .min-x) in
+    let ly = fmin-le (a .min .y) (b .min .y) (p .min-y) (q .min-y) in
+    let lz = fmin-le (a .min .z) (b .min .z) (p .min-z) (q .min-z) in
+    let gx = fmax-le (a .max .x) (b .max .x) (p .max-x) (q .max-x) in
+    let gy = fmax-le (a .max .y) (b .max .y) (p .max-y) (q .max-y) in
+    let gz = fmax-le (a .max .z) (b .max .z) (p .max-z) (q .max-z) in (
+      record { min-x = lx .0; min-y = ly .0; min-z = lz .0; max-x = gx .0; max-y = gy .0; max-z = gz .0 },
+      record { min-x = lx .1; min-y = ly .1; min-z = lz .1; max-x = gx .1; max-y = gy .1; max-z = gz .1 },
+    )
+
+-- the union's box holds both
+pub union-holds : (a b : LightBounds) → validate a ≡ given tt → validate b ≡ given tt → T (lt zero (a .phi)) → T (lt zero (b .phi))
+    → Holds (join a b .bounds) (a .bounds) × Holds (join a b .bounds) (b .bounds)
+union-holds a b v w p q =
+    subst (λ (r : LightBounds). Holds (r .bounds) (a .bounds) × Holds (r .bounds) (b .bounds)) (sym (join-made a b p q))
+    (box-holds (a .bounds) (b .bounds) (known-box a v) (known-box b w))
