@@ -5,32 +5,29 @@ use crate::standins::{narrow, sqrt64, widen};
 const PI: f64 = f64::from_bits(0x4009_21fb_5444_2d18);
 const HALF_PI: f64 = f64::from_bits(0x3ff9_21fb_5444_2d18);
 
-/// "Q = 1, for m = 20 down to 1, Q = 1 - (z / ((2m-1)(2m))) × Q".
-pub fn cos(x: f32) -> f32 {
-    let x = widen(x);
-    if !(-8.0..=8.0).contains(&x) {
-        return f32::NAN;
-    }
+/// "Q = 1, for m = 20 down to 1, Q = 1 - (z / …) × Q" over the divisors given.
+fn series(x: f64, divisor: fn(u32) -> u32) -> f64 {
     let z = x * x;
-    let mut q = 1.0;
-    for m in (1..=20u32).rev() {
-        q = 1.0 - (z / f64::from((2 * m - 1) * (2 * m))) * q;
+    (1..=20).rev().fold(1.0, |q, m| 1.0 - (z / f64::from(divisor(m))) * q)
+}
+
+/// "NaN for NaN or size above 8".
+fn within_8(x: f32, figure: fn(f64) -> f64) -> f32 {
+    let x = widen(x);
+    if (-8.0..=8.0).contains(&x) {
+        narrow(figure(x))
+    } else {
+        f32::NAN
     }
-    narrow(q)
+}
+
+pub fn cos(x: f32) -> f32 {
+    within_8(x, |x| series(x, |m| (2 * m - 1) * (2 * m)))
 }
 
 /// "S likewise with (2m)(2m+1), result X × S".
 pub fn sin(x: f32) -> f32 {
-    let x = widen(x);
-    if !(-8.0..=8.0).contains(&x) {
-        return f32::NAN;
-    }
-    let z = x * x;
-    let mut s = 1.0;
-    for m in (1..=20u32).rev() {
-        s = 1.0 - (z / f64::from((2 * m) * (2 * m + 1))) * s;
-    }
-    narrow(x * s)
+    within_8(x, |x| x * series(x, |m| (2 * m) * (2 * m + 1)))
 }
 
 /// "K(X) = X × P: P = 1, for m = 16 down to 1, P = 1 + P × ((z × (2m-1)²) / (2m(2m+1)))".
