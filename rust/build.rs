@@ -1,17 +1,89 @@
-//! Links the proved functions. The archive is made by Rattle, not by cargo.
-use std::path::PathBuf;
+//! Links the proved functions, and prepares the reference files for `reference.rs`. The archives are made by Rattle, not by cargo.
 
-const FOLDER: &str = "COLTOCTOBER_STATICLIB";
+use std::path::{Path, PathBuf};
 
-fn main() {
-    let folder = std::env::var_os(FOLDER).map_or_else(|| PathBuf::from("../target/staticlib"), PathBuf::from);
-    let archive = folder.join("libfloats_c.a");
-    println!("cargo:rerun-if-env-changed={FOLDER}");
+#[path = "src/substitution.rs"]
+mod substitution;
+
+use substitution::{Pair, BORROWED, BY_VALUE, LIBRARY, MARKS, METHODS};
+
+const ARCHIVES: &str = "COLTOCTOBER_STATICLIB";
+const REFERENCE: &str = "COLTOCTOBER_REFERENCE";
+
+fn folder(variable: &str, usual: &str) -> PathBuf {
+    println!("cargo:rerun-if-env-changed={variable}");
+    std::env::var_os(variable).map_or_else(|| PathBuf::from(usual), PathBuf::from)
+}
+
+fn stop(why: String) -> ! {
+    eprintln!("{why}");
+    std::process::exit(1);
+}
+
+fn link(folder: &Path, name: &str) {
+    let archive = folder.join(format!("lib{name}.a"));
     println!("cargo:rerun-if-changed={}", archive.display());
     let Ok(archive) = archive.canonicalize() else {
-        eprintln!("{} is absent: `rt staticlib floats_c`, run in the repository's root, makes it", archive.display());
-        std::process::exit(1);
+        stop(format!("{} is absent: `rt staticlib {name}`, run in the repository's root, makes it", archive.display()));
     };
     println!("cargo:rustc-link-search=native={}", archive.parent().unwrap().display());
-    println!("cargo:rustc-link-lib=static=floats_c");
+    println!("cargo:rustc-link-lib=static={name}");
+}
+
+fn substitute(text: &str, pairs: &[Pair]) -> String {
+    pairs.iter().fold(text.to_string(), |text, (from, to)| {
+        if !text.contains(from) {
+            stop(format!("the reference has no {from:?}: src/substitution.rs does not fit it"));
+        }
+        text.replace(from, to)
+    })
+}
+
+/// The names of the methods that the text calls.
+fn methods(text: &str) -> impl Iterator<Item = &str> {
+    text.split('.').skip(1).filter_map(|after| {
+        let name = &after[..after.find(|c: char| !c.is_alphanumeric() && c != '_').unwrap_or(after.len())];
+        let called = after[name.len()..].starts_with('(') || after[name.len()..].starts_with("::");
+        (called && name.starts_with(|c: char| c.is_alphabetic())).then_some(name)
+    })
+}
+
+/// The text of a function with no other inside, from its first line to the brace that ends it.
+fn function<'a>(text: &'a str, head: &str) -> &'a str {
+    let Some(start) = text.find(head) else { stop(format!("the reference has no {head:?}")) };
+    let end = text[start..].find("\n}").map_or(text.len(), |end| start + end + 2);
+    &text[start..end]
+}
+
+fn prepare(bounds: &str, sampling: &str) {
+    let out = PathBuf::from(std::env::var_os("OUT_DIR").unwrap());
+    let native = substitute(bounds, BORROWED);
+    let oracle = substitute(&substitute(&native, MARKS), LIBRARY);
+    if let Some(name) = methods(&oracle).find(|name| !METHODS.contains(name)) {
+        stop(format!("the oracle calls {name}, which src/substitution.rs does not know"));
+    }
+    let angle = substitute(function(sampling, "pub fn angle_between("), BY_VALUE);
+    for (name, text) in [("native.rs", &native), ("oracle.rs", &oracle), ("angle_between.rs", &angle)] {
+        std::fs::write(out.join(name), text).unwrap();
+    }
+}
+
+fn main() {
+    let archives = folder(ARCHIVES, "../target/staticlib");
+    link(&archives, "floats_c");
+    link(&archives, "bounds_c");
+
+    println!("cargo:rustc-check-cfg=cfg(reference)");
+    let files = folder(REFERENCE, "../../shared/docs");
+    let read = |name: &str| {
+        let path = files.join(name);
+        println!("cargo:rerun-if-changed={}", path.display());
+        std::fs::read_to_string(path)
+    };
+    let bounds = read("src--src--gpu--flat--light_bounds.rs.txt");
+    let sampling = read("src--src--util--sampling--sampling.rs.txt");
+    if let (Ok(bounds), Ok(sampling)) = (bounds, sampling) {
+        prepare(&bounds, &sampling);
+        println!("cargo:rustc-cfg=reference");
+    }
 }

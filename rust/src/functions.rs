@@ -3,8 +3,8 @@
 
 use std::convert::identity;
 
-use crate::cases::{special_cases, Random, Width};
-use crate::{proved, standins};
+use crate::cases::{special, special_cases, Random, Width};
+use crate::{proved, standins, trig};
 
 /// The words of up to three arguments.
 pub type Case = [u64; 3];
@@ -17,7 +17,7 @@ pub struct Function {
     pub width: Width,
     pub proved: fn(&Case) -> u64,
     pub standin: fn(&Case) -> u64,
-    /// None where Rust's own panics.
+    /// None where Rust's own panics or is no measure.
     pub own: fn(&Case) -> Option<u64>,
 }
 
@@ -67,6 +67,9 @@ macro_rules! functions {
     };
 }
 
+/// Document 01 fixes the steps of cos, sin, acos and asin; Rust's own take others, and are no measure.
+const OWN_ANGLES: bool = false;
+
 functions! {
     1 min(a: f32, b), standins::min, f32::min;
     2 max(a: f32, b), standins::max, f32::max;
@@ -85,6 +88,10 @@ functions! {
     15 word_of_f64(x: f64), standins::word64, |x: f64| if x.is_nan() { f64::NAN.to_bits() } else { x.to_bits() };
     0 f32_of_word(w: u32), f32::from_bits, f32::from_bits;
     0 f64_of_word(w: u64), f64::from_bits, f64::from_bits;
+    0 cos(x: f32), trig::cos, f32::cos, if OWN_ANGLES;
+    0 sin(x: f32), trig::sin, f32::sin, if OWN_ANGLES;
+    0 acos(x: f32), trig::acos, f32::acos, if OWN_ANGLES;
+    0 asin(x: f32), trig::asin, f32::asin, if OWN_ANGLES;
 }
 
 impl Function {
@@ -113,5 +120,19 @@ impl Function {
         special_cases(self).for_each(check);
         let mut random = Random::new(self.op.into());
         (0..random_cases).for_each(|_| check(random.case(self)));
+    }
+
+    /// The same on special words and on random angles and cosines; counts the answers that are numbers and those that are NaN.
+    pub fn check_angles(&self, seed: u64, random_cases: u64) -> [u64; 2] {
+        let mut random = Random::new(seed);
+        let words = special(self.width).into_iter().chain((0..random_cases).map(|_| random.angle().into()));
+        let mut counts = [0; 2];
+        for word in words {
+            let case = [word, 0, 0];
+            let expected = (self.standin)(&case);
+            assert!((self.proved)(&case) == expected, "{}", self.show(&case));
+            counts[usize::from(expected == f32::NAN.word())] += 1;
+        }
+        counts
     }
 }

@@ -4,4 +4,12 @@
 pub mod cases;
 pub mod functions;
 pub mod proved;
+pub mod records;
+#[cfg(reference)]
+pub mod reference;
+#[cfg(reference)]
+pub mod runs;
 pub mod standins;
+pub mod stored;
+pub mod timing;
+pub mod trig;

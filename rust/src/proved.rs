@@ -1,4 +1,4 @@
-//! The proved functions: the one place that declares what `libfloats_c.a` exports.
+//! The proved functions: the one place that declares what `libfloats_c.a` and `libbounds_c.a` export.
 
 // SAFETY: nothing checks these lines against the Rattle source. There each function is proved for every input, so those on
 // plain numbers are safe to call; those on slices are wrapped below.
@@ -37,6 +37,14 @@ unsafe extern "C" {
     pub safe fn f64_of_word(w: u64) -> f64;
     #[link_name = "words_word_of_f64"]
     pub safe fn word_of_f64(x: f64) -> u64;
+    #[link_name = "trig_cos"]
+    pub safe fn cos(x: f32) -> f32;
+    #[link_name = "trig_sin"]
+    pub safe fn sin(x: f32) -> f32;
+    #[link_name = "trig_acos"]
+    pub safe fn acos(x: f32) -> f32;
+    #[link_name = "trig_asin"]
+    pub safe fn asin(x: f32) -> f32;
 
     fn words_word_at(bytes: *const u8, len: usize, place: usize) -> u32;
     fn words_set_word(bytes: *mut u8, len: usize, place: usize, w: u32);
@@ -44,6 +52,13 @@ unsafe extern "C" {
     fn words_fill(words: *mut u32, len: usize, from: usize, to: usize, v: u32);
     fn words_words_of_bytes(bytes: *const u8, len: usize, words: *mut u32, words_len: usize) -> u32;
     fn words_bytes_of_words(words: *const u32, len: usize, bytes: *mut u8, bytes_len: usize) -> u32;
+
+    #[link_name = "bounds_validate"]
+    fn validate(record: *const u32, len: usize) -> u32;
+    #[link_name = "bounds_union"]
+    fn union_(a: *const u32, a_len: usize, b: *const u32, b_len: usize, out: *mut u32, out_len: usize) -> u32;
+    #[link_name = "bounds_importance"]
+    fn importance(record: *const u32, len: usize, query: *const u32, query_len: usize) -> u64;
 }
 
 /// The word at a place, 0 past the last whole word.
@@ -75,6 +90,25 @@ pub fn words_of_bytes(bytes: &[u8], words: &mut [u32]) -> Result<(), u32> {
 /// Writes the words as bytes. A slice too short for them is refusal 3.
 pub fn bytes_of_words(words: &[u32], bytes: &mut [u8]) -> Result<(), u32> {
     answer(unsafe { words_bytes_of_words(words.as_ptr(), words.len(), bytes.as_mut_ptr(), bytes.len()) })
+}
+
+/// The check of a record of thirteen words.
+pub fn bounds_validate(record: &[u32]) -> Result<(), u32> {
+    answer(unsafe { validate(record.as_ptr(), record.len()) })
+}
+
+/// The record around two, written to the front of `out`.
+pub fn bounds_union(a: &[u32], b: &[u32], out: &mut [u32]) -> Result<(), u32> {
+    answer(unsafe { union_(a.as_ptr(), a.len(), b.as_ptr(), b.len(), out.as_mut_ptr(), out.len()) })
+}
+
+/// The word of a record's importance for a query of six words, a point and a normal.
+pub fn bounds_importance(record: &[u32], query: &[u32]) -> Result<u32, u32> {
+    let answer = unsafe { importance(record.as_ptr(), record.len(), query.as_ptr(), query.len()) };
+    match answer >> 32 {
+        0 => Ok(answer as u32),
+        _ => Err(answer as u32),
+    }
 }
 
 /// A refusal's number, 0 for none.

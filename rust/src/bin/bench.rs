@@ -2,12 +2,7 @@
 
 use coltoctober::cases::Random;
 use coltoctober::proved;
-use std::hint::black_box;
-use std::time::Instant;
-
-const INPUTS: usize = 4096;
-const PASSES: usize = 32;
-const SAMPLES: usize = 31;
+use coltoctober::timing::{calls, fold, row, slices, INPUTS, SAMPLES};
 
 /// Rust's own, each behind a call, since the linker inlines no proved function either.
 mod own {
@@ -87,49 +82,6 @@ macro_rules! row {
             ],
         )
     };
-}
-
-/// Prints the medians, in nanoseconds for an input, of samples that the two sides take in turn.
-fn row(label: &str, mut sides: [&mut dyn FnMut() -> u64; 2]) {
-    let mut samples = [vec![], vec![]];
-    for _ in 0..SAMPLES {
-        for (side, samples) in sides.iter_mut().zip(&mut samples) {
-            let began = Instant::now();
-            black_box(side());
-            samples.push(began.elapsed().as_nanos());
-        }
-    }
-    let [proved, own] = samples.map(|mut samples| {
-        samples.sort();
-        samples[SAMPLES / 2] as f64 / (PASSES * INPUTS) as f64
-    });
-    println!("{label} | {proved:.2} | {own:.2} | {:.2}", proved / own);
-}
-
-/// A checksum over all inputs, `call` being given each place and the result before.
-fn fold(mut call: impl FnMut(usize, u64) -> u64) -> u64 {
-    let (mut sum, mut last) = (0u64, 0);
-    for _ in 0..PASSES {
-        let from = black_box(0); // the compiler cannot tell one pass from another
-        for i in from..from + INPUTS {
-            last = call(i % INPUTS, last);
-            sum = sum.wrapping_add(last);
-        }
-    }
-    sum
-}
-
-/// Calls that do not wait for each other.
-fn calls(mut call: impl FnMut(usize) -> u64) -> u64 {
-    fold(|i, _| call(i))
-}
-
-/// Calls on whole slices, one a pass.
-fn slices<A>(mut call: impl FnMut() -> A) -> u64 {
-    for _ in 0..PASSES {
-        black_box(call());
-    }
-    0
 }
 
 fn main() {

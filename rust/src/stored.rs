@@ -1,0 +1,70 @@
+//! The stored answers of the bounds: cases of forty-one little-endian words, kind, a 13, b 13, a refusal's number or 0, result 13.
+//! Kinds 1 to 4 are cos, sin, acos and asin of the word a; 5 is the check of the record a, 6 the union of a and b, 7 the importance
+//! of a for the query b. What a kind does not use is 0.
+
+use crate::proved;
+use crate::records::{Query, Record};
+use crate::standins::word;
+
+pub const PATH: &str = concat!(env!("CARGO_MANIFEST_DIR"), "/../crates/replay_bounds/stdin");
+pub const WORDS: usize = 41;
+
+#[derive(Clone, Debug, PartialEq)]
+pub struct Stored {
+    pub kind: u32,
+    pub a: Record,
+    pub b: Record,
+    pub number: u32,
+    pub result: Record,
+}
+
+/// Thirteen words that begin with those given.
+pub fn padded(words: &[u32]) -> Record {
+    let mut all = [0; 13];
+    all[..words.len()].copy_from_slice(words);
+    all
+}
+
+impl Stored {
+    pub fn new(kind: u32, a: &[u32], b: &[u32], answer: Result<Record, u32>) -> Stored {
+        let (number, result) = answer.map_or_else(|number| (number, [0; 13]), |result| (0, result));
+        Stored { kind, a: padded(a), b: padded(b), number, result }
+    }
+
+    pub fn query(&self) -> Query {
+        std::array::from_fn(|i| self.b[i])
+    }
+
+    /// The same case with the proved functions' answer.
+    pub fn proved(&self) -> Stored {
+        let x = f32::from_bits(self.a[0]);
+        let angle = |y: f32| Ok(padded(&[word(y)]));
+        let answer = match self.kind {
+            1 => angle(proved::cos(x)),
+            2 => angle(proved::sin(x)),
+            3 => angle(proved::acos(x)),
+            4 => angle(proved::asin(x)),
+            5 => proved::bounds_validate(&self.a).map(|()| [0; 13]),
+            6 => {
+                let mut result = [0; 13];
+                proved::bounds_union(&self.a, &self.b, &mut result).map(|()| result)
+            }
+            7 => proved::bounds_importance(&self.a, &self.query()).map(|word| padded(&[word])),
+            kind => panic!("no kind {kind}"),
+        };
+        Stored::new(self.kind, &self.a, &self.b, answer)
+    }
+
+    pub fn bytes(&self) -> Vec<u8> {
+        let words = [&[self.kind], &self.a[..], &self.b, &[self.number], &self.result].concat();
+        words.into_iter().flat_map(u32::to_le_bytes).collect()
+    }
+
+    pub fn read(bytes: &[u8]) -> Vec<Stored> {
+        let words: Vec<u32> = bytes.as_chunks().0.iter().map(|word| u32::from_le_bytes(*word)).collect();
+        let cases = words.chunks_exact(WORDS);
+        assert!(cases.remainder().is_empty() && bytes.len() % 4 == 0, "a part case");
+        let of = |words: &[u32]| padded(words);
+        cases.map(|w| Stored { kind: w[0], a: of(&w[1..14]), b: of(&w[14..27]), number: w[27], result: of(&w[28..]) }).collect()
+    }
+}
