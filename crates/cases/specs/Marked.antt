@@ -1,14 +1,27 @@
 -- The cases that document 01 marks for proof ("Light report and cases"), as one statement. Each is seen by computing the definitions. Assumes nothing.
 use Prim.Native.Nat.{ℕ}
 use mathlib.Core.Path.{_≡_, refl}
-use lib.Ieee.{binary32, ofBits, toBits}
-use Rattle.ieee.specs.Sqrt.{sqrt}
+use lib.Ieee.{Float, binary32, ofBits, toBits, ofInt, span, climb, size, odd, units, round, neg, sum, add, sub, mul, div, lt, eq, le}
+use Rattle.ieee.specs.Choose.{fabs}
+use Rattle.ieee.specs.Narrow.{narrow}
+use Rattle.ieee.specs.Sqrt.{root, isqrt, rootOf, sqrt}
+use Rattle.trig.specs.Series.{turns, seriesStep, series, arcStep, arc}
+use Rattle.trig.specs.Trig.{cos, acos, asin, twiceArc}
+
+-- a function's answer as a word, of an argument as a word
+abbrev pub word : (Float → Float) → ℕ → ℕ
+word f w = toBits binary32 (f (ofBits binary32 w))
 
 pub record Marked : Type 0 where
   -- square root of 2, and of the smallest float
-  pub root-of-two : toBits binary32 (sqrt binary32 (ofBits binary32 0x40000000)) ≡ 0x3fb504f3
-  pub root-of-smallest : toBits binary32 (sqrt binary32 (ofBits binary32 0x00000001)) ≡ 0x1a3504f3
+  pub root-of-two : word (sqrt binary32) 0x40000000 ≡ 0x3fb504f3
+  pub root-of-smallest : word (sqrt binary32) 0x00000001 ≡ 0x1a3504f3
+  -- cosine of half π, as f32 has it
+  pub cos-of-half-pi : word cos 0x3fc90fdb ≡ 0xb33bbd2e
+  -- arcs of -1 and of 1
+  pub acos-of-minus-one : word acos 0xbf800000 ≡ 0x40490fdb
+  pub asin-of-one : word asin 0x3f800000 ≡ 0x3fc90fdb
 
 pub marked : Marked
-unfolding sqrt ofBits toBits
-marked = record { root-of-two = refl; root-of-smallest = refl }
+unfolding root isqrt rootOf sqrt ofBits toBits ofInt span climb size odd units round neg sum add sub mul div lt eq le fabs narrow turns seriesStep series arcStep arc cos acos asin twiceArc
+marked = record { root-of-two = refl; root-of-smallest = refl; cos-of-half-pi = refl; acos-of-minus-one = refl; asin-of-one = refl }
