@@ -1,7 +1,8 @@
 // Cones of directions (specs/Cones.antt).
 ghost use mathlib.Core.Path.{_≡_};
+ghost use Rattle.light_bounds.specs.Boxes.{diagonal as diagonalOf};
+ghost use Rattle.light_bounds.specs.Vectors.{length as lengthOf, normalized};
 ghost use Rattle.light_bounds.specs.Cones.{cosSubClamped, sinSubClamped, safeSqrt, boundSubtendedDirections, unionDirectionCones, axisOr, joined, wholeSphere};
-ghost use Rattle.light_bounds.specs.Vectors.{normalized};
 use super::bounds::Bounds3;
 use super::bounds::centroid;
 use super::bounds::diagonal;
@@ -59,7 +60,15 @@ pub fn sin_sub_clamped(sin_a: f32, cos_a: f32, sin_b: f32, cos_b: f32) -> f32
 pub fn bound_subtended_directions(bounds: Bounds3, p: Vec3) -> f32
     ensures { λ r. ⌜ r ≡ boundSubtendedDirections bounds p ⌝ }
 {
-    let radius = 0.5 * length(diagonal(bounds));
+    subtended(bounds, p, length(diagonal(bounds)))
+}
+
+// The same where the diagonal's length is at hand.
+pub(crate) fn subtended(bounds: Bounds3, p: Vec3, diagonal_length: f32) -> f32
+    requires { ⌜ «diagonal_length» ≡ lengthOf (diagonalOf bounds) ⌝ }
+    ensures { λ r. ⌜ r ≡ boundSubtendedDirections bounds p ⌝ }
+{
+    let radius = 0.5 * diagonal_length;
     let to_center = sub(centroid(bounds), p);
     let d2 = dot(to_center, to_center);
     if d2 < radius * radius {

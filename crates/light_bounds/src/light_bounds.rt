@@ -14,6 +14,7 @@ use super::bounds::diagonal;
 use super::bounds::union as box_union;
 use super::cones::cos_sub_clamped;
 use super::cones::safe_sqrt;
+use super::cones::subtended;
 use super::cones::union_direction_cones;
 use super::vecmath::Direction;
 use super::vecmath::Vec3;
@@ -219,23 +220,6 @@ fn toward(record: LightBounds, query: Query, diagonal_length: f32, d2: f32, wi: 
         return View::Dark;
     }
     with_normal(query.n, wi, sin_b, cos_b, cos_p, d2)
-}
-
-// As bound_subtended_directions of cones, where the diagonal's length is at hand.
-fn subtended(bounds: Bounds3, p: Vec3, diagonal_length: f32) -> f32
-    requires { ⌜ «diagonal_length» ≡ lengthOf (diagonalOf bounds) ⌝ }
-    ensures { λ r. ⌜ r ≡ boundSubtendedDirections bounds p ⌝ }
-{
-    let radius = 0.5 * diagonal_length;
-    let to_center = sub(centroid(bounds), p);
-    let d2 = dot(to_center, to_center);
-    if d2 < radius * radius {
-        return -1.0;
-    }
-    if d2 == 0.0 {
-        return -1.0;
-    }
-    safe_sqrt(1.0 - radius * radius / d2)
 }
 
 // The sine of an angle by its cosine.

@@ -1,21 +1,9 @@
 -- `light_bounds::cones::bound_subtended_directions` meets its contract: its steps are the definition's. Assumes nothing.
-use mathlib.Core.Path.{_≡_, sym, _∙_, ap}
-use lib.Ieee.{ofBits, neg}
-use Rattle.light_bounds.specs.Boxes.{diagonal, centroid}
-use Rattle.light_bounds.specs.Cones.{boundSubtendedDirections}
-use Rattle.light_bounds.specs.Vectors.{dot, minus, length}
+use mathlib.Core.Path.{_∙_, ap}
+use Rattle.light_bounds.specs.Vectors.{length}
 use borrow.Author.Needs.{needs}
 use Rattle.light_bounds.proofs.cones.bound_subtended_directions.Statement.{statement}
 use Rattle.light_bounds.proofs.cones.bound_subtended_directions.Tie as tie
-
-radius : (c : tie.After-length) → length (diagonal (c .before .before .args .bounds)) ≡ c .length .result
-radius c = sym (c .length .ensures ∙ ap length (c .before .diagonal .ensures))
-
--- the raw squared distance to the centre
-distance : (c : tie.After-dot) → (let s = c .before .before .before .before .before .args in dot (minus (centroid (s .bounds)) (s .p)) (minus (centroid (s .bounds)) (s .p))) ≡ c .dot .result
-distance c =
-    let p = c .before .before .before .before .before .args .p in
-    sym (c .dot .ensures ∙ ap (λ v. dot v v) (c .before .sub .ensures ∙ ap (λ v. minus v p) (c .before .before .centroid .ensures)))
 
 diagonal-requires : tie.Need-diagonal-requires
 diagonal-requires c κs = search needs
@@ -23,40 +11,12 @@ diagonal-requires c κs = search needs
 length-requires : tie.Need-length-requires
 length-requires c κs = search needs
 
-centroid-requires : tie.Need-centroid-requires
-centroid-requires c κs = search needs
-
-sub-requires : tie.Need-sub-requires
-sub-requires c κs = search needs
-
-dot-requires : tie.Need-dot-requires
-dot-requires c κs = search needs
+subtended-requires : tie.Need-subtended-requires
+subtended-requires c κs = c .length .ensures ∙ ap length (c .before .diagonal .ensures)
 
 returns : tie.Need-returns
-unfolding boundSubtendedDirections neg ofBits
-returns c = rw (radius (c .before .before .before .before), distance (c .before), c .if1 .taken)
-
-returns-2 : tie.Need-returns-2
-unfolding boundSubtendedDirections neg ofBits
-returns-2 c = rw (radius (c .before .before .before .before .before), distance (c .before .before), c .before .if1 .left, c .if2 .taken)
-
-safe-sqrt-requires : tie.Need-safe-sqrt-requires
-safe-sqrt-requires c κs = search needs
-
-returns-3 : tie.Need-returns-3
-unfolding boundSubtendedDirections
-returns-3 c = rw (radius (c .before .before .before .before .before .before), distance (c .before .before .before), c .before .before .if1 .left, c .before .if2 .left) (c .safe-sqrt .ensures)
+returns c = search needs
 
 pub bound-subtended-directions-spec : {M : Type 1} → statement M
 bound-subtended-directions-spec =
-    tie.close
-    (tie.spec
-    diagonal-requires
-    length-requires
-    centroid-requires
-    sub-requires
-    dot-requires
-    returns
-    returns-2
-    safe-sqrt-requires
-    returns-3)
+    tie.close (tie.spec diagonal-requires length-requires subtended-requires returns)

@@ -1,4 +1,4 @@
--- `light_bounds::light_bounds::subtended` meets its contract: its steps are the definition's. Assumes nothing.
+-- `light_bounds::cones::subtended` meets its contract: its steps are the definition's. Assumes nothing.
 use mathlib.Core.Path.{_≡_, sym, _∙_, ap}
 use lib.Ieee.{neg, ofBits}
 use Rattle.light_bounds.specs.Boxes.{centroid, diagonal}
@@ -6,8 +6,8 @@ use Rattle.light_bounds.specs.Cones.{boundSubtendedDirections}
 use Rattle.light_bounds.specs.Vectors.{dot, minus, length}
 use Rattle.light_bounds.specs.declared.vecmath.Vec3.{Vec3}
 use borrow.Author.Needs.{needs}
-use Rattle.light_bounds.proofs.light_bounds.subtended.Statement.{statement}
-use Rattle.light_bounds.proofs.light_bounds.subtended.Tie as tie
+use Rattle.light_bounds.proofs.cones.subtended.Statement.{statement}
+use Rattle.light_bounds.proofs.cones.subtended.Tie as tie
 
 size : (c : tie.Start) → length (diagonal (c .args .bounds)) ≡ c .args .diagonal-length
 size c = sym (c .pre)
