@@ -14,12 +14,12 @@ fn guess(n: u64) -> u64
 {
     let half = (n / 2) as f64;
     let x = half + half;
-    let y = f64_of_word(0x5fe6_e350_c7b5_37a9 - word_of_f64(x) % 0x8000_0000_0000_0000 / 2);
+    let y = f64_of_word(0x5fde_e350_c7b5_37a9 - word_of_f64(half) % 0x8000_0000_0000_0000 / 2);
     let z = y * (1.501 - half * y * y);
     let near = x * z;
     let rest = 1.0 - near * z;
-    let root = near + near * rest * (0.5 + rest * (0.375 + rest * 0.3125));
-    word_of_f64(root - 0.498046875 + 4503599627370496.0) % 0x800_0000
+    let mended = near * rest * (0.5 + rest * 0.375 + rest * rest * 0.3125);
+    word_of_f64(near - 0.498046875 + mended + 4503599627370496.0) % 0x800_0000
 }
 
 // The greatest number whose square is at most n, by halving the range in which it lies.

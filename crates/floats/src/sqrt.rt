@@ -16,7 +16,7 @@ use words::floats::word_of_f64;
 pub fn sqrt(x: f32) -> f32
     ensures { λ r. ⌜ r ≡ rooted binary32 x ⌝ }
 {
-    f32_of_word(sqrt_word(word_of_f32(x)))
+    f32_of_word(root_word(word_of_f32(x)))
 }
 
 // The same for f64.
@@ -26,7 +26,14 @@ pub fn sqrt64(x: f64) -> f64
     f64_of_word(sqrt64_word(word_of_f64(x)))
 }
 
-// The pattern of the root of a pattern's value.
+// The pattern of the root of a pattern's value. Lengths and cosines are often 1, which is its own root.
+fn root_word(w: u32) -> u32
+    ensures { λ r. ⌜ r ≡ toBits binary32 (rooted binary32 (ofBits binary32 w)) ⌝ }
+{
+    if w == 0x3f80_0000 { w } else { sqrt_word(w) }
+}
+
+// The same for every pattern.
 fn sqrt_word(w: u32) -> u32
     ensures { λ r. ⌜ r ≡ toBits binary32 (rooted binary32 (ofBits binary32 w)) ⌝ }
 {

@@ -12,7 +12,6 @@ use super::bounds::centroid;
 use super::bounds::check;
 use super::bounds::diagonal;
 use super::bounds::union as box_union;
-use super::cones::cos_sub_clamped;
 use super::cones::safe_sqrt;
 use super::cones::subtended;
 use super::cones::union_direction_cones;
@@ -214,12 +213,11 @@ fn toward(record: LightBounds, query: Query, diagonal_length: f32, d2: f32, wi: 
     ensures { λ r. ⌜ viewed r ≡ towardOf «record» query d2 wi ⌝ }
 {
     let cos_b = subtended(record.bounds, query.p, diagonal_length);
-    let sin_b = sine(cos_b);
-    let cos_p = smallest_angle(record, wi, sin_b, cos_b);
+    let cos_p = smallest_angle(record, wi, cos_b);
     if cos_p <= record.cos_theta_e {
         return View::Dark;
     }
-    with_normal(query.n, wi, sin_b, cos_b, cos_p, d2)
+    with_normal(query.n, wi, cos_b, cos_p, d2)
 }
 
 // The sine of an angle by its cosine.
@@ -236,44 +234,52 @@ fn cos_w(record: LightBounds, wi: Vec3) -> f32
     if record.two_sided { abs(c) } else { c }
 }
 
-// The cosine of the smallest angle between the cone's directions and the box's. The sines of w and o are taken only where their angle is not cut to 0.
-fn smallest_angle(record: LightBounds, wi: Vec3, sin_b: f32, cos_b: f32) -> f32
-    requires { ⌜ «sin_b» ≡ sineOf «cos_b» ⌝ }
+// The cosine of the smallest angle between the cone's directions and the box's. A sine is taken only where the angle it belongs to is not cut to 0.
+fn smallest_angle(record: LightBounds, wi: Vec3, cos_b: f32) -> f32
     ensures { λ r. ⌜ r ≡ cosP «record» wi «cos_b» ⌝ }
 {
     let w = cos_w(record, wi);
     let o = record.cos_theta_o;
     if w > o {
-        return cos_sub_clamped(0.0, 1.0, sin_b, cos_b);
+        return less_the_box(0.0, 1.0, cos_b);
     }
     let sin_w = sine(w);
     let sin_o = sine(o);
-    cos_sub_clamped(sin_w * o - w * sin_o, w * o + sin_w * sin_o, sin_b, cos_b)
+    less_the_box(sin_w * o - w * sin_o, w * o + sin_w * sin_o, cos_b)
+}
+
+// The cosine of an angle less the box's.
+fn less_the_box(sin_x: f32, cos_x: f32, cos_b: f32) -> f32
+    ensures { λ r. ⌜ r ≡ cosSubClamped «sin_x» «cos_x» (sineOf «cos_b») «cos_b» ⌝ }
+{
+    if cos_x > cos_b {
+        1.0
+    } else {
+        cos_x * cos_b + sin_x * sine(cos_b)
+    }
 }
 
 // A normal whose dot with itself is 0 is none.
-fn with_normal(n: Vec3, wi: Vec3, sin_b: f32, cos_b: f32, cos_p: f32, d2: f32) -> View
-    requires { ⌜ «sin_b» ≡ sineOf «cos_b» ⌝ }
+fn with_normal(n: Vec3, wi: Vec3, cos_b: f32, cos_p: f32, d2: f32) -> View
     ensures { λ r. ⌜ viewed r ≡ withNormal n wi «cos_b» «cos_p» d2 ⌝ }
 {
     if dot(n, n) == 0.0 {
         return View::Lit(cos_p, d2);
     }
     match normalize(n) {
-        Direction::Unit(u) => View::Facing(cos_p, d2, facing(dot(wi, u), sin_b, cos_b)),
+        Direction::Unit(u) => View::Facing(cos_p, d2, facing(dot(wi, u), cos_b)),
         Direction::Refused(why) => View::Refused(why),
     }
 }
 
 // The normal's factor, by the cosine between it and the direction.
-fn facing(c: f32, sin_b: f32, cos_b: f32) -> f32
-    requires { ⌜ «sin_b» ≡ sineOf «cos_b» ⌝ }
+fn facing(c: f32, cos_b: f32) -> f32
     ensures { λ r. ⌜ r ≡ normalFactor c «cos_b» ⌝ }
 {
     let i = abs(c);
     if i > cos_b {
         1.0
     } else {
-        i * cos_b + sine(i) * sin_b
+        i * cos_b + sine(i) * sine(cos_b)
     }
 }

@@ -13,8 +13,8 @@ use Rattle.floats.proofs.sqrt.sqrt.Tie as tie
 word-of-f32-requires : tie.Need-word-of-f32-requires
 word-of-f32-requires c κs = search needs
 
-sqrt-word-requires : tie.Need-sqrt-word-requires
-sqrt-word-requires c κs = search needs
+root-word-requires : tie.Need-root-word-requires
+root-word-requires c κs = search needs
 
 f32-of-word-requires : tie.Need-f32-of-word-requires
 f32-of-word-requires c κs = search needs
@@ -23,8 +23,8 @@ returns : tie.Need-returns
 returns c =
     let start = c .before .before .before in
     c .f32-of-word .ensures
-    ∙ ap (ofBits binary32) (c .before .sqrt-word .ensures ∙ ap (λ (w : ℕ). toBits binary32 (sqrt binary32 (ofBits binary32 w))) (c .before .before .word-of-f32 .ensures))
+    ∙ ap (ofBits binary32) (c .before .root-word .ensures ∙ ap (λ (w : ℕ). toBits binary32 (sqrt binary32 (ofBits binary32 w))) (c .before .before .word-of-f32 .ensures))
     ∙ by-words binary32 binary32 (sqrt binary32) (start .args .x) (start .good .0 .1) (sqrt-fits binary32 (start .args .x) (subst T (sym (start .good .0 .1)) tt))
 
 pub sqrt-spec : {M : Type 1} → statement M
-sqrt-spec = tie.close (tie.spec word-of-f32-requires sqrt-word-requires f32-of-word-requires returns)
+sqrt-spec = tie.close (tie.spec word-of-f32-requires root-word-requires f32-of-word-requires returns)

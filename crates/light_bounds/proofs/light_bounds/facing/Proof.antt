@@ -14,6 +14,9 @@ abs-requires c κs = search needs
 sine-requires : tie.Need-sine-requires
 sine-requires c κs = search needs
 
+sine-requires-2 : tie.Need-sine-requires-2
+sine-requires-2 c κs = search needs
+
 returns : tie.Need-returns
 unfolding normalFactor cosSubClamped
 returns c = rw (← c .before .abs .ensures, c .if1 .taken)
@@ -21,9 +24,9 @@ returns c = rw (← c .before .abs .ensures, c .if1 .taken)
 returns-2 : tie.Need-returns-2
 unfolding normalFactor cosSubClamped
 returns-2 c =
-    let i = c .before .before .abs .result in
-    let k = c .before .before .before .args .cos-b in
-    rw (← c .before .before .abs .ensures, c .before .if1 .left) (ap₂ (λ (s t : Float). i ⊗ k ⊕ s ⊗ t) (c .sine .ensures) (c .before .before .before .pre))
+    let i = c .before .before .before .abs .result in
+    let k = c .before .before .before .before .args .cos-b in
+    rw (← c .before .before .before .abs .ensures, c .before .before .if1 .left) (ap₂ (λ (s t : Float). i ⊗ k ⊕ s ⊗ t) (c .before .sine .ensures) (c .sine2 .ensures))
 
 pub facing-spec : {M : Type 1} → statement M
-facing-spec = tie.close (tie.spec abs-requires sine-requires returns returns-2)
+facing-spec = tie.close (tie.spec abs-requires sine-requires sine-requires-2 returns returns-2)

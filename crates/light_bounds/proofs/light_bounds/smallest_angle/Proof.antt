@@ -1,10 +1,6 @@
 -- `light_bounds::light_bounds::smallest_angle` meets its contract: its steps are the definition's. Assumes nothing.
 use Rattle.light_bounds.proofs.Clamped.{cut-cos, cut-sin, kept-cos, kept-sin}
 use Rattle.light_bounds.specs.Importance.{cosP, sine}
-use mathlib.Core.Path.{_∙_, ap}
-use lib.Ieee.{Float}
-use Rattle.ieee.specs.Single.{zero, one}
-use Rattle.light_bounds.specs.Cones.{cosSubClamped}
 use borrow.Author.Needs.{needs}
 use Rattle.light_bounds.proofs.light_bounds.smallest_angle.Statement.{statement}
 use Rattle.light_bounds.proofs.light_bounds.smallest_angle.Tie as tie
@@ -12,15 +8,15 @@ use Rattle.light_bounds.proofs.light_bounds.smallest_angle.Tie as tie
 cos-w-requires : tie.Need-cos-w-requires
 cos-w-requires c κs = search needs
 
-cos-sub-clamped-requires : tie.Need-cos-sub-clamped-requires
-cos-sub-clamped-requires c κs = search needs
+less-the-box-requires : tie.Need-less-the-box-requires
+less-the-box-requires c κs = search needs
 
 returns : tie.Need-returns
 unfolding cosP
 returns c =
     let w = c .before .before .cos-w .result in
     let o = c .before .before .before .args .record .«cos_theta_o» in
-    rw (← c .before .before .cos-w .ensures, cut-sin (sine w) w (sine o) o (c .before .if1 .taken), cut-cos (sine w) w (sine o) o (c .before .if1 .taken)) (c .cos-sub-clamped .ensures ∙ ap (λ (t : Float). cosSubClamped zero one t (c .before .before .before .args .cos-b)) (c .before .before .before .pre))
+    rw (← c .before .before .cos-w .ensures, cut-sin (sine w) w (sine o) o (c .before .if1 .taken), cut-cos (sine w) w (sine o) o (c .before .if1 .taken)) (c .less-the-box .ensures)
 
 sine-requires : tie.Need-sine-requires
 sine-requires c κs = search needs
@@ -28,24 +24,24 @@ sine-requires c κs = search needs
 sine-requires-2 : tie.Need-sine-requires-2
 sine-requires-2 c κs = search needs
 
-cos-sub-clamped-requires-2 : tie.Need-cos-sub-clamped-requires-2
-cos-sub-clamped-requires-2 c κs = search needs
+less-the-box-requires-2 : tie.Need-less-the-box-requires-2
+less-the-box-requires-2 c κs = search needs
 
 returns-2 : tie.Need-returns-2
 unfolding cosP
 returns-2 c =
     let w = c .before .before .before .before .cos-w .result in
     let o = c .before .before .before .before .before .args .record .«cos_theta_o» in
-    rw (← c .before .before .before .before .cos-w .ensures, kept-sin (sine w) w (sine o) o (c .before .before .before .if1 .left), kept-cos (sine w) w (sine o) o (c .before .before .before .if1 .left), ← c .before .before .sine .ensures, ← c .before .sine2 .ensures) (rw (← c .before .before .before .before .before .pre) (c .cos-sub-clamped2 .ensures))
+    rw (← c .before .before .before .before .cos-w .ensures, kept-sin (sine w) w (sine o) o (c .before .before .before .if1 .left), kept-cos (sine w) w (sine o) o (c .before .before .before .if1 .left), ← c .before .before .sine .ensures, ← c .before .sine2 .ensures) (c .less-the-box2 .ensures)
 
 pub smallest-angle-spec : {M : Type 1} → statement M
 smallest-angle-spec =
     tie.close
     (tie.spec
     cos-w-requires
-    cos-sub-clamped-requires
+    less-the-box-requires
     returns
     sine-requires
     sine-requires-2
-    cos-sub-clamped-requires-2
+    less-the-box-requires-2
     returns-2)

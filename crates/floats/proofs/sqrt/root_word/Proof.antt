@@ -1,0 +1,23 @@
+-- `floats::sqrt::root_word` meets its contract: 1 is its own root. Assumes nothing.
+use mathlib.Core.Path.{_≡_, refl}
+use lib.Ieee.{binary32, ofBits, toBits}
+use Rattle.ieee.specs.Sqrt.{sqrt}
+use borrow.Author.Needs.{needs}
+use Rattle.floats.proofs.sqrt.root_word.Statement.{statement}
+use Rattle.floats.proofs.sqrt.root_word.Tie as tie
+
+one-root : 0x3f80_0000 ≡ toBits binary32 (sqrt binary32 (ofBits binary32 0x3f80_0000))
+unfolding sqrt ofBits toBits
+one-root = refl
+
+sqrt-word-requires : tie.Need-sqrt-word-requires
+sqrt-word-requires c κs = search needs
+
+returns : tie.Need-returns
+returns c = rw (c .if1 .taken) one-root
+
+returns-2 : tie.Need-returns-2
+returns-2 c = search needs
+
+pub root-word-spec : {M : Type 1} → statement M
+root-word-spec = tie.close (tie.spec sqrt-word-requires returns returns-2)
