@@ -1,4 +1,1 @@
-pub mod FillLaws
 pub mod LittleEndianLaws
-pub mod Stores
-pub mod TrayLaws

@@ -3,3 +3,6 @@ pub mod Refusals
 pub mod LittleEndian
 pub mod Fill
 pub mod Tray
+pub mod Stores
+pub mod FillLaws
+pub mod TrayLaws

@@ -10,8 +10,8 @@ use lib.ListN.{length, getD}
 use Rattle.words.specs.LittleEndian.{bytesOf, bytesOfWord, setWord, writtenWords}
 use Rattle.words.specs.Tray.{tray}
 use Rattle.words.proofs.LittleEndianLaws.{length-bytesOf, bytesOf-at}
-use Rattle.words.proofs.Stores.{Copied, copied-none, copied-run}
-use Rattle.words.proofs.TrayLaws.{tray-copied}
+use Rattle.words.specs.Stores.{Copied, copied-none, copied-run}
+use Rattle.words.specs.TrayLaws.{tray-copied}
 use Rattle.words.proofs.bytes.bytes_of_words.Statement.{statement}
 use Rattle.words.proofs.bytes.bytes_of_words.Tie as tie
 

@@ -11,7 +11,7 @@ use lib.ListN.{length, take, drop, replicate, getD, length-append, length-drop, 
 use lib.Seq.{length-take-le, take-all, getD-append-add, getD-drop}
 use Rattle.words.specs.Answers.{Answer, given, refused}
 use Rattle.words.specs.Tray.{front, tray}
-use Rattle.words.proofs.Stores.{Copied}
+use Rattle.words.specs.Stores.{Copied}
 
 -- an element of the second of two lists
 behind : (p q : List ℕ) (i : ℕ) → length p ≤ i → getD (p ++ q) i 0 ≡ getD q (i - length p) 0
