@@ -1,15 +1,14 @@
 -- The bounds' answers as words, for C. A record is thirteen words, a query six; too few words or an unknown side are refusal 1. Assumes nothing.
 use Prim.Native.Nat.{ℕ, _+_}
 use mathlib.Core.Bool.{cond}
-use mathlib.Core.List.{List, [], _∷_}
+use mathlib.Core.List.{List}
 use lib.Dec.{leb}
 use lib.Ieee.{Float, binary32, toBits}
 use lib.ListN.{length}
 use Rattle.words.specs.Answers.{Answer, given, refused, _then_}
 use Rattle.light_bounds.specs.Importance.{importance}
 use Rattle.light_bounds.specs.Records.{validate, union}
-use Rattle.light_bounds.specs.RecordWords.{recordAt, recordWords, vecAt, sideWord}
-use Rattle.light_bounds.specs.declared.vecmath.Vec3.{Vec3}
+use Rattle.light_bounds.specs.RecordWords.{recordAt, recordWords, vecAt}
 use Rattle.light_bounds.specs.declared.light_bounds.LightBounds.{LightBounds}
 use Rattle.light_bounds.specs.declared.light_bounds.Query.{Query}
 use Rattle.light_bounds.specs.declared.record_words.Found.{Found}
@@ -43,12 +42,3 @@ importanceWords ws qs = cond (leb 6 (length qs)) (found (recordAt ws 0) then λ 
 -- `room` words are lent for the answer
 unfoldable pub unionWords : List ℕ → List ℕ → ℕ → Answer LightBounds
 unionWords ws vs room = found (recordAt ws 0) then λ a. found (recordAt vs 0) then λ b. cond (leb recordWords room) (union a b) (refused 3)
-
-abbrev pub vecList : Vec3 → List ℕ → List ℕ
-vecList v rest = toBits binary32 (v .x) ∷ toBits binary32 (v .y) ∷ toBits binary32 (v .z) ∷ rest
-
--- a record's thirteen words
-unfoldable pub recordList : LightBounds → List ℕ
-recordList r =
-    vecList (r .bounds .min) (vecList (r .bounds .max) (vecList (r .direction)
-    (toBits binary32 (r .phi) ∷ toBits binary32 (r .«cos_theta_o») ∷ toBits binary32 (r .«cos_theta_e») ∷ sideWord (r .«two_sided») ∷ [])))

@@ -1,7 +1,7 @@
 -- A record as thirteen words: box min 3 and max 3, direction 3, phi, `cos_theta_o`, `cos_theta_e`, side. Assumes nothing.
 use Prim.Native.Nat.{ℕ, _+_}
 use mathlib.Core.Bool.{Bool, true, false, cond}
-use mathlib.Core.List.{List}
+use mathlib.Core.List.{List, [], _∷_}
 use lib.Dec.{leb, eqb}
 use lib.Ieee.{binary32, toBits}
 use lib.ListN.{length, getD, set}
@@ -56,3 +56,12 @@ putRecord ws at r = putRest (putVec (putVec (putVec ws at (r .bounds .min)) (at 
 
 unfoldable pub writtenAt : List ℕ → ℕ → LightBounds → List ℕ
 writtenAt ws at r = cond (leb (at + recordWords) (length ws)) (putRecord ws at r) ws
+
+-- a record's thirteen words as a list
+abbrev pub vecList : Vec3 → List ℕ → List ℕ
+vecList v rest = toBits binary32 (v .x) ∷ toBits binary32 (v .y) ∷ toBits binary32 (v .z) ∷ rest
+
+unfoldable pub recordList : LightBounds → List ℕ
+recordList r =
+    vecList (r .bounds .min) (vecList (r .bounds .max) (vecList (r .direction)
+    (toBits binary32 (r .phi) ∷ toBits binary32 (r .«cos_theta_o») ∷ toBits binary32 (r .«cos_theta_e») ∷ sideWord (r .«two_sided») ∷ [])))

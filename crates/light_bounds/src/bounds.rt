@@ -50,7 +50,8 @@ pub fn union(a: Bounds3, b: Bounds3) -> Bounds3
     }
 }
 
-fn lesser(a: Vec3, b: Vec3) -> Vec3
+// The lesser of each axis, and the greater.
+pub fn lesser(a: Vec3, b: Vec3) -> Vec3
     ensures { λ r. ⌜ r ≡ leastOf a b ⌝ }
 {
     Vec3 {
@@ -60,7 +61,7 @@ fn lesser(a: Vec3, b: Vec3) -> Vec3
     }
 }
 
-fn greater(a: Vec3, b: Vec3) -> Vec3
+pub fn greater(a: Vec3, b: Vec3) -> Vec3
     ensures { λ r. ⌜ r ≡ greatestOf a b ⌝ }
 {
     Vec3 {

@@ -86,7 +86,8 @@ fn validate_range(record: LightBounds) -> Validity
     Validity::Refused(Refusal::OutOfRange)
 }
 
-fn is_cosine(x: f32) -> bool
+// Whether a cosine lies from -1 to 1.
+pub fn is_cosine(x: f32) -> bool
     ensures { λ r. ⌜ r ≡ isCosine x ⌝ }
 {
     if -1.0 <= x { x <= 1.0 } else { false }

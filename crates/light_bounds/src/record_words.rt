@@ -9,6 +9,7 @@ use super::light_bounds::LightBounds;
 use super::vecmath::Vec3;
 use words::floats::f32_of_word;
 use words::floats::word_of_f32;
+use words::places::word_or_zero;
 
 // What stands at a place: a record, a side word that is neither 0 nor 1, or too few words.
 pub enum Found {
@@ -17,14 +18,21 @@ pub enum Found {
     Past,
 }
 
-fn vec_at(words: &[u32], at: usize) -> Vec3
-    requires { ⌜ at + 3 ≤ length (now words) ⌝ }
+// Three words as a vector, words past the end read as 0.
+pub fn vec_at(words: &[u32], at: usize) -> Vec3
     ensures { λ r. ⌜ r ≡ vecAt (now (words .entry)) at ⌝ }
 {
+    if words.len() <= at {
+        return Vec3 {
+            x: 0.0,
+            y: 0.0,
+            z: 0.0,
+        };
+    }
     Vec3 {
         x: f32_of_word(words[at]),
-        y: f32_of_word(words[at + 1]),
-        z: f32_of_word(words[at + 2]),
+        y: f32_of_word(word_or_zero(words, at + 1)),
+        z: f32_of_word(word_or_zero(words, at + 2)),
     }
 }
 

@@ -3,4 +3,5 @@
 pub mod bytes;
 pub mod fill;
 pub mod floats;
+pub mod places;
 pub mod refusal;
