@@ -1,6 +1,8 @@
 -- What a definition answers: a value, or the number of a refusal of document 01's table "Refusals and trays".
 -- Each enum that code returns is mapped to such an answer by a definition beside it, and the promises speak of the answer. Assumes nothing.
 use Prim.Native.Nat.{ℕ}
+use mathlib.Core.List.{List}
+use lib.ListN.{length}
 
 infixl 20 _then_
 pub data Answer (A : Type 0) : Type 0 where
@@ -11,3 +13,8 @@ pub data Answer (A : Type 0) : Type 0 where
 unfoldable pub _then_ : {A B : Type 0} → Answer A → (A → Answer B) → Answer B
 _then_ (given a) next = next a
 _then_ (refused n) next = refused n
+
+-- how many were given
+abbrev pub count : {A : Type 0} → Answer (List A) → Answer ℕ
+count (given xs) = given (length xs)
+count (refused n) = refused n

@@ -1,0 +1,5 @@
+pub mod LampList
+pub mod LampBounds
+pub mod Block
+pub mod Build
+pub mod Walk

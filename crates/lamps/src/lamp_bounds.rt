@@ -1,0 +1,327 @@
+// The bounds of one lamp (specs/LampBounds.antt): `light_bounds_for_input` of pbrt-r4's light_bounds.rs.
+ghost use mathlib.Core.Path.{_≡_};
+ghost use Prim.Native.Nat.{_+_, _*_, _≤_, _-_};
+ghost use lib.ListN.{length};
+ghost use Rattle.words.specs.Answers.{given, _then_};
+ghost use Rattle.light_bounds.specs.Boxes.{validity};
+ghost use Rattle.lamps.specs.LampBounds.{bounded, lightBoundsForInput, validateEmission, checked as checkedOf, pointPhi, pointBounds, falloff as falloffOf, spotBounds, triangleAt, triangleBounds, triangleRecord, groupPhi, joinNext, unionFrom, groupBounds, spotRecord, facedRecord};
+use super::cursor::Lamp;
+use light_bounds::bounds::Bounds3;
+use light_bounds::bounds::Validity;
+use light_bounds::bounds::check;
+use light_bounds::bounds::greater;
+use light_bounds::bounds::lesser;
+use light_bounds::light_bounds::Joined;
+use light_bounds::light_bounds::LightBounds;
+use light_bounds::light_bounds::is_cosine;
+use light_bounds::light_bounds::union;
+use light_bounds::light_bounds::validate;
+use light_bounds::record_words::vec_at;
+use light_bounds::vecmath::Direction;
+use light_bounds::vecmath::Vec3;
+use light_bounds::vecmath::is_finite;
+use light_bounds::vecmath::is_finite_vec;
+use light_bounds::vecmath::normalize;
+use trig::acos;
+use trig::cos;
+use words::floats::f32_of_word;
+use words::refusal::Refusal;
+
+// π as f32 has it, 40490fdb, and the cosine of its half, b33bbd2e (specs/LampBoundsLaws.antt).
+const PI: f32 = 3.1415927;
+const COS_HALF_PI: f32 = -0.00000004371139;
+
+// A lamp's bounds, or why it has none.
+pub enum Bounded {
+    Bounds(LightBounds),
+    Refused(Refusal),
+}
+
+pub struct AreaTriangleInput {
+    pub a: Vec3,
+    pub b: Vec3,
+    pub c: Vec3,
+    pub area: f32,
+    pub geometric_normal: Vec3,
+}
+
+// The bounds of a lamp; a group's triangles stand beside it, and are not looked at for a point or a spot.
+pub fn light_bounds_for_input(lamp: Lamp, triangles: &[u32]) -> Bounded
+    ensures { λ r. ⌜ bounded r ≡ lightBoundsForInput lamp (now (triangles .entry)) ⌝ }
+{
+    match lamp {
+        Lamp::Point {
+            handle: _,
+            world_position,
+            intensity_max,
+            scale,
+        } => point_bounds(world_position, intensity_max, scale),
+        Lamp::Spot {
+            handle: _,
+            world_position,
+            direction,
+            intensity_max,
+            scale,
+            cos_theta_o,
+            cos_falloff_end,
+        } => spot_bounds(
+            world_position,
+            direction,
+            intensity_max,
+            scale,
+            cos_theta_o,
+            cos_falloff_end,
+        ),
+        Lamp::AreaGroup {
+            handle: _,
+            emission_max,
+            scale,
+            two_sided,
+        } => group_bounds(emission_max, scale, two_sided, triangles),
+    }
+}
+
+fn validate_emission(value: f32, scale: f32) -> Validity
+    ensures { λ r. ⌜ validity r ≡ validateEmission value scale ⌝ }
+{
+    if is_finite(value) {
+        if is_finite(scale) {
+            if value < 0.0 {
+                return Validity::Refused(Refusal::OutOfRange);
+            }
+            if scale < 0.0 {
+                return Validity::Refused(Refusal::OutOfRange);
+            }
+            return Validity::Valid;
+        }
+    }
+    Validity::Refused(Refusal::OutOfRange)
+}
+
+// A record that passes its own check.
+fn checked(record: LightBounds) -> Bounded
+    ensures { λ r. ⌜ bounded r ≡ checkedOf «record» ⌝ }
+{
+    match validate(record) {
+        Validity::Valid => Bounded::Bounds(record),
+        Validity::Refused(why) => Bounded::Refused(why),
+    }
+}
+
+// ---- points and spots
+
+fn point_phi(intensity_max: f32, scale: f32) -> f32
+    ensures { λ r. ⌜ r ≡ pointPhi «intensity_max» scale ⌝ }
+{
+    4.0 * PI * scale * intensity_max
+}
+
+fn point_bounds(position: Vec3, intensity_max: f32, scale: f32) -> Bounded
+    ensures { λ r. ⌜ bounded r ≡ pointBounds position «intensity_max» scale ⌝ }
+{
+    match validate_emission(intensity_max, scale) {
+        Validity::Valid => {
+            let bounds = Bounds3 {
+                min: position,
+                max: position,
+            };
+            match check(bounds) {
+                Validity::Valid => {
+                    let direction = Vec3 {
+                        x: 0.0,
+                        y: 0.0,
+                        z: 1.0,
+                    };
+                    checked(LightBounds {
+                        bounds,
+                        direction,
+                        phi: point_phi(intensity_max, scale),
+                        cos_theta_o: -1.0,
+                        cos_theta_e: COS_HALF_PI,
+                        two_sided: false,
+                    })
+                }
+                Validity::Refused(why) => Bounded::Refused(why),
+            }
+        }
+        Validity::Refused(why) => Bounded::Refused(why),
+    }
+}
+
+// The cosine of the falloff's angle; where that rounds to 1 and there is a falloff, 0.999.
+fn falloff(cos_theta_o: f32, cos_falloff_end: f32) -> f32
+    ensures { λ r. ⌜ r ≡ falloffOf «cos_theta_o» «cos_falloff_end» ⌝ }
+{
+    let cos_theta_e = cos(acos(cos_falloff_end) - acos(cos_theta_o));
+    if cos_theta_e == 1.0 {
+        if cos_theta_o == cos_falloff_end {
+            return cos_theta_e;
+        }
+        return 0.999;
+    }
+    cos_theta_e
+}
+
+fn spot_bounds(position: Vec3, direction: Vec3, intensity_max: f32, scale: f32, cos_theta_o: f32, cos_falloff_end: f32) -> Bounded
+    ensures { λ r. ⌜ bounded r ≡ spotBounds position direction «intensity_max» scale «cos_theta_o» «cos_falloff_end» ⌝ }
+{
+    match validate_emission(intensity_max, scale) {
+        Validity::Valid => {
+            if is_cosine(cos_theta_o) {
+                if is_cosine(cos_falloff_end) {
+                    return spot_record(position, direction, point_phi(intensity_max, scale), cos_theta_o, cos_falloff_end);
+                }
+            }
+            Bounded::Refused(Refusal::OutOfRange)
+        }
+        Validity::Refused(why) => Bounded::Refused(why),
+    }
+}
+
+// Box, direction, record.
+fn spot_record(position: Vec3, direction: Vec3, phi: f32, cos_theta_o: f32, cos_falloff_end: f32) -> Bounded
+    ensures { λ r. ⌜ bounded r ≡ spotRecord position direction phi «cos_theta_o» «cos_falloff_end» ⌝ }
+{
+    let bounds = Bounds3 {
+        min: position,
+        max: position,
+    };
+    match check(bounds) {
+        Validity::Valid => match normalize(direction) {
+            Direction::Unit(unit) => checked(LightBounds {
+                bounds,
+                direction: unit,
+                phi,
+                cos_theta_o,
+                cos_theta_e: falloff(cos_theta_o, cos_falloff_end),
+                two_sided: false,
+            }),
+            Direction::Refused(why) => Bounded::Refused(why),
+        },
+        Validity::Refused(why) => Bounded::Refused(why),
+    }
+}
+
+// ---- groups
+
+fn triangle_at(triangles: &[u32], at: usize) -> AreaTriangleInput
+    requires { ⌜ at + 13 ≤ length (now triangles) ⌝ }
+    ensures { λ r. ⌜ r ≡ triangleAt (now (triangles .entry)) at ⌝ }
+{
+    AreaTriangleInput {
+        a: vec_at(triangles, at),
+        b: vec_at(triangles, at + 3),
+        c: vec_at(triangles, at + 6),
+        area: f32_of_word(triangles[at + 9]),
+        geometric_normal: vec_at(triangles, at + 10),
+    }
+}
+
+// A NaN coordinate stays only where all three vertices have it.
+fn triangle_bounds(t: AreaTriangleInput) -> Bounds3
+    ensures { λ r. ⌜ r ≡ triangleBounds t ⌝ }
+{
+    Bounds3 {
+        min: lesser(lesser(t.a, t.b), t.c),
+        max: greater(greater(t.a, t.b), t.c),
+    }
+}
+
+fn group_phi(emission_max: f32, scale: f32, area: f32) -> f32
+    ensures { λ r. ⌜ r ≡ groupPhi «emission_max» scale area ⌝ }
+{
+    emission_max * scale * area * PI
+}
+
+// Box, area, normal, the normalised normal, record.
+fn triangle_record(emission_max: f32, scale: f32, two_sided: bool, t: AreaTriangleInput) -> Bounded
+    ensures { λ r. ⌜ bounded r ≡ triangleRecord «emission_max» scale «two_sided» t ⌝ }
+{
+    let bounds = triangle_bounds(t);
+    match check(bounds) {
+        Validity::Valid => {
+            if is_finite(t.area) {
+                if t.area <= 0.0 {
+                    return Bounded::Refused(Refusal::NoArea);
+                }
+                return faced_record(bounds, t.geometric_normal, group_phi(emission_max, scale, t.area), two_sided);
+            }
+            Bounded::Refused(Refusal::NoArea)
+        }
+        Validity::Refused(why) => Bounded::Refused(why),
+    }
+}
+
+fn faced_record(bounds: Bounds3, normal: Vec3, phi: f32, two_sided: bool) -> Bounded
+    ensures { λ r. ⌜ bounded r ≡ facedRecord bounds normal phi «two_sided» ⌝ }
+{
+    match normalize(normal) {
+        Direction::Unit(direction) => {
+            if is_finite_vec(direction) {
+                return checked(LightBounds {
+                    bounds,
+                    direction,
+                    phi,
+                    cos_theta_o: 1.0,
+                    cos_theta_e: COS_HALF_PI,
+                    two_sided,
+                });
+            }
+            Bounded::Refused(Refusal::NoDirection)
+        }
+        Direction::Refused(why) => Bounded::Refused(why),
+    }
+}
+
+// The record around what there is and the next triangle.
+fn grown(existing: LightBounds, emission_max: f32, scale: f32, two_sided: bool, t: AreaTriangleInput) -> Bounded
+    ensures { λ r. ⌜ bounded r ≡ triangleRecord «emission_max» scale «two_sided» t then joinNext (given existing) ⌝ }
+{
+    match triangle_record(emission_max, scale, two_sided, t) {
+        Bounded::Bounds(current) => match union(existing, current) {
+            Joined::Whole(record) => Bounded::Bounds(record),
+            Joined::Refused(why) => Bounded::Refused(why),
+        },
+        Bounded::Refused(why) => Bounded::Refused(why),
+    }
+}
+
+// The triangles behind the first, of n, in a union with it.
+fn union_rest(first: LightBounds, emission_max: f32, scale: f32, two_sided: bool, triangles: &[u32], n: usize) -> Bounded
+    requires { ⌜ 13 * n ≤ length (now triangles) ⌝ }
+    requires { ⌜ 1 ≤ n ⌝ }
+    ensures { λ r. ⌜ bounded r ≡ unionFrom «emission_max» scale «two_sided» (now (triangles .entry)) 13 (n - 1) (given first) ⌝ }
+{
+    let mut result = first;
+    let mut k: usize = 1;
+    while k < n {
+        match grown(result, emission_max, scale, two_sided, triangle_at(triangles, 13 * k)) {
+            Bounded::Bounds(record) => {
+                result = record;
+            }
+            Bounded::Refused(why) => {
+                return Bounded::Refused(why);
+            }
+        }
+        k += 1;
+    }
+    Bounded::Bounds(result)
+}
+
+fn group_bounds(emission_max: f32, scale: f32, two_sided: bool, triangles: &[u32]) -> Bounded
+    ensures { λ r. ⌜ bounded r ≡ groupBounds «emission_max» scale «two_sided» (now (triangles .entry)) ⌝ }
+{
+    match validate_emission(emission_max, scale) {
+        Validity::Valid => {
+            let n = triangles.len() / 13;
+            if n == 0 {
+                return Bounded::Refused(Refusal::NoArea);
+            }
+            match triangle_record(emission_max, scale, two_sided, triangle_at(triangles, 0)) {
+                Bounded::Bounds(first) => union_rest(first, emission_max, scale, two_sided, triangles, n),
+                Bounded::Refused(why) => Bounded::Refused(why),
+            }
+        }
+        Validity::Refused(why) => Bounded::Refused(why),
+    }
+}
