@@ -94,10 +94,13 @@ impl Reading {
         let to = next.at;
         if from <= to {
             if to <= list.len() {
-                return &list[from..to];
+                &list[from..to]
+            } else {
+                &list[..0]
             }
+        } else {
+            &list[..0]
         }
-        &list[..0]
     }
 }
 
@@ -130,82 +133,81 @@ pub fn handle_of(lamp: Lamp) -> u32
     }
 }
 
-// Whether so many words stand from a place on.
-fn has(list: &[u32], at: usize, n: usize) -> bool
-    ensures { λ r. ⌜ r ≡ leb (at + n) (length (now (list .entry))) ⌝ }
-{
-    if list.len() < n {
-        return false;
-    }
-    at <= list.len() - n
-}
-
 fn point_at(list: &[u32], at: usize) -> Step
     ensures { λ r. ⌜ step r ≡ cond (leb (at + pointWords) (length (now (list .entry)))) (given (pointAt (now (list .entry)) at)) (refused 1) ⌝ }
 {
-    if has(list, at, 6) {
-        let lamp = Lamp::Point {
-            handle: list[at] % 0x4000_0000,
-            world_position: vec_at(list, at + 1),
-            intensity_max: f32_of_word(list[at + 4]),
-            scale: f32_of_word(list[at + 5]),
-        };
-        Step::Read(Reading {
-            lamp,
-            triangles: at + 6,
-            next: Cursor { at: at + 6 },
-        })
-    } else {
-        Step::Refused(Refusal::Ragged)
+    if list.len() < 6 {
+        return Step::Refused(Refusal::Ragged);
     }
+    if list.len() - 6 < at {
+        return Step::Refused(Refusal::Ragged);
+    }
+    let lamp = Lamp::Point {
+        handle: list[at] % 0x4000_0000,
+        world_position: vec_at(list, at + 1),
+        intensity_max: f32_of_word(list[at + 4]),
+        scale: f32_of_word(list[at + 5]),
+    };
+    Step::Read(Reading {
+        lamp,
+        triangles: at + 6,
+        next: Cursor { at: at + 6 },
+    })
 }
 
 fn spot_at(list: &[u32], at: usize) -> Step
     ensures { λ r. ⌜ step r ≡ cond (leb (at + spotWords) (length (now (list .entry)))) (given (spotAt (now (list .entry)) at)) (refused 1) ⌝ }
 {
-    if has(list, at, 11) {
-        let lamp = Lamp::Spot {
-            handle: list[at] % 0x4000_0000,
-            world_position: vec_at(list, at + 1),
-            direction: vec_at(list, at + 4),
-            intensity_max: f32_of_word(list[at + 7]),
-            scale: f32_of_word(list[at + 8]),
-            cos_theta_o: f32_of_word(list[at + 9]),
-            cos_falloff_end: f32_of_word(list[at + 10]),
-        };
-        Step::Read(Reading {
-            lamp,
-            triangles: at + 11,
-            next: Cursor { at: at + 11 },
-        })
-    } else {
-        Step::Refused(Refusal::Ragged)
+    if list.len() < 11 {
+        return Step::Refused(Refusal::Ragged);
     }
+    if list.len() - 11 < at {
+        return Step::Refused(Refusal::Ragged);
+    }
+    let lamp = Lamp::Spot {
+        handle: list[at] % 0x4000_0000,
+        world_position: vec_at(list, at + 1),
+        direction: vec_at(list, at + 4),
+        intensity_max: f32_of_word(list[at + 7]),
+        scale: f32_of_word(list[at + 8]),
+        cos_theta_o: f32_of_word(list[at + 9]),
+        cos_falloff_end: f32_of_word(list[at + 10]),
+    };
+    Step::Read(Reading {
+        lamp,
+        triangles: at + 11,
+        next: Cursor { at: at + 11 },
+    })
 }
 
 // The triangle count may be anything up to 2^32 - 1: it is held against what is left of the list by division.
 fn group_at(list: &[u32], at: usize) -> Step
     ensures { λ r. ⌜ step r ≡ cond (leb (at + groupWords) (length (now (list .entry))) && (sideKnown (getD (now (list .entry)) (at + 3) 0) && leb (groupEnd (now (list .entry)) at) (length (now (list .entry))))) (given (groupAt (now (list .entry)) at)) (refused 1) ⌝ }
 {
-    if has(list, at, 5) {
-        if is_side(list[at + 3]) {
-            let triangles = at + 5;
-            let count = wide(list[at + 4]);
-            if count <= (list.len() - triangles) / 13 {
-                let lamp = Lamp::AreaGroup {
-                    handle: list[at] % 0x4000_0000,
-                    emission_max: f32_of_word(list[at + 1]),
-                    scale: f32_of_word(list[at + 2]),
-                    two_sided: list[at + 3] == 1,
-                };
-                return Step::Read(Reading {
-                    lamp,
-                    triangles,
-                    next: Cursor {
-                        at: triangles + 13 * count,
-                    },
-                });
-            }
+    if list.len() < 5 {
+        return Step::Refused(Refusal::Ragged);
+    }
+    if list.len() - 5 < at {
+        return Step::Refused(Refusal::Ragged);
+    }
+    let side = list[at + 3];
+    if is_side(side) {
+        let triangles = at + 5;
+        let count = wide(list[at + 4]);
+        if count <= (list.len() - triangles) / 13 {
+            let lamp = Lamp::AreaGroup {
+                handle: list[at] % 0x4000_0000,
+                emission_max: f32_of_word(list[at + 1]),
+                scale: f32_of_word(list[at + 2]),
+                two_sided: side == 1,
+            };
+            return Step::Read(Reading {
+                lamp,
+                triangles,
+                next: Cursor {
+                    at: triangles + 13 * count,
+                },
+            });
         }
     }
     Step::Refused(Refusal::Ragged)

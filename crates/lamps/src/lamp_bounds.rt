@@ -30,6 +30,7 @@ use words::refusal::Refusal;
 // π as f32 has it, 40490fdb, and the cosine of its half, b33bbd2e (specs/LampBoundsLaws.antt).
 const PI: f32 = 3.1415927;
 const COS_HALF_PI: f32 = -0.00000004371139;
+const MINUS_ONE: f32 = -1.0;
 
 // A lamp's bounds, or why it has none.
 pub enum Bounded {
@@ -136,7 +137,7 @@ fn point_bounds(position: Vec3, intensity_max: f32, scale: f32) -> Bounded
                         bounds,
                         direction,
                         phi: point_phi(intensity_max, scale),
-                        cos_theta_o: -1.0,
+                        cos_theta_o: MINUS_ONE,
                         cos_theta_e: COS_HALF_PI,
                         two_sided: false,
                     })

@@ -1,4 +1,5 @@
 pub mod Answers
+pub mod AnswerLaws
 pub mod Refusals
 pub mod LittleEndian
 pub mod Fill

@@ -1,0 +1,24 @@
+-- `lamps::block::block_record` meets its contract. Assumes nothing.
+use borrow.Author.Needs.{needs}
+use Rattle.lamps.proofs.block.block_record.Statement.{statement}
+use Rattle.lamps.proofs.block.block_record.Tie as tie
+use Rattle.light_bounds.proofs.record_words.read_record.Reads as read-record-reads
+
+returns : tie.Need-returns
+returns c = ?
+
+mul-read-record : tie.Need-mul-read-record
+mul-read-record c = search needs
+
+add-read-record : tie.Need-add-read-record
+add-read-record c = search needs
+
+read-record-requires : tie.Need-read-record-requires
+read-record-requires c κs = search needs
+
+returns-2 : tie.Need-returns-2
+returns-2 c = search needs
+
+pub block-record-spec : {M : Type 1} → statement M
+block-record-spec =
+    tie.close (tie.spec returns mul-read-record add-read-record read-record-requires returns-2)

@@ -1,0 +1,52 @@
+-- `lamps::build::next_bounds` meets its contract. Assumes nothing.
+use borrow.Author.Needs.{needs}
+use Rattle.lamps.proofs.build.next_bounds.Statement.{statement}
+use Rattle.lamps.proofs.build.next_bounds.Tie as tie
+use Rattle.lamps.proofs.cursor.Cursor.next.Reads as next-reads
+use Rattle.lamps.proofs.cursor.Reading.triangles.Reads as triangles-reads
+use Rattle.lamps.proofs.lamp_bounds.light_bounds_for_input.Reads as light-bounds-for-input-reads
+
+next-requires : tie.Need-next-requires
+next-requires c κs = search needs
+
+enum-known-reading : tie.Need-enum-known-reading
+enum-known-reading c = search needs
+
+triangles-requires : tie.Need-triangles-requires
+triangles-requires c κs = search needs
+
+light-bounds-for-input-requires : tie.Need-light-bounds-for-input-requires
+light-bounds-for-input-requires c κs = search needs
+
+enum-known-record : tie.Need-enum-known-record
+enum-known-record c = search needs
+
+enum-known-why : tie.Need-enum-known-why
+enum-known-why c = search needs
+
+enum-known-why-2 : tie.Need-enum-known-why-2
+enum-known-why-2 c = search needs
+
+returns : tie.Need-returns
+returns c = ?
+
+returns-2 : tie.Need-returns-2
+returns-2 c = ?
+
+returns-3 : tie.Need-returns-3
+returns-3 c = ?
+
+pub next-bounds-spec : {M : Type 1} → statement M
+next-bounds-spec =
+    tie.close
+    (tie.spec
+    next-requires
+    enum-known-reading
+    triangles-requires
+    light-bounds-for-input-requires
+    enum-known-record
+    enum-known-why
+    enum-known-why-2
+    returns
+    returns-2
+    returns-3)

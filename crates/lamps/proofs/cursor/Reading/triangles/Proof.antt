@@ -1,0 +1,46 @@
+-- `lamps::cursor::Reading::triangles` meets its contract. Assumes nothing.
+use borrow.Author.Needs.{needs}
+use borrow.Author.Tests.{le-leb, lt-leb}
+use Rattle.lamps.specs.LampList.{trianglesOf}
+use Rattle.lamps.proofs.cursor.Reading.triangles.Statement.{statement}
+use Rattle.lamps.proofs.cursor.Reading.triangles.Tie as tie
+
+mul-result : tie.Need-mul-result
+mul-result c = search needs
+
+part-result-start : tie.Need-part-result-start
+part-result-start c = search needs
+
+part-result-end : tie.Need-part-result-end
+part-result-end c = search needs
+
+slice-aggregate-result : tie.Need-slice-aggregate-result
+slice-aggregate-result c = search needs
+
+slice-aggregate-result-2 : tie.Need-slice-aggregate-result-2
+slice-aggregate-result-2 c = search needs
+
+returns : tie.Need-returns
+unfolding trianglesOf
+returns c = rw (le-leb _ _ (c .before .before .if1 .taken), le-leb _ _ (c .before .if2 .taken))
+
+returns-2 : tie.Need-returns-2
+unfolding trianglesOf
+returns-2 c = rw (le-leb _ _ (c .before .before .if1 .taken), lt-leb _ _ (c .before .if2 .left))
+
+returns-3 : tie.Need-returns-3
+unfolding trianglesOf
+returns-3 c = rw (lt-leb _ _ (c .before .if1 .left))
+
+pub triangles-spec : {M : Type 1} → statement M
+triangles-spec =
+    tie.close
+    (tie.spec
+    mul-result
+    part-result-start
+    part-result-end
+    slice-aggregate-result
+    slice-aggregate-result-2
+    returns
+    returns-2
+    returns-3)

@@ -1,0 +1,30 @@
+-- `lamps::lamp_bounds::falloff` meets its contract. Assumes nothing.
+use borrow.Author.Needs.{needs}
+use Rattle.lamps.specs.LampBounds.{falloff}
+use Rattle.lamps.proofs.lamp_bounds.falloff.Statement.{statement}
+use Rattle.lamps.proofs.lamp_bounds.falloff.Tie as tie
+
+acos-requires : tie.Need-acos-requires
+acos-requires c κs = search needs
+
+acos-requires-2 : tie.Need-acos-requires-2
+acos-requires-2 c κs = search needs
+
+cos-requires : tie.Need-cos-requires
+cos-requires c κs = search needs
+
+returns : tie.Need-returns
+unfolding falloff
+returns c = rw (← c .before .before .before .before .acos .ensures, ← c .before .before .before .acos2 .ensures, ← c .before .before .cos .ensures, c .before .if1 .taken, c .if2 .taken)
+
+returns-2 : tie.Need-returns-2
+unfolding falloff
+returns-2 c = rw (← c .before .before .before .before .acos .ensures, ← c .before .before .before .acos2 .ensures, ← c .before .before .cos .ensures, c .before .if1 .taken, c .if2 .left)
+
+returns-3 : tie.Need-returns-3
+unfolding falloff
+returns-3 c = rw (← c .before .before .before .acos .ensures, ← c .before .before .acos2 .ensures, ← c .before .cos .ensures, c .if1 .left)
+
+pub falloff-spec : {M : Type 1} → statement M
+falloff-spec =
+    tie.close (tie.spec acos-requires acos-requires-2 cos-requires returns returns-2 returns-3)

@@ -1,0 +1,71 @@
+-- `lamps::lamp_bounds::group_bounds` meets its contract. Assumes nothing.
+use borrow.Author.Needs.{needs}
+use Prim.Native.Nat.{_/_}
+use native.Mathlib.Omega.{arith}
+use denote.Ref.{now}
+use lib.ListN.{length}
+use Rattle.words.specs.Answers.{refused, _then_}
+use Rattle.lamps.specs.LampBounds.{groupBounds}
+use Rattle.lamps.specs.LampBoundsLaws.{unionFrom-first, unionFrom-end}
+use Rattle.lamps.proofs.lamp_bounds.group_bounds.Statement.{statement}
+use Rattle.lamps.proofs.lamp_bounds.group_bounds.Tie as tie
+
+validate-emission-requires : tie.Need-validate-emission-requires
+validate-emission-requires c κs = search needs
+
+enum-told : tie.Need-enum-told
+enum-told c = search needs
+
+returns : tie.Need-returns
+unfolding groupBounds _then_
+returns c = 
+    rw (← c .before .before .before .validate-emission .ensures, c .before .enum-told .given .1, unionFrom-end (c .before .before .before .before .before .args .emission-max) (c .before .before .before .before .before .args .scale) (c .before .before .before .before .before .args .two-sided) (now (c .before .before .before .before .before .args .triangles)) 0 (length (now (c .before .before .before .before .before .args .triangles)) / 13) (refused 9) (c .if1 .taken))
+
+triangle-at-requires : tie.Need-triangle-at-requires
+triangle-at-requires c κs = search needs
+
+triangle-record-requires : tie.Need-triangle-record-requires
+triangle-record-requires c κs = search needs
+
+enum-known-first : tie.Need-enum-known-first
+enum-known-first c = search needs
+
+union-rest-requires : tie.Need-union-rest-requires
+union-rest-requires c κs = search needs
+
+enum-known-why : tie.Need-enum-known-why
+enum-known-why c = search needs
+
+enum-known-why-2 : tie.Need-enum-known-why-2
+enum-known-why-2 c = search needs
+
+returns-2 : tie.Need-returns-2
+unfolding groupBounds _then_
+returns-2 c = 
+    rw (← c .before .before .before .before .before .before .before .before .before .validate-emission .ensures, c .before .before .before .before .before .before .before .enum-told .given .1, unionFrom-first (c .before .before .before .before .before .before .before .before .before .before .before .args .emission-max) (c .before .before .before .before .before .before .before .before .before .before .before .args .scale) (c .before .before .before .before .before .before .before .before .before .before .before .args .two-sided) (now (c .before .before .before .before .before .before .before .before .before .before .before .args .triangles)) (length (now (c .before .before .before .before .before .before .before .before .before .before .before .args .triangles)) / 13) (omega arith), ← c .before .before .before .before .before .triangle-at .ensures, ← c .before .before .before .before .triangle-record .ensures, c .before .before .first .given .1) (c .union-rest .ensures)
+
+returns-3 : tie.Need-returns-3
+unfolding groupBounds _then_
+returns-3 c = 
+    rw (← c .before .before .before .before .before .before .before .before .validate-emission .ensures, c .before .before .before .before .before .before .enum-told .given .1, unionFrom-first (c .before .before .before .before .before .before .before .before .before .before .args .emission-max) (c .before .before .before .before .before .before .before .before .before .before .args .scale) (c .before .before .before .before .before .before .before .before .before .before .args .two-sided) (now (c .before .before .before .before .before .before .before .before .before .before .args .triangles)) (length (now (c .before .before .before .before .before .before .before .before .before .before .args .triangles)) / 13) (omega arith), ← c .before .before .before .before .triangle-at .ensures, ← c .before .before .before .triangle-record .ensures, c .before .why .given .1)
+
+returns-4 : tie.Need-returns-4
+unfolding groupBounds _then_
+returns-4 c = rw (← c .before .before .before .validate-emission .ensures, c .before .why2 .given .1)
+
+pub group-bounds-spec : {M : Type 1} → statement M
+group-bounds-spec =
+    tie.close
+    (tie.spec
+    validate-emission-requires
+    enum-told
+    returns
+    triangle-at-requires
+    triangle-record-requires
+    enum-known-first
+    union-rest-requires
+    enum-known-why
+    enum-known-why-2
+    returns-2
+    returns-3
+    returns-4)

@@ -1,0 +1,67 @@
+-- `lamps::lamp_bounds::union_rest` meets its contract. Assumes nothing.
+use Prim.Native.Nat.{_*_, _-_, _≤_}
+use mathlib.Core.Path.{_≡_, refl, sym, _∙_}
+use native.Mathlib.Omega.{arith}
+use borrow.Author.Needs.{needs}
+use Rattle.words.specs.Answers.{given, _then_}
+use Rattle.lamps.specs.LampBounds.{unionFrom}
+use Rattle.lamps.specs.LampBoundsLaws.{unionFrom-next, unionFrom-end}
+use Rattle.lamps.proofs.lamp_bounds.union_rest.Statement.{statement}
+use Rattle.lamps.proofs.lamp_bounds.union_rest.Tie as tie
+
+abbrev Inv-loop : tie.InvT-loop
+Inv-loop emission-max scale two-sided triangles n result₀ k₀ result k = (1 ≤ k) × (k ≤ n) × (unionFrom emission-max scale two-sided triangles 13 (n - 1) (given result₀) ≡ unionFrom emission-max scale two-sided triangles (13 * k) (n - k) (given result))
+
+abbrev μ-loop : tie.MeasureT-loop
+μ-loop emission-max scale two-sided triangles n result₀ k₀ result k = n - k
+
+loop-holds : tie.Need-loop-holds Inv-loop μ-loop
+loop-holds c = (omega arith, omega arith, refl)
+
+mul-triangle-at : tie.Need-mul-triangle-at Inv-loop μ-loop
+mul-triangle-at c = omega arith
+
+triangle-at-requires : tie.Need-triangle-at-requires Inv-loop μ-loop
+triangle-at-requires c κs = search needs
+
+grown-requires : tie.Need-grown-requires Inv-loop μ-loop
+grown-requires c κs = search needs
+
+enum-known-record : tie.Need-enum-known-record Inv-loop μ-loop
+enum-known-record c = search needs
+
+enum-known-why : tie.Need-enum-known-why Inv-loop μ-loop
+enum-known-why c = search needs
+
+returns : tie.Need-returns Inv-loop μ-loop
+returns c = ?
+
+add-k : tie.Need-add-k Inv-loop μ-loop
+add-k c = search needs
+
+loop-less : tie.Need-loop-less Inv-loop μ-loop
+loop-less c = omega arith
+
+loop-again : tie.Need-loop-again Inv-loop μ-loop
+loop-again c = (omega arith, omega arith, ?)
+
+returns-2 : tie.Need-returns-2 Inv-loop μ-loop
+returns-2 c = ?
+
+pub union-rest-spec : {M : Type 1} → statement M
+union-rest-spec =
+    tie.close
+    (tie.spec
+    Inv-loop
+    μ-loop
+    loop-holds
+    mul-triangle-at
+    triangle-at-requires
+    grown-requires
+    enum-known-record
+    enum-known-why
+    returns
+    add-k
+    loop-less
+    loop-again
+    returns-2)
