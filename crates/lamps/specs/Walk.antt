@@ -3,7 +3,8 @@
 use Prim.Native.Nat.{ℕ, zero, suc}
 use mathlib.Core.Bool.{cond}
 use mathlib.Core.List.{List, [], _∷_, _++_}
-use lib.ListN.{drop, replicate, getD}
+use lib.Dec.{eqb}
+use lib.ListN.{length, drop, replicate}
 use Rattle.words.specs.Answers.{Answer, given, refused, _then_}
 use Rattle.words.specs.Refusals.{number}
 use Rattle.light_bounds.specs.declared.light_bounds.LightBounds.{LightBounds}
@@ -30,10 +31,24 @@ abbrev pub atCursor : Next → Answer Passed
 atCursor (Bounds b c) = given (record { bounds = b; past = c .at })
 atCursor (Refused r) = refused (number r)
 
--- so many lamps' bounds from a place on
-unfoldable pub boundsFrom : ℕ → List ℕ → ℕ → Answer (List LightBounds)
-boundsFrom zero ws at = given []
-boundsFrom (suc n) ws at = nextBounds ws at then λ p. boundsFrom n ws (p .past) then λ bs. given (p .bounds ∷ bs)
+-- So many steps from a place on: what each gives, and the place past it. `end` answers for the place behind the last.
+unfoldable pub gathered : {A B : Type 0} → (ℕ → Answer A) → (A → B) → (A → ℕ) → (ℕ → Answer (List B)) → ℕ → ℕ → Answer (List B)
+gathered step item past end zero at = end at
+gathered step item past end (suc n) at = step at then λ a. gathered step item past end n (past a) then λ bs. given (item a ∷ bs)
+
+-- the lamps
+abbrev pub lampsGathered : List ℕ → ℕ → ℕ → Answer (List Reading)
+lampsGathered ws m at =
+    gathered (lampAt ws) (λ (r : Reading). r) (λ (r : Reading). r .next .at) (λ (end : ℕ). cond (eqb end (length ws)) (given []) (refused 1)) m at
+
+-- their bounds
+abbrev pub boundsFrom : ℕ → List ℕ → ℕ → Answer (List LightBounds)
+boundsFrom m ws at = gathered (nextBounds ws) (λ (p : Passed). p .bounds) (λ (p : Passed). p .past) (λ (end : ℕ). given []) m at
+
+-- what is gathered behind what was
+abbrev pub behind : {B : Type 0} → List B → Answer (List B) → Answer (List B)
+behind done (given rest) = given (done ++ rest)
+behind done (refused n) = refused n
 
 -- a block of m records, or zeros in its place
 unfoldable pub lateTray : ℕ → Answer (List LightBounds) → List ℕ → List ℕ

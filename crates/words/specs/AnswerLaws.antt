@@ -1,21 +1,88 @@
--- Laws of answers: steps in a row, and answers whose refusal, if any, is a late one (above 4), which zeroes the trays. Assumes nothing.
-use Prim.Native.Nat.{ℕ, _<_}
-use mathlib.Core.Path.{_≡_, refl, subst}
-use Rattle.words.specs.Answers.{Answer, given, refused, _then_}
+-- Laws of answers: steps in a row, which refusals an answer can have, and counts. Assumes nothing.
+use Prim.Native.Nat.{ℕ, _≤_, _<_}
+use mathlib.Core.Path.{_≡_, refl, ap, subst, sym, _∙_}
+use mathlib.Core.Bool.{Bool, true, false, cond}
+use mathlib.Core.List.{List}
+use lib.ListN.{length}
+use Rattle.words.specs.Answers.{Answer, given, refused, _then_, count}
 
 pub then-assoc : {A B C : Type 0} (x : Answer A) (f : A → Answer B) (g : B → Answer C) → (x then f) then g ≡ x then (λ (a : A). f a then g)
 unfolding _then_
 then-assoc (given a) f g = refl
 then-assoc (refused n) f g = refl
 
+-- ---- which refusals
+
+-- a refusal, if any, has the property
+abbrev OnlyAt : {A : Type 0} → (ℕ → Type 0) → Answer A → Type 0
+OnlyAt P (given a) = Unit
+OnlyAt P (refused n) = P n
+
+pub record Only {A : Type 0} (P : ℕ → Type 0) (x : Answer A) : Type 0 where
+  pub number : OnlyAt P x
+
+-- refusals 1 to 4 leave trays as they are, later ones zero them
+abbrev pub Early : {A : Type 0} → Answer A → Type 0
+Early x = Only (λ (n : ℕ). n ≤ 4) x
+
 abbrev pub Late : {A : Type 0} → Answer A → Type 0
-Late (given a) = Unit
-Late (refused n) = 4 < n
+Late x = Only (λ (n : ℕ). 4 < n) x
 
-pub late-then : {A B : Type 0} (x : Answer A) (f : A → Answer B) → Late x → ((a : A) → Late (f a)) → Late (x then f)
+module _ {P : ℕ → Type 0} where
+  pub only-given : {A : Type 0} {a : A} → Only P (given a)
+  only-given = record { number = tt }
+
+  pub only-refused : {A : Type 0} {n : ℕ} → P n → Only {A = A} P (refused n)
+  only-refused h = record { number = h }
+
+  pub only-cond : {A : Type 0} (b : Bool) {x y : Answer A} → Only P x → Only P y → Only P (cond b x y)
+  only-cond true h k = h
+  only-cond false h k = k
+
+  pub only-then : {A B : Type 0} {x : Answer A} {f : A → Answer B} → Only P x → ((a : A) → Only P (f a)) → Only P (x then f)
+  unfolding _then_
+  only-then {x = given a} h k = k a
+  only-then {x = refused n} h k = record { number = h .number }
+
+  pub only-number : {A : Type 0} {x : Answer A} {n : ℕ} → Only P x → x ≡ refused n → P n
+  only-number h e = subst (Only P) e h .number
+
+-- ---- given and refused apart
+
+abbrev pub Given : {A : Type 0} → Answer A → Type 0
+Given (given a) = Unit
+Given (refused n) = ⊥
+
+pub not-both : {A : Type 0} {x : Answer A} {a : A} {n : ℕ} → x ≡ given a → x ≡ refused n → ⊥
+not-both g r = subst Given (sym g ∙ r) tt
+
+-- the value, or another where there is none
+abbrev pub valueOr : {A : Type 0} → A → Answer A → A
+valueOr a (given b) = b
+valueOr a (refused n) = a
+
+pub given-injective : {A : Type 0} {a b : A} → given a ≡ given b → a ≡ b
+given-injective {a} e = ap (valueOr a) e
+
+abbrev pub numberOf : {A : Type 0} → Answer A → ℕ
+numberOf (given a) = 0
+numberOf (refused n) = n
+
+pub refused-injective : {A : Type 0} {m n : ℕ} → _≡_ {A = Answer A} (refused m) (refused n) → m ≡ n
+refused-injective e = ap numberOf e
+
+-- what was given was given step by step
+pub then-given : {A B : Type 0} (x : Answer A) (f : A → Answer B) (b : B) → x then f ≡ given b → (a : A) × (x ≡ given a) × (f a ≡ given b)
 unfolding _then_
-late-then (given a) f h k = k a
-late-then (refused n) f h k = h
+then-given (given a) f b e = (a, refl, e)
+then-given (refused n) f b e = absurd (not-both e refl)
 
-pub late-number : {A : Type 0} {x : Answer A} {n : ℕ} → Late x → x ≡ refused n → 4 < n
-late-number h e = subst Late e h
+-- ---- counts
+
+pub count-given : {A : Type 0} (x : Answer (List A)) (n : ℕ) → count x ≡ given n → (l : List A) × (x ≡ given l) × (length l ≡ n)
+count-given (given l) n e = (l, refl, given-injective e)
+count-given (refused m) n e = absurd (not-both e refl)
+
+pub count-refused : {A : Type 0} (x : Answer (List A)) (n : ℕ) → count x ≡ refused n → x ≡ refused n
+count-refused (given l) n e = absurd (not-both refl e)
+count-refused (refused m) n e = ap refused (refused-injective e)

@@ -1,54 +1,80 @@
--- `lamps::build::check_lamps` meets its contract. Assumes nothing.
+-- `lamps::build::check_lamps` meets its contract. The loop's invariant: the lamps before `i` are read, and `placed` says whether their handles are their places.
+-- Assumes nothing.
+use Prim.Native.Nat.{ℕ, _-_}
+use mathlib.Core.Path.{_≡_, refl, ap, sym, _∙_}
+use mathlib.Core.Bool.{cond}
+use mathlib.Core.List.{List, [], _∷_, _++_}
+use borrow.Author.Needs.{needs}
+use denote.Ref.{now}
+use native.Mathlib.Omega.{arith}
+use lib.Dec.{eqb}
+use lib.ListN.{length}
+use Rattle.words.specs.Answers.{given, refused}
+use Rattle.lamps.specs.LampList.{lampAt, inPlace}
+use Rattle.lamps.specs.WalkLaws.{LampsRead, walked-none}
+use Rattle.lamps.specs.declared.cursor.Reading.{Reading}
+use Prim.Native.Nat.{_+_}
+use borrow.Author.Tests.{eq-eqb, ne-eqb}
+use Rattle.words.specs.Refusals.{number}
+use Rattle.lamps.specs.LampList.{step}
+use Rattle.lamps.specs.WalkLaws.{walked-one, inPlace-snoc, placed-refused, placed-ragged, placed-all}
 use Rattle.lamps.proofs.build.check_lamps.Statement.{statement}
 use Rattle.lamps.proofs.build.check_lamps.Tie as tie
-use Rattle.lamps.proofs.block.still_placed.Reads as still-placed-reads
-use Rattle.lamps.proofs.cursor.Cursor.next.Reads as next-reads
-use Rattle.lamps.proofs.cursor.handle_of.Reads as handle-of-reads
 
 abbrev Inv-loop : tie.InvT-loop
-Inv-loop list m i₀ at₀ placed₀ i at placed = ?
+Inv-loop list m i₀ at₀ placed₀ i at placed = (done : List Reading) × LampsRead list m i at done × (placed ≡ inPlace 0 done)
 
 abbrev μ-loop : tie.MeasureT-loop
-μ-loop list m i₀ at₀ placed₀ i at placed = ?
+μ-loop list m i₀ at₀ placed₀ i at placed = m - i
 
 loop-holds : tie.Need-loop-holds Inv-loop μ-loop
-loop-holds c = ?
+unfolding inPlace
+loop-holds c = ([], walked-none (lampAt (now (c .before .args .list))) (λ (r : Reading). r) (λ (r : Reading). r .next .at) (λ (end : ℕ). cond (eqb end (length (now (c .before .args .list)))) (given []) (refused 1)) (c .before .args .m) 1, refl)
 
 next-requires : tie.Need-next-requires Inv-loop μ-loop
-next-requires c κs = ?
+next-requires c κs = search needs
 
 enum-known-reading : tie.Need-enum-known-reading Inv-loop μ-loop
-enum-known-reading c = ?
+enum-known-reading c = search needs
 
 handle-of-requires : tie.Need-handle-of-requires Inv-loop μ-loop
-handle-of-requires c κs = ?
+handle-of-requires c κs = search needs
 
 still-placed-requires : tie.Need-still-placed-requires Inv-loop μ-loop
-still-placed-requires c κs = ?
+still-placed-requires c κs = search needs
 
 enum-known-why : tie.Need-enum-known-why Inv-loop μ-loop
-enum-known-why c = ?
+enum-known-why c = search needs
 
 returns : tie.Need-returns Inv-loop μ-loop
-returns c = ?
+returns c = rw (placed-refused (now (c .before .before .before .before .before .before .before .args .list)) (c .before .before .before .before .before .loop .inv .1) (number (c .before .why .given .0 .0)) (omega arith) (sym (c .before .before .before .next .ensures) ∙ ap step (c .before .why .given .1)))
 
 add-i : tie.Need-add-i Inv-loop μ-loop
-add-i c = ?
+add-i c = omega arith
 
 loop-less : tie.Need-loop-less Inv-loop μ-loop
-loop-less c = ?
+loop-less c = omega arith
 
 loop-again : tie.Need-loop-again Inv-loop μ-loop
-loop-again c = ?
+loop-again c = 
+    let done = c .before .before .before .before .before .before .before .before .loop .inv .0 in
+    let r = c .before .before .before .before .reading .given .0 .0 in
+    let z : 0 + length done ≡ c .before .before .before .before .before .before .before .before .loop .i = omega (arith, c .before .before .before .before .before .before .before .before .loop .inv .1 .size) in
+    (
+      done ++ r ∷ [],
+      walked-one (lampAt (now (c .before .before .before .before .before .before .before .before .before .before .args .list))) (λ (r : Reading). r) (λ (r : Reading). r .next .at) (λ (end : ℕ). cond (eqb end (length (now (c .before .before .before .before .before .before .before .before .before .before .args .list)))) (given []) (refused 1)) r (c .before .before .before .before .before .before .before .before .loop .inv .1) (omega arith) (sym (c .before .before .before .before .before .before .next .ensures) ∙ ap step (c .before .before .before .before .reading .given .1)),
+      c .still-placed .ensures ∙ rw (c .before .before .before .before .before .before .before .before .loop .inv .2, c .before .handle-of .ensures, inPlace-snoc 0 done r, z),
+    )
 
 returns-2 : tie.Need-returns-2 Inv-loop μ-loop
-returns-2 c = ?
+returns-2 c = 
+    rw (placed-all (now (c .before .before .before .before .before .args .list)) (c .before .before .before .loop .inv .1) (omega arith) (eq-eqb _ _ (c .before .if1 .taken)), ← c .before .before .before .loop .inv .2, c .if2 .taken) (ap given (omega (arith, c .before .before .before .loop .inv .1 .size, c .before .before .before .loop .inv .1 .within)))
 
 returns-3 : tie.Need-returns-3 Inv-loop μ-loop
-returns-3 c = ?
+returns-3 c = rw (placed-all (now (c .before .before .before .before .before .args .list)) (c .before .before .before .loop .inv .1) (omega arith) (eq-eqb _ _ (c .before .if1 .taken)), ← c .before .before .before .loop .inv .2, c .if2 .left)
 
 returns-4 : tie.Need-returns-4 Inv-loop μ-loop
-returns-4 c = ?
+returns-4 c = rw (placed-ragged (now (c .before .before .before .before .args .list)) (c .before .before .loop .inv .1) (omega arith) (ne-eqb _ _ (c .if1 .left)))
 
 pub check-lamps-spec : {M : Type 1} → statement M
 check-lamps-spec =

@@ -1,66 +1,79 @@
 -- `lamps::build::write_block` meets its contract. Assumes nothing.
+use Prim.Native.Nat.{_-_}
+use mathlib.Core.List.{List}
+use Rattle.lamps.specs.BlockLaws.{Packed}
+use Rattle.lamps.specs.WalkLaws.{BoundsTaken}
+use Rattle.light_bounds.specs.declared.light_bounds.LightBounds.{LightBounds}
+use Prim.Native.Nat.{ℕ}
+use mathlib.Core.Path.{_≡_, refl, ap, sym, _∙_}
+use mathlib.Core.List.{[], _∷_, _++_}
+use borrow.Author.Needs.{needs}
+use denote.Ref.{now}
+use native.Mathlib.Omega.{arith}
+use lib.ListN.{length-set}
+use Rattle.words.specs.Answers.{given}
+use Rattle.lamps.specs.BlockLaws.{packed-none}
+use Rattle.lamps.specs.WalkLaws.{walked-none}
+use Rattle.lamps.specs.Walk.{Passed, nextBounds}
 use Rattle.lamps.proofs.build.write_block.Statement.{statement}
 use Rattle.lamps.proofs.build.write_block.Tie as tie
-use Rattle.lamps.proofs.build.next_bounds.Reads as next-bounds-reads
-use Rattle.light_bounds.proofs.record_words.write_record.Reads as write-record-reads
-use Rattle.words.proofs.fill.zero_words.Reads as zero-words-reads
 
 abbrev Inv-loop : tie.InvT-loop
-Inv-loop list m block₀ i₀ at₀ block i at = ?
+Inv-loop list m block₀ i₀ at₀ block i at = (done : List LightBounds) × BoundsTaken list m i at done × Packed m done block₀ block
 
 abbrev μ-loop : tie.MeasureT-loop
-μ-loop list m block₀ i₀ at₀ block i at = ?
+μ-loop list m block₀ i₀ at₀ block i at = m - i
 
 cast-block : tie.Need-cast-block Inv-loop μ-loop
-cast-block c = ?
+cast-block c = omega (arith, c .before .before .pre .0, c .before .before .pre .1)
 
 slice-write-block : tie.Need-slice-write-block Inv-loop μ-loop
-slice-write-block c = ?
+slice-write-block c = omega (arith, c .before .before .pre .0, c .before .before .pre .1)
 
 loop-holds : tie.Need-loop-holds Inv-loop μ-loop
-loop-holds c = ?
+loop-holds c = ([], walked-none (nextBounds (now (c .before .before .args .list))) (λ (p : Passed). p .bounds) (λ (p : Passed). p .past) (λ (end : ℕ). given []) (c .before .before .args .m) 1, packed-none (c .before .before .args .m) (now (c .before .before .args .block)) (omega (arith, c .before .before .pre .0)))
 
 next-bounds-requires : tie.Need-next-bounds-requires Inv-loop μ-loop
-next-bounds-requires c κs = ?
+next-bounds-requires c κs = search needs
 
 enum-known-record : tie.Need-enum-known-record Inv-loop μ-loop
-enum-known-record c = ?
+enum-known-record c = search needs
 
 cast-block-2 : tie.Need-cast-block-2 Inv-loop μ-loop
-cast-block-2 c = ?
+cast-block-2 c = omega (arith, c .before .before .before .before .before .before .before .before .pre .0, c .before .before .before .before .before .before .before .before .pre .1, c .before .before .before .before .before .loop .inv .2 .same, length-set (now (c .before .before .before .before .before .before .before .before .args .block)) 0 (c .before .before .before .before .before .before .before .before .args .m))
 
 mul-block : tie.Need-mul-block Inv-loop μ-loop
-mul-block c = ?
+mul-block c = omega (arith, c .before .before .before .before .before .before .before .before .pre .0, c .before .before .before .before .before .before .before .before .pre .1, c .before .before .before .before .before .loop .inv .2 .same, length-set (now (c .before .before .before .before .before .before .before .before .args .block)) 0 (c .before .before .before .before .before .before .before .before .args .m))
 
 add-block : tie.Need-add-block Inv-loop μ-loop
-add-block c = ?
+add-block c = omega (arith, c .before .before .before .before .before .before .before .before .pre .0, c .before .before .before .before .before .before .before .before .pre .1, c .before .before .before .before .before .loop .inv .2 .same, length-set (now (c .before .before .before .before .before .before .before .before .args .block)) 0 (c .before .before .before .before .before .before .before .before .args .m))
 
 mul-block-2 : tie.Need-mul-block-2 Inv-loop μ-loop
-mul-block-2 c = ?
+mul-block-2 c = omega (arith, c .before .before .before .before .before .before .before .before .pre .0, c .before .before .before .before .before .before .before .before .pre .1, c .before .before .before .before .before .loop .inv .2 .same, length-set (now (c .before .before .before .before .before .before .before .before .args .block)) 0 (c .before .before .before .before .before .before .before .before .args .m))
 
 slice-write-block-2 : tie.Need-slice-write-block-2 Inv-loop μ-loop
-slice-write-block-2 c = ?
+slice-write-block-2 c = omega (arith, c .before .before .before .before .before .before .before .before .pre .0, c .before .before .before .before .before .before .before .before .pre .1, c .before .before .before .before .before .loop .inv .2 .same, length-set (now (c .before .before .before .before .before .before .before .before .args .block)) 0 (c .before .before .before .before .before .before .before .before .args .m))
 
 mul-write-record : tie.Need-mul-write-record Inv-loop μ-loop
-mul-write-record c = ?
+mul-write-record c = omega (arith, c .before .before .before .before .before .before .before .before .before .pre .0, c .before .before .before .before .before .before .before .before .before .pre .1, c .before .before .before .before .before .before .loop .inv .2 .same, length-set (now (c .before .before .before .before .before .before .before .before .before .args .block)) 0 (c .before .before .before .before .before .before .before .before .before .args .m))
 
 add-write-record : tie.Need-add-write-record Inv-loop μ-loop
-add-write-record c = ?
+add-write-record c = omega (arith, c .before .before .before .before .before .before .before .before .before .pre .0, c .before .before .before .before .before .before .before .before .before .pre .1, c .before .before .before .before .before .before .loop .inv .2 .same, length-set (now (c .before .before .before .before .before .before .before .before .before .args .block)) 0 (c .before .before .before .before .before .before .before .before .before .args .m))
 
 write-record-requires : tie.Need-write-record-requires Inv-loop μ-loop
-write-record-requires c κs = ?
+write-record-requires c κs = search needs
 
 enum-known-why : tie.Need-enum-known-why Inv-loop μ-loop
-enum-known-why c = ?
+enum-known-why c = search needs
 
 mul-zero-words : tie.Need-mul-zero-words Inv-loop μ-loop
-mul-zero-words c = ?
+mul-zero-words c = omega (arith, c .before .before .before .before .before .before .before .before .before .pre .0, c .before .before .before .before .before .before .before .before .before .pre .1, c .before .before .before .before .before .before .loop .inv .2 .same, length-set (now (c .before .before .before .before .before .before .before .before .before .args .block)) 0 (c .before .before .before .before .before .before .before .before .before .args .m))
 
 add-zero-words : tie.Need-add-zero-words Inv-loop μ-loop
-add-zero-words c = ?
+add-zero-words c = omega (arith, c .before .before .before .before .before .before .before .before .before .pre .0, c .before .before .before .before .before .before .before .before .before .pre .1, c .before .before .before .before .before .before .loop .inv .2 .same, length-set (now (c .before .before .before .before .before .before .before .before .before .args .block)) 0 (c .before .before .before .before .before .before .before .before .before .args .m))
 
 zero-words-requires : tie.Need-zero-words-requires Inv-loop μ-loop
-zero-words-requires c κs = ?
+zero-words-requires c κs = search needs
 
 same-length : tie.Need-same-length Inv-loop μ-loop
 same-length c = ?
@@ -69,10 +82,10 @@ returns : tie.Need-returns Inv-loop μ-loop
 returns c = ?
 
 add-i : tie.Need-add-i Inv-loop μ-loop
-add-i c = ?
+add-i c = omega (arith, c .before .before .before .before .before .before .before .before .before .before .before .before .pre .0, c .before .before .before .before .before .before .before .before .before .before .before .before .pre .1, c .before .before .before .before .before .before .before .before .before .loop .inv .2 .same, length-set (now (c .before .before .before .before .before .before .before .before .before .before .before .before .args .block)) 0 (c .before .before .before .before .before .before .before .before .before .before .before .before .args .m))
 
 loop-less : tie.Need-loop-less Inv-loop μ-loop
-loop-less c = ?
+loop-less c = omega arith
 
 loop-again : tie.Need-loop-again Inv-loop μ-loop
 loop-again c = ?

@@ -1,11 +1,12 @@
 -- `lamps::lamp_bounds::union_rest` meets its contract. Assumes nothing.
-use Prim.Native.Nat.{_*_, _-_, _≤_}
+use Prim.Native.Nat.{_+_, _*_, _-_, _≤_}
 use mathlib.Core.Path.{_≡_, refl, sym, _∙_}
 use native.Mathlib.Omega.{arith}
 use borrow.Author.Needs.{needs}
 use Rattle.words.specs.Answers.{given, _then_}
 use Rattle.lamps.specs.LampBounds.{unionFrom}
 use Rattle.lamps.specs.LampBoundsLaws.{unionFrom-next, unionFrom-end}
+use denote.Ref.{now}
 use Rattle.lamps.proofs.lamp_bounds.union_rest.Statement.{statement}
 use Rattle.lamps.proofs.lamp_bounds.union_rest.Tie as tie
 
@@ -34,7 +35,9 @@ enum-known-why : tie.Need-enum-known-why Inv-loop μ-loop
 enum-known-why c = search needs
 
 returns : tie.Need-returns Inv-loop μ-loop
-returns c = ?
+unfolding _then_
+returns c = 
+    rw (c .before .before .before .before .before .before .loop .inv .2, unionFrom-next (c .before .before .before .before .before .before .before .before .args .emission-max) (c .before .before .before .before .before .before .before .before .args .scale) (c .before .before .before .before .before .before .before .before .args .two-sided) (now (c .before .before .before .before .before .before .before .before .args .triangles)) (13 * c .before .before .before .before .before .before .loop .k) (c .before .before .before .before .before .before .before .before .args .n - c .before .before .before .before .before .before .loop .k) (c .before .before .before .before .before .before .loop .result) (omega arith), ← c .before .before .before .before .triangle-at .ensures, ← c .before .before .before .grown .ensures, c .before .why .given .1)
 
 add-k : tie.Need-add-k Inv-loop μ-loop
 add-k c = search needs
@@ -43,10 +46,14 @@ loop-less : tie.Need-loop-less Inv-loop μ-loop
 loop-less c = omega arith
 
 loop-again : tie.Need-loop-again Inv-loop μ-loop
-loop-again c = (omega arith, omega arith, ?)
+unfolding _then_
+loop-again c = 
+    let e : 13 * c .before .before .before .before .before .before .loop .k + 13 ≡ 13 * (c .before .before .before .before .before .before .loop .k + 1) = omega arith in
+    let e′ : c .before .before .before .before .before .before .before .before .args .n - c .before .before .before .before .before .before .loop .k - 1 ≡ c .before .before .before .before .before .before .before .before .args .n - (c .before .before .before .before .before .before .loop .k + 1) = omega arith in
+    (omega arith, omega arith, rw (c .before .before .before .before .before .before .loop .inv .2, unionFrom-next (c .before .before .before .before .before .before .before .before .args .emission-max) (c .before .before .before .before .before .before .before .before .args .scale) (c .before .before .before .before .before .before .before .before .args .two-sided) (now (c .before .before .before .before .before .before .before .before .args .triangles)) (13 * c .before .before .before .before .before .before .loop .k) (c .before .before .before .before .before .before .before .before .args .n - c .before .before .before .before .before .before .loop .k) (c .before .before .before .before .before .before .loop .result) (omega arith), ← c .before .before .before .before .triangle-at .ensures, ← c .before .before .before .grown .ensures, c .before .«record» .given .1, e, e′))
 
 returns-2 : tie.Need-returns-2 Inv-loop μ-loop
-returns-2 c = ?
+returns-2 c = sym (c .before .loop .inv .2 ∙ unionFrom-end (c .before .before .before .args .emission-max) (c .before .before .before .args .scale) (c .before .before .before .args .two-sided) (now (c .before .before .before .args .triangles)) (13 * c .before .loop .k) (c .before .before .before .args .n - c .before .loop .k) (given (c .before .loop .result)) (omega arith))
 
 pub union-rest-spec : {M : Type 1} → statement M
 union-rest-spec =
