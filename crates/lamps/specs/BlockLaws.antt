@@ -4,7 +4,7 @@ use mathlib.Core.Path.{_≡_, refl, ap, subst, sym, _∙_}
 use mathlib.Core.Bool.{Bool, true, false, _&&_, and-false}
 use mathlib.Core.List.{List, [], _∷_, _++_, append-assoc, append-nil}
 use native.Mathlib.Omega.{arith}
-use lib.ListN.{length, set, drop, replicate, length-append, length-set, length-drop}
+use lib.ListN.{length, set, drop, replicate, length-append, length-set, length-drop, length-replicate}
 use lib.Seq.{length-sets, drop-append-add, drop-drop, drop-set-lt}
 use Rattle.words.specs.Fill.{filled}
 use Rattle.words.specs.FillLaws.{filled-within}
@@ -97,5 +97,8 @@ zeroed {m} {done} {d} {l} p h room =
     let e′ : 1 + 14 * length done + 14 * (m - length done) ≡ blockWords m = omega arith in
     let z : blockWords m - 0 ≡ blockWords m = omega arith in
     let rest : drop (blockWords m) l ≡ drop (blockWords m) d =
-        rw (p .is, e) (drop-append-add front (drop (1 + 14 * length done) d) (14 * (m - length done)) ∙ drop-drop (14 * (m - length done)) (1 + 14 * length done) d ∙ rw (e′, e)) in
+    rw (p .is, e) (drop-append-add front (drop (1 + 14 * length done) d) (14 * (m - length done)) ∙ drop-drop (14 * (m - length done)) (1 + 14 * length done) d ∙ rw (e′, e)) in
     filled-within l 0 (blockWords m) 0 (omega arith) (omega (arith, p .same, room)) ∙ rw (z, rest)
+
+pub zeroed-length : (m : ℕ) (d : List ℕ) → blockWords m ≤ length d → length (replicate (blockWords m) 0 ++ drop (blockWords m) d) ≡ length d
+zeroed-length m d room = simp (length-append, length-replicate, length-drop) (omega arith)

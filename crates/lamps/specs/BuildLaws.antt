@@ -5,14 +5,14 @@ use mathlib.Core.Path.{_≡_, refl, ap, subst, sym, _∙_}
 use mathlib.Core.Bool.{Bool, true, false, cond, _&&_, _||_, not}
 use mathlib.Core.List.{List, [], _∷_, _++_}
 use native.Mathlib.Omega.{arith}
-use borrow.Author.Tests.{le-leb, lt-leb}
+use borrow.Author.Tests.{le-leb, lt-leb, ltb-false}
 use lib.Dec.{leb, ltb, eqb}
 use lib.Ieee.{Float, lt, eq}
 use lib.Ieee.Scale.{finite}
 use Rattle.ieee.specs.Single.{zero as zerof}
 use lib.ListN.{length, getD, drop}
-use Rattle.words.specs.AnswerLaws.{Early, Late, only-given, only-refused, only-cond, only-then, then-given, given-injective, not-both}
-use Rattle.words.specs.Answers.{Answer, given, refused, _then_}
+use Rattle.words.specs.AnswerLaws.{Early, Late, only-given, only-refused, only-cond, only-then, then-given, given-injective, not-both, count-given}
+use Rattle.words.specs.Answers.{Answer, given, refused, _then_, count}
 use Rattle.words.specs.Tray.{tray}
 use Rattle.words.specs.TrayLaws.{tray-full}
 use Rattle.light_bounds.specs.Boxes.{boxCheck, inverted}
@@ -149,6 +149,7 @@ list-read ws rs e = uncrowded (crowded ws) refl e
     placed : (b : Bool) (l : List Reading) → cond b (given l) (refused 4) ≡ given rs → l ≡ rs
     placed true l e = given-injective e
     placed false l e = absurd (not-both e refl)
+
     uncrowded : (b : Bool) → crowded ws ≡ b → cond b (refused 2) (lampsFrom (getD ws 0 0) ws 1 then λ l. cond (inPlace 0 l) (given l) (refused 4)) ≡ given rs
         → (crowded ws ≡ false) × (lampsFrom (getD ws 0 0) ws 1 ≡ given rs) × (length rs ≡ getD ws 0 0)
     uncrowded true c e = absurd (not-both e refl)
@@ -186,3 +187,29 @@ late-tray m (given bs) before l n =
     ap (λ (k : ℕ). k ∷ packedFrom 0 bs ++ drop (blockWords m) before) (sym (n bs refl))
     ∙ sym (tray-full packExhaustiveBounds (blockWords m) before bs (omega (arith, length-packedFrom 0 bs, n bs refl)))
 late-tray m (refused k) before l n = rw (lt-leb k 4 (l .number))
+
+-- ---- as the code meets it
+
+within-limit : (ws : List ℕ) → crowded ws ≡ false → getD ws 0 0 ≤ 4096
+within-limit ws h = ltb-false 4096 (getD ws 0 0) (left (ltb 4096 (getD ws 0 0)) h)
+  where
+    left : (a : Bool) → a || ltb 0x10_0000 (length ws) ≡ false → a ≡ false
+    left true h = h
+    left false h = refl
+
+-- a list that was counted
+pub list-counted : (ws : List ℕ) (m : ℕ) → count (lampList ws) ≡ given m
+    → (rs : List Reading) × (lampList ws ≡ given rs) × (length rs ≡ m) × (m ≡ getD ws 0 0) × (m ≤ 4096)
+list-counted ws m e =
+    let (rs, read, n) = count-given (lampList ws) m e in
+    let (uncrowded, lamps, size) = list-read ws rs read in
+    (rs, read, n, sym n ∙ size, omega (arith, within-limit ws uncrowded, n, size))
+
+-- the block that the second walk leaves
+pub build-tray : (ws : List ℕ) (room : ℕ) (rs : List Reading) → lampList ws ≡ given rs → (m : ℕ) → length rs ≡ m → blockWords m ≤ room → (before : List ℕ)
+    → lateTray m (boundsFrom m ws 1) before ≡ tray packExhaustiveBounds (blockWords (getD ws 0 0)) (buildLightBounds ws room) before
+build-tray ws room rs read m n h before =
+    let (uncrowded, lamps, size) = list-read ws rs read in
+    let e : getD ws 0 0 ≡ m = sym size ∙ n in
+    let bounds : boundsFrom m ws 1 ≡ allBounds ws rs = boundsFrom-all m ws 1 rs (subst (λ (k : ℕ). lampsFrom k ws 1 ≡ given rs) e lamps) in
+    rw (build-walked ws room rs read m n h, e, bounds) (late-tray m (allBounds ws rs) before (late-all ws rs) (λ bs eb. allBounds-length ws rs bs eb ∙ n))

@@ -135,8 +135,10 @@ module _ (ws : List ℕ) {m i at : ℕ} {done : List Reading} (w : LampsRead ws 
   pub placed-refused : (n : ℕ) → i < m → lampAt ws at ≡ refused n → placedLamps m ws ≡ refused n
   unfolding placedLamps _then_
   placed-refused n h e =
-      rw (lampsFrom-gathered m ws 1,
-          walked-refused (lampAt ws) (λ (r : Reading). r) (λ (r : Reading). r .next .at) (λ (end : ℕ). cond (eqb end (length ws)) (given []) (refused 1)) w h e)
+      rw (
+        lampsFrom-gathered m ws 1,
+        walked-refused (lampAt ws) (λ (r : Reading). r) (λ (r : Reading). r .next .at) (λ (end : ℕ). cond (eqb end (length ws)) (given []) (refused 1)) w h e,
+      )
 
   all : m ≤ i → lampsFrom m ws 1 ≡ behind done (cond (eqb at (length ws)) (given []) (refused 1))
   all h =

@@ -61,7 +61,11 @@ fn check_records(block: &[u32], m: usize) -> Counted
 pub fn still_placed(placed: bool, handle: u32, place: usize) -> bool
     ensures { λ r. ⌜ r ≡ placed && eqb handle place ⌝ }
 {
-    if placed { handle as usize == place } else { false }
+    if placed {
+        handle as usize == place
+    } else {
+        false
+    }
 }
 
 // The record at a place, with its side judged; past the block's end there is none.

@@ -29,7 +29,9 @@ use words::refusal::Refusal;
 
 // π as f32 has it, 40490fdb, and the cosine of its half, b33bbd2e (specs/LampBoundsLaws.antt).
 const PI: f32 = 3.1415927;
+
 const COS_HALF_PI: f32 = -0.00000004371139;
+
 const MINUS_ONE: f32 = -1.0;
 
 // A lamp's bounds, or why it has none.
@@ -163,14 +165,27 @@ fn falloff(cos_theta_o: f32, cos_falloff_end: f32) -> f32
     cos_theta_e
 }
 
-fn spot_bounds(position: Vec3, direction: Vec3, intensity_max: f32, scale: f32, cos_theta_o: f32, cos_falloff_end: f32) -> Bounded
+fn spot_bounds(
+    position: Vec3,
+    direction: Vec3,
+    intensity_max: f32,
+    scale: f32,
+    cos_theta_o: f32,
+    cos_falloff_end: f32,
+) -> Bounded
     ensures { λ r. ⌜ bounded r ≡ spotBounds position direction «intensity_max» scale «cos_theta_o» «cos_falloff_end» ⌝ }
 {
     match validate_emission(intensity_max, scale) {
         Validity::Valid => {
             if is_cosine(cos_theta_o) {
                 if is_cosine(cos_falloff_end) {
-                    return spot_record(position, direction, point_phi(intensity_max, scale), cos_theta_o, cos_falloff_end);
+                    return spot_record(
+                        position,
+                        direction,
+                        point_phi(intensity_max, scale),
+                        cos_theta_o,
+                        cos_falloff_end,
+                    );
                 }
             }
             Bounded::Refused(Refusal::OutOfRange)
@@ -180,7 +195,13 @@ fn spot_bounds(position: Vec3, direction: Vec3, intensity_max: f32, scale: f32, 
 }
 
 // Box, direction, record.
-fn spot_record(position: Vec3, direction: Vec3, phi: f32, cos_theta_o: f32, cos_falloff_end: f32) -> Bounded
+fn spot_record(
+    position: Vec3,
+    direction: Vec3,
+    phi: f32,
+    cos_theta_o: f32,
+    cos_falloff_end: f32,
+) -> Bounded
     ensures { λ r. ⌜ bounded r ≡ spotRecord position direction phi «cos_theta_o» «cos_falloff_end» ⌝ }
 {
     let bounds = Bounds3 {
@@ -245,7 +266,12 @@ fn triangle_record(emission_max: f32, scale: f32, two_sided: bool, t: AreaTriang
                 if t.area <= 0.0 {
                     return Bounded::Refused(Refusal::NoArea);
                 }
-                return faced_record(bounds, t.geometric_normal, group_phi(emission_max, scale, t.area), two_sided);
+                return faced_record(
+                    bounds,
+                    t.geometric_normal,
+                    group_phi(emission_max, scale, t.area),
+                    two_sided,
+                );
             }
             Bounded::Refused(Refusal::NoArea)
         }
@@ -275,7 +301,13 @@ fn faced_record(bounds: Bounds3, normal: Vec3, phi: f32, two_sided: bool) -> Bou
 }
 
 // The record around what there is and the next triangle.
-fn grown(existing: LightBounds, emission_max: f32, scale: f32, two_sided: bool, t: AreaTriangleInput) -> Bounded
+fn grown(
+    existing: LightBounds,
+    emission_max: f32,
+    scale: f32,
+    two_sided: bool,
+    t: AreaTriangleInput,
+) -> Bounded
     ensures { λ r. ⌜ bounded r ≡ triangleRecord «emission_max» scale «two_sided» t then joinNext (given existing) ⌝ }
 {
     match triangle_record(emission_max, scale, two_sided, t) {
@@ -288,7 +320,14 @@ fn grown(existing: LightBounds, emission_max: f32, scale: f32, two_sided: bool, 
 }
 
 // The triangles behind the first, of n, in a union with it.
-fn union_rest(first: LightBounds, emission_max: f32, scale: f32, two_sided: bool, triangles: &[u32], n: usize) -> Bounded
+fn union_rest(
+    first: LightBounds,
+    emission_max: f32,
+    scale: f32,
+    two_sided: bool,
+    triangles: &[u32],
+    n: usize,
+) -> Bounded
     requires { ⌜ 13 * n ≤ length (now triangles) ⌝ }
     requires { ⌜ 1 ≤ n ⌝ }
     ensures { λ r. ⌜ bounded r ≡ unionFrom «emission_max» scale «two_sided» (now (triangles .entry)) 13 (n - 1) (given first) ⌝ }
@@ -296,7 +335,13 @@ fn union_rest(first: LightBounds, emission_max: f32, scale: f32, two_sided: bool
     let mut result = first;
     let mut k: usize = 1;
     while k < n {
-        match grown(result, emission_max, scale, two_sided, triangle_at(triangles, 13 * k)) {
+        match grown(
+            result,
+            emission_max,
+            scale,
+            two_sided,
+            triangle_at(triangles, 13 * k),
+        ) {
             Bounded::Bounds(record) => {
                 result = record;
             }
@@ -319,7 +364,14 @@ fn group_bounds(emission_max: f32, scale: f32, two_sided: bool, triangles: &[u32
                 return Bounded::Refused(Refusal::NoArea);
             }
             match triangle_record(emission_max, scale, two_sided, triangle_at(triangles, 0)) {
-                Bounded::Bounds(first) => union_rest(first, emission_max, scale, two_sided, triangles, n),
+                Bounded::Bounds(first) => union_rest(
+                    first,
+                    emission_max,
+                    scale,
+                    two_sided,
+                    triangles,
+                    n,
+                ),
                 Bounded::Refused(why) => Bounded::Refused(why),
             }
         }

@@ -1,11 +1,15 @@
 -- `lamps::block::block_record` meets its contract. Assumes nothing.
 use borrow.Author.Needs.{needs}
+use Prim.Native.Nat.{_+_, _*_}
+use mathlib.Core.Path.{sym}
+use denote.Ref.{now}
+use native.Mathlib.Omega.{arith}
+use Rattle.light_bounds.specs.RecordLaws.{recordAt-past}
 use Rattle.lamps.proofs.block.block_record.Statement.{statement}
 use Rattle.lamps.proofs.block.block_record.Tie as tie
-use Rattle.light_bounds.proofs.record_words.read_record.Reads as read-record-reads
 
 returns : tie.Need-returns
-returns c = ?
+returns c = sym (recordAt-past (now (c .before .before .args .block)) (2 + 14 * c .before .before .args .place) (omega arith))
 
 mul-read-record : tie.Need-mul-read-record
 mul-read-record c = search needs

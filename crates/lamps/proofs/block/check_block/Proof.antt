@@ -1,9 +1,12 @@
 -- `lamps::block::check_block` meets its contract. Assumes nothing.
 use borrow.Author.Needs.{needs}
+use borrow.Author.Tests.{lt-ltb, le-ltb, eq-eqb, ne-eqb}
+use denote.Ref.{now}
+use native.Mathlib.Omega.{arith}
+use lib.ListN.{length, getD}
+use Rattle.lamps.specs.Block.{blockCheck, blockWords}
 use Rattle.lamps.proofs.block.check_block.Statement.{statement}
 use Rattle.lamps.proofs.block.check_block.Tie as tie
-use Rattle.lamps.proofs.block.check_records.Reads as check-records-reads
-use Rattle.words.proofs.places.word_or_zero.Reads as word-or-zero-reads
 
 word-or-zero-requires : tie.Need-word-or-zero-requires
 word-or-zero-requires c κs = search needs
@@ -12,10 +15,12 @@ cast-m : tie.Need-cast-m
 cast-m c = search needs
 
 returns : tie.Need-returns
-returns c = ?
+unfolding blockCheck
+returns c = rw (lt-ltb 4096 (getD (now (c .before .before .before .args .block)) 0 0) (omega (arith, c .before .word-or-zero .ensures)))
 
 returns-2 : tie.Need-returns-2
-returns-2 c = ?
+unfolding blockCheck
+returns-2 c = rw (le-ltb 4096 (getD (now (c .before .before .before .before .args .block)) 0 0) (omega (arith, c .before .before .word-or-zero .ensures)), lt-ltb 0x10_0000 (length (now (c .before .before .before .before .args .block))) (c .if2 .taken))
 
 mul-if3 : tie.Need-mul-if3
 mul-if3 c = search needs
@@ -27,10 +32,14 @@ check-records-requires : tie.Need-check-records-requires
 check-records-requires c κs = search needs
 
 returns-3 : tie.Need-returns-3
-returns-3 c = ?
+unfolding blockCheck
+returns-3 c =
+    rw (le-ltb 4096 (getD (now (c .before .before .before .before .before .before .args .block)) 0 0) (omega (arith, c .before .before .before .before .word-or-zero .ensures)), le-ltb 0x10_0000 (length (now (c .before .before .before .before .before .before .args .block))) (c .before .before .if2 .left), eq-eqb (length (now (c .before .before .before .before .before .before .args .block))) (blockWords (getD (now (c .before .before .before .before .before .before .args .block)) 0 0)) (omega (arith, c .before .before .before .before .word-or-zero .ensures, c .before .if3 .taken)), ← c .before .before .before .before .word-or-zero .ensures) (c .check-records .ensures)
 
 returns-4 : tie.Need-returns-4
-returns-4 c = ?
+unfolding blockCheck
+returns-4 c =
+    rw (le-ltb 4096 (getD (now (c .before .before .before .before .before .args .block)) 0 0) (omega (arith, c .before .before .before .word-or-zero .ensures)), le-ltb 0x10_0000 (length (now (c .before .before .before .before .before .args .block))) (c .before .if2 .left), ne-eqb (length (now (c .before .before .before .before .before .args .block))) (blockWords (getD (now (c .before .before .before .before .before .args .block)) 0 0)) (λ e. c .if3 .left (omega (arith, e, c .before .before .before .word-or-zero .ensures))))
 
 pub check-block-spec : {M : Type 1} → statement M
 check-block-spec =

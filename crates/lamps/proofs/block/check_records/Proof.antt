@@ -61,20 +61,19 @@ loop-less : tie.Need-loop-less Inv-loop μ-loop
 loop-less c = omega arith
 
 loop-again : tie.Need-loop-again Inv-loop μ-loop
-loop-again c = 
-    (
-      omega arith,
-      rw (below-next (sideAt (now (c .before .before .before .before .before .before .before .before .args .block))) (c .before .before .before .before .before .before .loop .i), c .before .before .before .before .before .before .loop .inv .1, ← c .before .before .before .is-side .ensures) (c .before .before .if1 .taken),
-      rw (c .still-placed .ensures, c .before .before .before .before .before .before .loop .inv .2, below-next (handleAt (now (c .before .before .before .before .before .before .before .before .args .block))) (c .before .before .before .before .before .before .loop .i)),
-    )
+loop-again c = (
+  omega arith,
+  rw (below-next (sideAt (now (c .before .before .before .before .before .before .before .before .args .block))) (c .before .before .before .before .before .before .loop .i), c .before .before .before .before .before .before .loop .inv .1, ← c .before .before .before .is-side .ensures) (c .before .before .if1 .taken),
+  rw (c .still-placed .ensures, c .before .before .before .before .before .before .loop .inv .2, below-next (handleAt (now (c .before .before .before .before .before .before .before .before .args .block))) (c .before .before .before .before .before .before .loop .i)),
+)
 
 returns-2 : tie.Need-returns-2 Inv-loop μ-loop
-returns-2 c = 
+returns-2 c =
     let e : c .before .before .loop .i ≡ c .before .before .before .before .args .m = omega arith in
     rw (subst (λ (k : ℕ). below (sideAt (now (c .before .before .before .before .args .block))) k ≡ true) e (c .before .before .loop .inv .1), subst (λ (k : ℕ). below (handleAt (now (c .before .before .before .before .args .block))) k ≡ true) e (sym (c .before .before .loop .inv .2) ∙ c .if2 .taken))
 
 returns-3 : tie.Need-returns-3 Inv-loop μ-loop
-returns-3 c = 
+returns-3 c =
     let e : c .before .before .loop .i ≡ c .before .before .before .before .args .m = omega arith in
     rw (subst (λ (k : ℕ). below (sideAt (now (c .before .before .before .before .args .block))) k ≡ true) e (c .before .before .loop .inv .1), subst (λ (k : ℕ). below (handleAt (now (c .before .before .before .before .args .block))) k ≡ false) e (sym (c .before .before .loop .inv .2) ∙ c .if2 .left))
 

@@ -1,9 +1,20 @@
 -- `lamps::build::build_light_bounds` meets its contract. Assumes nothing.
 use borrow.Author.Needs.{needs}
+use Prim.Native.Nat.{_≤_}
+use mathlib.Core.Path.{refl, ap, sym, _∙_}
+use denote.Ref.{now}
+use native.Mathlib.Omega.{arith}
+use lib.ListN.{length, getD}
+use Rattle.words.specs.AnswerLaws.{only-number, count-refused}
+use Rattle.words.specs.Answers.{count}
+use Rattle.words.specs.Refusals.{number}
+use Rattle.words.specs.Tray.{tray}
+use Rattle.words.specs.TrayLaws.{tray-early}
+use Rattle.lamps.specs.Block.{counted, blockWords, packExhaustiveBounds}
+use Rattle.lamps.specs.BuildLaws.{early-list, build-unread, build-short, build-walked, build-tray, list-counted}
+use Rattle.lamps.specs.LampList.{lampList}
 use Rattle.lamps.proofs.build.build_light_bounds.Statement.{statement}
 use Rattle.lamps.proofs.build.build_light_bounds.Tie as tie
-use Rattle.lamps.proofs.build.check_list.Reads as check-list-reads
-use Rattle.lamps.proofs.build.write_block.Reads as write-block-reads
 
 check-list-requires : tie.Need-check-list-requires
 check-list-requires c κs = search needs
@@ -12,16 +23,19 @@ enum-known-m : tie.Need-enum-known-m
 enum-known-m c = search needs
 
 mul-if1 : tie.Need-mul-if1
-mul-if1 c = ?
+mul-if1 c = let (rs, read, n, is, limit) = list-counted (now (c .before .before .before .before .before .before .args .list)) (c .before .m .given .0 .0) (sym (c .before .before .before .check-list .ensures) ∙ ap counted (c .before .m .given .1)) in omega (arith, limit)
 
 add-if1 : tie.Need-add-if1
-add-if1 c = ?
+add-if1 c = let (rs, read, n, is, limit) = list-counted (now (c .before .before .before .before .before .before .args .list)) (c .before .m .given .0 .0) (sym (c .before .before .before .check-list .ensures) ∙ ap counted (c .before .m .given .1)) in omega (arith, limit)
 
 returns : tie.Need-returns
-returns c = ?
+unfolding tray
+returns c =
+    let (rs, read, n, is, limit) = list-counted (now (c .before .before .before .before .before .before .before .args .list)) (c .before .before .m .given .0 .0) (sym (c .before .before .before .before .check-list .ensures) ∙ ap counted (c .before .before .m .given .1)) in
+    rw (build-short (now (c .before .before .before .before .before .before .before .args .list)) (length (now (c .before .before .before .before .before .before .before .args .block))) rs read (omega (arith, n, c .if1 .taken))) (refl, refl)
 
 write-block-requires : tie.Need-write-block-requires
-write-block-requires c κs = ?
+write-block-requires c κs = let (rs, read, n, is, limit) = list-counted (now (c .before .before .before .before .before .before .before .before .args .list)) (c .before .before .before .m .given .0 .0) (sym (c .before .before .before .before .before .check-list .ensures) ∙ ap counted (c .before .before .before .m .given .1)) in (omega arith, limit)
 
 enum-known-why : tie.Need-enum-known-why
 enum-known-why c = search needs
@@ -30,10 +44,19 @@ same-length : tie.Need-same-length
 same-length c = search needs
 
 returns-2 : tie.Need-returns-2
-returns-2 c = ?
+returns-2 c =
+    let (rs, read, n, is, limit) = list-counted (now (c .before .before .before .before .before .before .before .before .before .before .before .args .list)) (c .before .before .before .before .before .before .m .given .0 .0) (sym (c .before .before .before .before .before .before .before .before .check-list .ensures) ∙ ap counted (c .before .before .before .before .before .before .m .given .1)) in
+    let m = c .before .before .before .before .before .before .m .given .0 .0 in
+    let room : blockWords m ≤ length (now (c .before .before .before .before .before .before .before .before .before .before .before .args .block)) = omega arith in (
+      c .before .before .write-block .ensures .0 ∙ ap count (sym (build-walked (now (c .before .before .before .before .before .before .before .before .before .before .before .args .list)) (length (now (c .before .before .before .before .before .before .before .before .before .before .before .args .block))) rs read m n room)),
+      c .before .before .write-block .ensures .1 ∙ build-tray (now (c .before .before .before .before .before .before .before .before .before .before .before .args .list)) (length (now (c .before .before .before .before .before .before .before .before .before .before .before .args .block))) rs read m n room (now (c .before .before .before .before .before .before .before .before .before .before .before .args .block)),
+    )
 
 returns-3 : tie.Need-returns-3
-returns-3 c = ?
+returns-3 c =
+    let unread = count-refused (lampList (now (c .before .before .before .before .before .before .args .list))) (number (c .before .why .given .0 .0)) (sym (c .before .before .before .check-list .ensures) ∙ ap counted (c .before .why .given .1)) in
+    rw (build-unread (now (c .before .before .before .before .before .before .args .list)) (length (now (c .before .before .before .before .before .before .args .block))) (number (c .before .why .given .0 .0)) unread)
+    (refl, sym (tray-early packExhaustiveBounds (blockWords (getD (now (c .before .before .before .before .before .before .args .list)) 0 0)) (now (c .before .before .before .before .before .before .args .block)) (number (c .before .why .given .0 .0)) (only-number (early-list (now (c .before .before .before .before .before .before .args .list))) unread)))
 
 pub build-light-bounds-spec : {M : Type 1} → statement M
 build-light-bounds-spec =

@@ -56,18 +56,17 @@ loop-less : tie.Need-loop-less Inv-loop μ-loop
 loop-less c = omega arith
 
 loop-again : tie.Need-loop-again Inv-loop μ-loop
-loop-again c = 
+loop-again c =
     let done = c .before .before .before .before .before .before .before .before .loop .inv .0 in
     let r = c .before .before .before .before .reading .given .0 .0 in
-    let z : 0 + length done ≡ c .before .before .before .before .before .before .before .before .loop .i = omega (arith, c .before .before .before .before .before .before .before .before .loop .inv .1 .size) in
-    (
+    let z : 0 + length done ≡ c .before .before .before .before .before .before .before .before .loop .i = omega (arith, c .before .before .before .before .before .before .before .before .loop .inv .1 .size) in (
       done ++ r ∷ [],
       walked-one (lampAt (now (c .before .before .before .before .before .before .before .before .before .before .args .list))) (λ (r : Reading). r) (λ (r : Reading). r .next .at) (λ (end : ℕ). cond (eqb end (length (now (c .before .before .before .before .before .before .before .before .before .before .args .list)))) (given []) (refused 1)) r (c .before .before .before .before .before .before .before .before .loop .inv .1) (omega arith) (sym (c .before .before .before .before .before .before .next .ensures) ∙ ap step (c .before .before .before .before .reading .given .1)),
       c .still-placed .ensures ∙ rw (c .before .before .before .before .before .before .before .before .loop .inv .2, c .before .handle-of .ensures, inPlace-snoc 0 done r, z),
     )
 
 returns-2 : tie.Need-returns-2 Inv-loop μ-loop
-returns-2 c = 
+returns-2 c =
     rw (placed-all (now (c .before .before .before .before .before .args .list)) (c .before .before .before .loop .inv .1) (omega arith) (eq-eqb _ _ (c .before .if1 .taken)), ← c .before .before .before .loop .inv .2, c .if2 .taken) (ap given (omega (arith, c .before .before .before .loop .inv .1 .size, c .before .before .before .loop .inv .1 .within)))
 
 returns-3 : tie.Need-returns-3 Inv-loop μ-loop

@@ -1,9 +1,13 @@
 -- `lamps::build::check_list` meets its contract. Assumes nothing.
 use borrow.Author.Needs.{needs}
+use borrow.Author.Tests.{lt-ltb, le-ltb}
+use denote.Ref.{now}
+use native.Mathlib.Omega.{arith}
+use lib.ListN.{length, getD}
+use Rattle.lamps.specs.LampList.{lampList}
+use Rattle.lamps.specs.Walk.{placedLamps}
 use Rattle.lamps.proofs.build.check_list.Statement.{statement}
 use Rattle.lamps.proofs.build.check_list.Tie as tie
-use Rattle.lamps.proofs.build.check_lamps.Reads as check-lamps-reads
-use Rattle.words.proofs.places.word_or_zero.Reads as word-or-zero-reads
 
 word-or-zero-requires : tie.Need-word-or-zero-requires
 word-or-zero-requires c κs = search needs
@@ -12,16 +16,20 @@ cast-m : tie.Need-cast-m
 cast-m c = search needs
 
 returns : tie.Need-returns
-returns c = ?
+unfolding lampList placedLamps
+returns c = rw (lt-ltb 4096 (getD (now (c .before .before .before .args .list)) 0 0) (omega (arith, c .before .word-or-zero .ensures)))
 
 returns-2 : tie.Need-returns-2
-returns-2 c = ?
+unfolding lampList placedLamps
+returns-2 c = rw (le-ltb 4096 (getD (now (c .before .before .before .before .args .list)) 0 0) (omega (arith, c .before .before .word-or-zero .ensures)), lt-ltb 0x10_0000 (length (now (c .before .before .before .before .args .list))) (c .if2 .taken))
 
 check-lamps-requires : tie.Need-check-lamps-requires
 check-lamps-requires c κs = search needs
 
 returns-3 : tie.Need-returns-3
-returns-3 c = ?
+unfolding lampList placedLamps
+returns-3 c =
+    rw (le-ltb 4096 (getD (now (c .before .before .before .before .before .args .list)) 0 0) (omega (arith, c .before .before .before .word-or-zero .ensures)), le-ltb 0x10_0000 (length (now (c .before .before .before .before .before .args .list))) (c .before .if2 .left), ← c .before .before .before .word-or-zero .ensures) (c .check-lamps .ensures)
 
 pub check-list-spec : {M : Type 1} → statement M
 check-list-spec =

@@ -1,10 +1,9 @@
 -- `lamps::build::next_bounds` meets its contract. Assumes nothing.
 use borrow.Author.Needs.{needs}
+use Rattle.words.specs.Answers.{_then_}
+use Rattle.lamps.specs.Walk.{nextBounds}
 use Rattle.lamps.proofs.build.next_bounds.Statement.{statement}
 use Rattle.lamps.proofs.build.next_bounds.Tie as tie
-use Rattle.lamps.proofs.cursor.Cursor.next.Reads as next-reads
-use Rattle.lamps.proofs.cursor.Reading.triangles.Reads as triangles-reads
-use Rattle.lamps.proofs.lamp_bounds.light_bounds_for_input.Reads as light-bounds-for-input-reads
 
 next-requires : tie.Need-next-requires
 next-requires c κs = search needs
@@ -28,13 +27,17 @@ enum-known-why-2 : tie.Need-enum-known-why-2
 enum-known-why-2 c = search needs
 
 returns : tie.Need-returns
-returns c = ?
+unfolding nextBounds _then_
+returns c =
+    rw (← c .before .before .before .before .before .before .before .before .before .next .ensures, c .before .before .before .before .before .before .before .reading .given .1, ← c .before .before .before .before .triangles .ensures, ← c .before .before .before .light-bounds-for-input .ensures, c .before .«record» .given .1)
 
 returns-2 : tie.Need-returns-2
-returns-2 c = ?
+unfolding nextBounds _then_
+returns-2 c = rw (← c .before .before .before .before .before .before .before .before .before .next .ensures, c .before .before .before .before .before .before .before .reading .given .1, ← c .before .before .before .before .triangles .ensures, ← c .before .before .before .light-bounds-for-input .ensures, c .before .why .given .1)
 
 returns-3 : tie.Need-returns-3
-returns-3 c = ?
+unfolding nextBounds _then_
+returns-3 c = rw (← c .before .before .before .next .ensures, c .before .why2 .given .1)
 
 pub next-bounds-spec : {M : Type 1} → statement M
 next-bounds-spec =

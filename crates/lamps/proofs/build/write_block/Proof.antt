@@ -1,4 +1,5 @@
--- `lamps::build::write_block` meets its contract. Assumes nothing.
+-- `lamps::build::write_block` meets its contract. The loop's invariant: the bounds of the lamps before `i` are taken, and written behind the count.
+-- Assumes nothing.
 use Prim.Native.Nat.{_-_}
 use mathlib.Core.List.{List}
 use Rattle.lamps.specs.BlockLaws.{Packed}
@@ -15,6 +16,12 @@ use Rattle.words.specs.Answers.{given}
 use Rattle.lamps.specs.BlockLaws.{packed-none}
 use Rattle.lamps.specs.WalkLaws.{walked-none}
 use Rattle.lamps.specs.Walk.{Passed, nextBounds}
+use lib.ListN.{length}
+use mathlib.Core.List.{append-nil}
+use Rattle.lamps.specs.BlockLaws.{packed-one, packed-counted, zeroed}
+use Rattle.lamps.specs.WalkLaws.{walked-one, walked-refused, walked-all}
+use Rattle.lamps.specs.Walk.{atCursor, lateTray}
+use Rattle.lamps.specs.BlockLaws.{zeroed-length}
 use Rattle.lamps.proofs.build.write_block.Statement.{statement}
 use Rattle.lamps.proofs.build.write_block.Tie as tie
 
@@ -76,10 +83,13 @@ zero-words-requires : tie.Need-zero-words-requires Inv-loop μ-loop
 zero-words-requires c κs = search needs
 
 same-length : tie.Need-same-length Inv-loop μ-loop
-same-length c = ?
+same-length c = ap length (c .before .before .zero-words .ensures ∙ zeroed (packed-counted (now (c .before .before .before .before .before .before .before .before .before .before .before .before .args .block)) (c .before .before .before .before .before .before .before .before .before .loop .inv .2)) (omega (arith, c .before .before .before .before .before .before .before .before .before .before .before .before .pre .0, c .before .before .before .before .before .before .before .before .before .before .before .before .pre .1, c .before .before .before .before .before .before .before .before .before .loop .inv .1 .size, c .before .before .before .before .before .before .before .before .before .loop .inv .1 .within, length-set (now (c .before .before .before .before .before .before .before .before .before .before .before .before .args .block)) 0 (c .before .before .before .before .before .before .before .before .before .before .before .before .args .m))) (c .before .before .before .before .before .before .before .before .before .before .before .before .pre .0)) ∙ zeroed-length (c .before .before .before .before .before .before .before .before .before .before .before .before .args .m) (now (c .before .before .before .before .before .before .before .before .before .before .before .before .args .block)) (c .before .before .before .before .before .before .before .before .before .before .before .before .pre .0)
 
 returns : tie.Need-returns Inv-loop μ-loop
-returns c = ?
+unfolding lateTray
+returns c =
+    rw (walked-refused (nextBounds (now (c .before .before .before .before .before .before .before .before .before .before .before .before .args .list))) (λ (p : Passed). p .bounds) (λ (p : Passed). p .past) (λ (end : ℕ). given []) (c .before .before .before .before .before .before .before .before .before .loop .inv .1) (omega arith) (sym (c .before .before .before .before .before .before .before .next-bounds .ensures) ∙ ap atCursor (c .before .before .before .before .before .why .given .1)))
+    (refl, c .before .before .zero-words .ensures ∙ zeroed (packed-counted (now (c .before .before .before .before .before .before .before .before .before .before .before .before .args .block)) (c .before .before .before .before .before .before .before .before .before .loop .inv .2)) (omega (arith, c .before .before .before .before .before .before .before .before .before .before .before .before .pre .0, c .before .before .before .before .before .before .before .before .before .before .before .before .pre .1, c .before .before .before .before .before .before .before .before .before .loop .inv .1 .size, c .before .before .before .before .before .before .before .before .before .loop .inv .1 .within, length-set (now (c .before .before .before .before .before .before .before .before .before .before .before .before .args .block)) 0 (c .before .before .before .before .before .before .before .before .before .before .before .before .args .m))) (c .before .before .before .before .before .before .before .before .before .before .before .before .pre .0))
 
 add-i : tie.Need-add-i Inv-loop μ-loop
 add-i c = omega (arith, c .before .before .before .before .before .before .before .before .before .before .before .before .pre .0, c .before .before .before .before .before .before .before .before .before .before .before .before .pre .1, c .before .before .before .before .before .before .before .before .before .loop .inv .2 .same, length-set (now (c .before .before .before .before .before .before .before .before .before .before .before .before .args .block)) 0 (c .before .before .before .before .before .before .before .before .before .before .before .before .args .m))
@@ -88,13 +98,21 @@ loop-less : tie.Need-loop-less Inv-loop μ-loop
 loop-less c = omega arith
 
 loop-again : tie.Need-loop-again Inv-loop μ-loop
-loop-again c = ?
+loop-again c =
+    let b = c .before .before .before .before .before .«record» .given .0 .0 in (
+      c .before .before .before .before .before .before .before .before .before .loop .inv .0 ++ b ∷ [],
+      walked-one (nextBounds (now (c .before .before .before .before .before .before .before .before .before .before .before .before .args .list))) (λ (p : Passed). p .bounds) (λ (p : Passed). p .past) (λ (end : ℕ). given []) (record { bounds = b; past = c .before .before .before .before .before .«record» .given .0 .1 .0 .at }) (c .before .before .before .before .before .before .before .before .before .loop .inv .1) (omega arith) (sym (c .before .before .before .before .before .before .before .next-bounds .ensures) ∙ ap atCursor (c .before .before .before .before .before .«record» .given .1)),
+      rw (c .before .before .write-record .ensures) (packed-one (c .before .before .before .before .before .before .before .before .before .loop .i) b (c .before .before .before .before .before .before .before .before .before .loop .inv .2) (c .before .before .before .before .before .before .before .before .before .loop .inv .1 .size) (omega (arith, c .before .before .before .before .before .before .before .before .before .before .before .before .pre .0, c .before .before .before .before .before .before .before .before .before .before .before .before .pre .1, c .before .before .before .before .before .before .before .before .before .loop .inv .1 .size, c .before .before .before .before .before .before .before .before .before .loop .inv .1 .within, length-set (now (c .before .before .before .before .before .before .before .before .before .before .before .before .args .block)) 0 (c .before .before .before .before .before .before .before .before .before .before .before .before .args .m)))),
+    )
 
 same-length-2 : tie.Need-same-length-2 Inv-loop μ-loop
-same-length-2 c = ?
+same-length-2 c = c .before .loop .inv .2 .same ∙ length-set (now (c .before .before .before .before .args .block)) 0 (c .before .before .before .before .args .m)
 
 returns-2 : tie.Need-returns-2 Inv-loop μ-loop
-returns-2 c = ?
+unfolding lateTray
+returns-2 c =
+    let n : length (c .before .loop .inv .0) ≡ c .before .before .before .before .args .m = omega (arith, c .before .loop .inv .1 .size, c .before .loop .inv .1 .within) in
+    rw (walked-all (nextBounds (now (c .before .before .before .before .args .list))) (λ (p : Passed). p .bounds) (λ (p : Passed). p .past) (λ (end : ℕ). given []) (c .before .loop .inv .1) (omega arith), append-nil (c .before .loop .inv .0)) (ap given (sym n), (packed-counted (now (c .before .before .before .before .args .block)) (c .before .loop .inv .2)) .is ∙ rw n)
 
 pub write-block-spec : {M : Type 1} → statement M
 write-block-spec =

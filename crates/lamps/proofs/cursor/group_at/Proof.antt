@@ -85,15 +85,15 @@ add-t26 : tie.Need-add-t26
 add-t26 c = search needs
 
 returns-3 : tie.Need-returns-3
-returns-3 c = 
+returns-3 c =
     rw (le-leb (c .before .before .before .before .before .before .before .before .before .before .before .before .before .before .args .at + 5) (length (now (c .before .before .before .before .before .before .before .before .before .before .before .before .before .before .args .list))) (omega arith), ← c .before .before .before .before .before .before .before .before .before .is-side .ensures, c .before .before .before .before .before .before .before .before .if3 .taken, le-leb (groupEnd (now (c .before .before .before .before .before .before .before .before .before .before .before .before .before .before .args .list)) (c .before .before .before .before .before .before .before .before .before .before .before .before .before .before .args .at)) (length (now (c .before .before .before .before .before .before .before .before .before .before .before .before .before .before .args .list))) (omega (arith, c .before .before .before .before .before .before .wide .ensures, c .before .before .before .before .before .if4 .taken)), ← c .before .before .f32-of-word .ensures, ← c .f32-of-word2 .ensures, c .before .before .before .before .before .before .wide .ensures)
 
 returns-4 : tie.Need-returns-4
-returns-4 c = 
+returns-4 c =
     rw (le-leb (c .before .before .before .before .before .before .before .before .before .args .at + 5) (length (now (c .before .before .before .before .before .before .before .before .before .args .list))) (omega arith), ← c .before .before .before .before .is-side .ensures, c .before .before .before .if3 .taken, lt-leb (groupEnd (now (c .before .before .before .before .before .before .before .before .before .args .list)) (c .before .before .before .before .before .before .before .before .before .args .at)) (length (now (c .before .before .before .before .before .before .before .before .before .args .list))) (omega (arith, c .before .wide .ensures, c .if4 .left)))
 
 returns-5 : tie.Need-returns-5
-returns-5 c = 
+returns-5 c =
     rw (le-leb (c .before .before .before .before .before .before .args .at + 5) (length (now (c .before .before .before .before .before .before .args .list))) (omega arith), ← c .before .is-side .ensures, c .if3 .left)
 
 pub group-at-spec : {M : Type 1} → statement M

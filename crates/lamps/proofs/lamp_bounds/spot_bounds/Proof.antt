@@ -25,7 +25,7 @@ spot-record-requires c κs = search needs
 
 returns : tie.Need-returns
 unfolding spotBounds _then_
-returns c = 
+returns c =
     rw (← c .before .before .before .before .before .before .before .before .validate-emission .ensures, c .before .before .before .before .before .before .enum-told .given .1, ← c .before .before .before .before .before .is-cosine .ensures, c .before .before .before .before .if1 .taken, ← c .before .before .before .is-cosine2 .ensures, c .before .before .if2 .taken, ← c .before .point-phi .ensures) (c .spot-record .ensures)
 
 enum-known-why : tie.Need-enum-known-why

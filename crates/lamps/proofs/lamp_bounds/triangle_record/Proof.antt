@@ -29,7 +29,7 @@ faced-record-requires c κs = search needs
 
 returns-2 : tie.Need-returns-2
 unfolding triangleRecord _then_
-returns-2 c = 
+returns-2 c =
     rw (← c .before .before .before .before .before .before .before .before .before .triangle-bounds .ensures, ← c .before .before .before .before .before .before .before .before .check .ensures, c .before .before .before .before .before .before .enum-told .given .1, ← c .before .before .before .before .before .is-finite .ensures, c .before .before .before .before .if1 .taken, c .before .before .if2 .left, ← c .before .group-phi .ensures) (c .faced-record .ensures)
 
 enum-known-why : tie.Need-enum-known-why

@@ -36,7 +36,7 @@ enum-known-why c = search needs
 
 returns : tie.Need-returns Inv-loop μ-loop
 unfolding _then_
-returns c = 
+returns c =
     rw (c .before .before .before .before .before .before .loop .inv .2, unionFrom-next (c .before .before .before .before .before .before .before .before .args .emission-max) (c .before .before .before .before .before .before .before .before .args .scale) (c .before .before .before .before .before .before .before .before .args .two-sided) (now (c .before .before .before .before .before .before .before .before .args .triangles)) (13 * c .before .before .before .before .before .before .loop .k) (c .before .before .before .before .before .before .before .before .args .n - c .before .before .before .before .before .before .loop .k) (c .before .before .before .before .before .before .loop .result) (omega arith), ← c .before .before .before .before .triangle-at .ensures, ← c .before .before .before .grown .ensures, c .before .why .given .1)
 
 add-k : tie.Need-add-k Inv-loop μ-loop
@@ -47,7 +47,7 @@ loop-less c = omega arith
 
 loop-again : tie.Need-loop-again Inv-loop μ-loop
 unfolding _then_
-loop-again c = 
+loop-again c =
     let e : 13 * c .before .before .before .before .before .before .loop .k + 13 ≡ 13 * (c .before .before .before .before .before .before .loop .k + 1) = omega arith in
     let e′ : c .before .before .before .before .before .before .before .before .args .n - c .before .before .before .before .before .before .loop .k - 1 ≡ c .before .before .before .before .before .before .before .before .args .n - (c .before .before .before .before .before .before .loop .k + 1) = omega arith in
     (omega arith, omega arith, rw (c .before .before .before .before .before .before .loop .inv .2, unionFrom-next (c .before .before .before .before .before .before .before .before .args .emission-max) (c .before .before .before .before .before .before .before .before .args .scale) (c .before .before .before .before .before .before .before .before .args .two-sided) (now (c .before .before .before .before .before .before .before .before .args .triangles)) (13 * c .before .before .before .before .before .before .loop .k) (c .before .before .before .before .before .before .before .before .args .n - c .before .before .before .before .before .before .loop .k) (c .before .before .before .before .before .before .loop .result) (omega arith), ← c .before .before .before .before .triangle-at .ensures, ← c .before .before .before .grown .ensures, c .before .«record» .given .1, e, e′))
