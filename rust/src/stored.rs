@@ -60,11 +60,21 @@ impl Stored {
         words.into_iter().flat_map(u32::to_le_bytes).collect()
     }
 
-    pub fn read(bytes: &[u8]) -> Vec<Stored> {
-        let words: Vec<u32> = bytes.as_chunks().0.iter().map(|word| u32::from_le_bytes(*word)).collect();
-        let cases = words.chunks_exact(WORDS);
-        assert!(cases.remainder().is_empty() && bytes.len() % 4 == 0, "a part case");
-        let of = |words: &[u32]| padded(words);
-        cases.map(|w| Stored { kind: w[0], a: of(&w[1..14]), b: of(&w[14..27]), number: w[27], result: of(&w[28..]) }).collect()
+    pub fn read(path: &str) -> Vec<Stored> {
+        let of = |w: &[u32]| Stored {
+            kind: w[0],
+            a: padded(&w[1..14]),
+            b: padded(&w[14..27]),
+            number: w[27],
+            result: padded(&w[28..]),
+        };
+        words_of_file(path, WORDS).chunks_exact(WORDS).map(of).collect()
     }
+}
+
+/// The words of a file of cases of so many words.
+pub fn words_of_file(path: &str, case: usize) -> Vec<u32> {
+    let bytes = std::fs::read(path).unwrap_or_else(|error| panic!("{path}: {error}"));
+    assert!(bytes.len() % (4 * case) == 0, "{path}: a part case");
+    bytes.as_chunks().0.iter().map(|word| u32::from_le_bytes(*word)).collect()
 }

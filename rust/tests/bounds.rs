@@ -47,7 +47,7 @@ fn marked_angles() {
 /// The oracle's stored answers, with no need of the reference.
 #[test]
 fn stored_answers() {
-    let stored = Stored::read(&std::fs::read(PATH).unwrap());
+    let stored = Stored::read(PATH);
     let differ: Vec<&Stored> = stored.iter().filter(|stored| stored.proved() != **stored).collect();
     println!("{} stored answers, {} differ", stored.len(), differ.len());
     assert!(stored.len() > 2000 && differ.is_empty(), "{:x?}", &differ[..differ.len().min(4)]);
