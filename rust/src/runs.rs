@@ -285,9 +285,7 @@ const WEIGHTS: &[&str] = &[
     "room: bins short",
     "room: work short",
     "order: 3 before a weight out of range",
-    "bins: q is 1 and an alias",
     "bins: q is -0",
-    "bins: q below 0",
     OWN,
 ];
 
@@ -327,9 +325,7 @@ pub fn alias_tables(seed: u64, cases: u64) -> Tally {
             short && bins_room < 3 * m,
             short && work_room < 4 * m && bins_room >= 3 * m,
             short && weights.iter().any(|weight| !(value(*weight).is_finite() && value(*weight) >= 0.0)),
-            table.iter().any(|[q, _, alias]| value(*q) == 1.0 && *alias != u32::MAX),
             table.iter().any(|[q, _, _]| *q == 1 << 31),
-            table.iter().any(|[q, _, _]| value(*q) < 0.0),
             own_answer != expected || own != whole,
         ];
         tally.case(&expected, branches, &more, got == expected && lent == whole, || {
