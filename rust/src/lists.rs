@@ -199,11 +199,15 @@ impl Random {
         match kind {
             Kind::Point => self.point(false),
             Kind::Spot => self.spot(false),
-            Kind::Group => [head(Kind::Group), 1f32.to_bits(), 1f32.to_bits(), self.below(2) as u32, 2]
-                .into_iter()
-                .chain((0..2).flat_map(|_| self.triangle(false)))
-                .collect(),
+            Kind::Group => self.usual_group(2),
         }
+    }
+
+    pub fn usual_group(&mut self, count: u32) -> Vec<u32> {
+        let one = 1f32.to_bits();
+        let mut group = vec![head(Kind::Group), one, one, self.below(2) as u32, count];
+        (0..count).for_each(|_| group.extend(self.triangle(false)));
+        group
     }
 
     /// One figure made unfit: a power, a place, a direction, a cosine, an area, or all triangles taken away.

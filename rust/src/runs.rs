@@ -209,7 +209,6 @@ const LISTS: &[&str] = &[
     "order: 3 before what a lamp is refused for",
     "block: an infinite power",
     "block: no power",
-    "block: NaN",
     "block: a triangle with a NaN coordinate",
     OWN,
 ];
@@ -260,7 +259,6 @@ pub fn lists(seed: u64, cases: u64) -> Tally {
             expected == Err(3) && reference::build_light_bounds(&list, &mut vec![0; reserve]).is_err(),
             figure(10, 0x7f80_0000),
             figure(10, 0),
-            given && whole.slice()[..reserve].iter().any(is_nan),
             given && nan_corner(),
             reference::native_build_light_bounds(&list, own.slice()) != expected || own != whole,
         ];
