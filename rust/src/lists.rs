@@ -213,14 +213,16 @@ impl Random {
     /// One figure made unfit: a power, a place, a direction, a cosine, an area, or all triangles taken away.
     fn unfit(&mut self, lamp: &mut Vec<u32>) {
         let kind = KINDS[(lamp[0] >> 30) as usize - 1];
-        let triangle = 5 + TRIANGLE * self.below((lamp.len() / TRIANGLE).max(1) as u64) as usize;
+        let triangles = (lamp.len() / TRIANGLE) as u64;
+        let triangle = 5 + TRIANGLE * self.below(triangles) as usize;
         let (position, direction, power) = match kind {
             Kind::Point => (1, 1, 4),
             Kind::Spot => (1, 4, 7),
             Kind::Group => (triangle, triangle + 10, 1),
         };
         let not_finite = self.of(&UNFIT);
-        match self.below(5) {
+        let what = if kind == Kind::Group && triangles == 0 { 0 } else { self.below(5) };
+        match what {
             0 => lamp[power + self.below(2) as usize] = self.of(&[not_finite, (-1f32).to_bits(), (-SMALLEST).to_bits()]),
             1 => {
                 let axis = self.below(3) as usize;
@@ -266,9 +268,9 @@ impl Random {
         if count > 0 && self.chance(2) {
             let place = self.below(count) as usize;
             lamps[place] = self.lamp(true);
-            if self.chance(2) {
-                self.unfit(&mut lamps[place]);
-            }
+            // two figures or three, so that the order of the checks shows
+            let times = self.of(&[0, 0, 0, 1, 2, 3]);
+            (0..times).for_each(|_| self.unfit(&mut lamps[place]));
         }
         lamps
     }

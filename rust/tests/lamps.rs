@@ -97,6 +97,37 @@ fn limits() {
     refused(&list, 71, 2);
 }
 
+/// What a lamp is refused for first, where there is more than one reason; and the first lamp before the second.
+#[test]
+fn order_of_checks() {
+    let nan = f32::NAN.to_bits();
+    let spot = [vec![2 << 30], words(&[1.0, 2.0, 3.0, 0.0, 0.0, 1.0, 1.0, 1.0, 0.9, 0.8])].concat();
+    let panel = group(1.0, &[triangle(1.0), triangle(1.0)]);
+    let with = |lamp: &[u32], changes: &[(usize, u32)]| {
+        let mut lamp = lamp.to_vec();
+        changes.iter().for_each(|(at, word)| lamp[*at] = *word);
+        lamp
+    };
+    let lamp_refused = |lamp: &[u32], changes: &[(usize, u32)], number| refused(&list_of([with(lamp, changes)]), 16, number);
+    let (corners, area, normal) = ([(5, nan), (8, nan), (11, nan)], (14, 0), (17, 0));
+    let overflow = [(1, 3e38f32.to_bits()), (2, 3e38f32.to_bits())];
+    lamp_refused(&spot, &[(7, nan), (1, nan)], 8);
+    lamp_refused(&spot, &[(9, nan), (1, nan)], 8);
+    lamp_refused(&spot, &[(1, nan), (6, 0)], 5);
+    lamp_refused(&spot, &[(6, 0), (7, overflow[0].1)], 7);
+    lamp_refused(&spot, &[(7, overflow[0].1)], 5);
+    lamp_refused(&panel, &[&[(1, nan)], &corners[..]].concat(), 8);
+    lamp_refused(&panel, &[&[area, normal], &corners[..]].concat(), 5);
+    lamp_refused(&panel, &[area, normal], 9);
+    lamp_refused(&panel, &[&[normal], &overflow[..]].concat(), 7);
+    lamp_refused(&panel, &overflow, 5);
+    // the second triangle's box is 5, but for the first one's normal
+    let second = corners.map(|(at, word)| (at + 13, word));
+    lamp_refused(&panel, &second, 5);
+    lamp_refused(&panel, &[&[normal], &second[..]].concat(), 7);
+    refused(&list_of([with(&spot, &[(6, 0)]), with(&spot, &[(7, nan)])]), 30, 7);
+}
+
 /// Powers that overflow, in a lamp (5) and in a union (10), and powers that vanish.
 #[test]
 fn powers() {
