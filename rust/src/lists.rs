@@ -86,6 +86,11 @@ pub struct Case {
 
 const CORNER_PHI: f32 = 1e38; // times PI it is 7f6c58e0: two give infinity, and a third then finds it
 
+/// A count of triangles whose words, cut to 32 bits, are so many.
+pub fn wrapping_count(words: u32) -> u32 {
+    words.wrapping_mul(0xc4ec_4ec5) // 1 / 13 there
+}
+
 fn head(kind: Kind) -> u32 {
     (kind as u32) << 30
 }
@@ -279,7 +284,7 @@ impl Random {
     fn ragged(&mut self, list: &mut Vec<u32>, lamps: &[Vec<u32>]) {
         let starts: Vec<usize> = lamps.iter().scan(1, |at, lamp| Some(std::mem::replace(at, *at + lamp.len()))).collect();
         let bit = 1 << self.below(32);
-        let groups: Vec<usize> = starts.iter().copied().filter(|at| list[*at] >> 30 == 3).collect();
+        let groups: Vec<usize> = (0..starts.len()).filter(|place| list[starts[*place]] >> 30 == 3).collect();
         match self.below(10) {
             0 if !starts.is_empty() => list[self.of(&starts)] ^= bit,
             1 if !starts.is_empty() => {
@@ -291,14 +296,16 @@ impl Random {
                 let handle = self.of(&[list[at] + 1, starts.len() as u32, any]);
                 list[at] = list[at] & 0xc000_0000 | handle & 0x3fff_ffff;
             }
-            3 if !groups.is_empty() => list[self.of(&groups) + 3] = self.of(&[2, 3, bit, u32::MAX]),
+            3 if !groups.is_empty() => list[starts[self.of(&groups)] + 3] = self.of(&[2, 3, bit, u32::MAX]),
             4 if !groups.is_empty() => {
-                let at = self.of(&groups);
+                let place = self.of(&groups);
+                let at = starts[place];
                 let [count, rest] = [list[at + 4], (list.len() - at - 5) as u32];
-                // the last but one: 13 times it, cut to 32 bits, is what is left of the list
-                let wrapped = rest.wrapping_mul(0xc4ec_4ec5);
-                list[at + 4] =
-                    self.of(&[count + 1, count.wrapping_sub(1), count ^ bit, u32::MAX, u32::MAX / 13, wrapped, rest / 13]);
+                list[at + 4] = self.of(&[count + 1, count.wrapping_sub(1), count ^ bit, u32::MAX, u32::MAX / 13, rest / 13]);
+                if self.chance(3) {
+                    list[0] = place as u32 + 1;
+                    list[at + 4] = wrapping_count(rest);
+                }
             }
             5 => {
                 let count = list[0];

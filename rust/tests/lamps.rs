@@ -3,7 +3,7 @@
 
 use coltoctober::blocks;
 use coltoctober::cases::Random;
-use coltoctober::lists::{list_of, read, Kind, BLOCK_RECORD, KINDS, MOST_LAMPS, MOST_WORDS};
+use coltoctober::lists::{list_of, read, wrapping_count, Kind, BLOCK_RECORD, KINDS, MOST_LAMPS, MOST_WORDS};
 use coltoctober::proved::{lamps_build_light_bounds, lamps_check_block};
 use coltoctober::stored_lamps::{Stored, PATH, PATTERN};
 use std::io::Write;
@@ -67,6 +67,10 @@ fn lengths() {
     refused(&with(&[(1, 0)]), room, 1);
     refused(&with(&[(group + 3, 2)]), room, 1);
     [3, 80660, u32::MAX / 13, u32::MAX].into_iter().for_each(|count| refused(&with(&[(group + 4, count)]), room, 1));
+    let mut wrapping = list_of([random.usual_group(2), random.usual_lamp(Kind::Point)]);
+    (wrapping[0], wrapping[5]) = (1, wrapping_count(wrapping.len() as u32 - 6));
+    assert!(wrapping[5] > 1 << 20);
+    refused(&wrapping, room, 1);
     refused(&with(&[(0, 4096)]), room, 1);
     refused(&with(&[(0, 4097), (1, 0)]), 0, 2);
     refused(&[4097], 0, 2);
