@@ -1,6 +1,7 @@
 //! The Rust side: the proved functions behind safe names, document 01's library functions written again in Rust,
 //! and what holds the two against each other and against Rust's own.
 
+pub mod absent;
 pub mod blocks;
 pub mod cases;
 pub mod functions;

@@ -6,6 +6,7 @@ use crate::lists::{self, Kind, BLOCK_RECORD, KINDS, MOST_LAMPS, MOST_WORDS};
 use crate::proved;
 use crate::records::Record;
 use crate::reference::{self, marked, Branch, Branches, BRANCHES, REFUSALS};
+use std::time::Instant;
 
 /// How the cases of a run ended: given or refused, and the branches on the way.
 #[derive(Default)]
@@ -68,6 +69,21 @@ impl std::fmt::Display for Tally {
         }
         self.shown.iter().try_for_each(|shown| writeln!(out, "    {shown}"))
     }
+}
+
+/// COUNT and SEED, 1 where it is not given, of a program run by hand.
+pub fn count_and_seed(usage: &str) -> (u64, u64) {
+    let numbers: Vec<u64> = std::env::args().skip(1).map(|number| number.parse().expect("COUNT and SEED are numbers")).collect();
+    (*numbers.first().expect(usage), numbers.get(1).copied().unwrap_or(1))
+}
+
+/// Prints the tally of a run and its time, and answers how many cases differ.
+pub fn by_hand(name: &str, run: fn(u64, u64) -> Tally, (count, seed): (u64, u64)) -> u64 {
+    let began = Instant::now();
+    let tally = run(seed, count);
+    print!("{name}, seed {seed}: {tally}");
+    println!("    {:.1} s", began.elapsed().as_secs_f64());
+    tally.differences
 }
 
 pub fn validates(seed: u64, cases: u64) -> Tally {
@@ -234,9 +250,8 @@ pub fn lists(seed: u64, cases: u64) -> Tally {
         let reserve = 1 + BLOCK_RECORD * count.min(MOST_LAMPS);
         let of = |kind: Kind| lamps.as_ref().is_ok_and(|lamps| lamps.iter().any(|lamp| lamp.kind == kind));
         let given = expected.is_ok();
-        let figure = |at: usize, word: u32| {
-            given && whole.clone().slice()[1..reserve].chunks_exact(BLOCK_RECORD).any(|record| record[at] & 0x7fff_ffff == word)
-        };
+        let records = if given { whole.slice()[1..reserve].to_vec() } else { vec![] };
+        let figure = |at: usize, word: u32| records.chunks_exact(BLOCK_RECORD).any(|record| record[at] & 0x7fff_ffff == word);
         let is_nan = |word: &u32| f32::from_bits(*word).is_nan();
         let nan_corner = || {
             let groups = lamps.iter().flatten().filter(|lamp| lamp.kind == Kind::Group);

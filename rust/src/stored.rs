@@ -78,3 +78,18 @@ pub fn words_of_file(path: &str, case: usize) -> Vec<u32> {
     assert!(bytes.len() % (4 * case) == 0, "{path}: a part case");
     bytes.as_chunks().0.iter().map(|word| u32::from_le_bytes(*word)).collect()
 }
+
+/// Cases as they come, each once, until so many of each number are there; 0 is the number of an answer given.
+pub fn filled<S: PartialEq>(quotas: &[(u32, usize)], mut next: impl FnMut() -> Option<(u32, S)>) -> Vec<S> {
+    let mut left = quotas.to_vec();
+    let mut stored = Vec::new();
+    while left.iter().any(|(_, left)| *left > 0) {
+        let Some((number, case)) = next() else { continue };
+        let Some((_, left)) = left.iter_mut().find(|(n, left)| *n == number && *left > 0) else { continue };
+        if !stored.contains(&case) {
+            *left -= 1;
+            stored.push(case);
+        }
+    }
+    stored
+}

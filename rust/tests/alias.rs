@@ -70,10 +70,7 @@ fn lengths() {
 #[cfg(not(reference))]
 #[test]
 fn reference_is_absent() {
-    use std::io::Write;
-    // not by a macro, whose lines a passing test keeps back
-    let said = "The reference, ../shared/docs, is absent: only its stored answers were held against the proved alias tables.";
-    writeln!(std::io::stderr(), "{said}").unwrap();
+    coltoctober::absent::say("only its stored answers were held against the proved alias tables");
 }
 
 #[cfg(reference)]

@@ -264,9 +264,7 @@ fn unreadable_text() {
 #[cfg(not(reference))]
 #[test]
 fn reference_is_absent() {
-    // not by a macro, whose lines a passing test keeps back
-    let said = "The reference, ../shared/docs, is absent: only its stored answers were held against the proved lamp lists.";
-    writeln!(std::io::stderr(), "{said}").unwrap();
+    coltoctober::absent::say("only its stored answers were held against the proved lamp lists");
 }
 
 #[cfg(reference)]

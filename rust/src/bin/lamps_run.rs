@@ -2,25 +2,19 @@
 
 #[cfg(not(reference))]
 fn main() {
-    eprintln!("The reference, ../shared/docs, is absent: there is no oracle to run against.");
-    std::process::exit(1);
+    coltoctober::absent::stop("there is no oracle to run against");
 }
 
 #[cfg(reference)]
 fn main() {
-    use std::time::Instant;
+    use coltoctober::runs::{by_hand, count_and_seed, lists};
 
-    let numbers: Vec<u64> = std::env::args().skip(1).map(|number| number.parse().expect("COUNT and SEED are numbers")).collect();
-    let count = *numbers.first().expect("usage: lamps_run COUNT [SEED]");
-    let seed = numbers.get(1).copied().unwrap_or(1);
-    let began = Instant::now();
-    let tally = coltoctober::runs::lists(seed, count);
-    print!("lists, seed {seed}: {tally}");
-    println!("    {:.1} s", began.elapsed().as_secs_f64());
+    let (count, seed) = count_and_seed("usage: lamps_run COUNT [SEED]");
+    let differences = by_hand("lists", lists, (count, seed));
     let counts = coltoctober::blocks::run(seed, count);
     println!(
         "blocks, seed {seed}: {count}, none differs; good: {}, 1: {}, 2: {}, 4: {}",
         counts[0], counts[1], counts[2], counts[4]
     );
-    std::process::exit((tally.differences > 0).into());
+    std::process::exit((differences > 0).into());
 }
