@@ -75,7 +75,7 @@ impl Stored {
 /// The words of a file of cases of so many words.
 pub fn words_of_file(path: &str, case: usize) -> Vec<u32> {
     let bytes = std::fs::read(path).unwrap_or_else(|error| panic!("{path}: {error}"));
-    assert!(bytes.len() % (4 * case) == 0, "{path}: a part case");
+    assert!(bytes.len().is_multiple_of(4 * case), "{path}: a part case");
     bytes.as_chunks().0.iter().map(|word| u32::from_le_bytes(*word)).collect()
 }
 
@@ -92,4 +92,11 @@ pub fn filled<S: PartialEq>(quotas: &[(u32, usize)], mut next: impl FnMut() -> O
         }
     }
     stored
+}
+
+/// Ends the test where a stored answer is not the proved function's, or where they are not so many.
+pub fn check<S: PartialEq + std::fmt::Debug>(stored: &[S], count: usize, proved: fn(&S) -> S) {
+    let differ: Vec<&S> = stored.iter().filter(|stored| proved(stored) != **stored).collect();
+    println!("{} stored answers, {} differ", stored.len(), differ.len());
+    assert!(stored.len() == count && differ.is_empty(), "{:x?}", &differ[..differ.len().min(4)]);
 }

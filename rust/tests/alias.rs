@@ -2,6 +2,7 @@
 
 use coltoctober::lists::MOST_LAMPS;
 use coltoctober::proved::alias_build_power_alias_table;
+use coltoctober::stored::check;
 use coltoctober::stored_alias::{Stored, PATH};
 use coltoctober::stored_lamps::PATTERN;
 
@@ -34,10 +35,7 @@ fn bins(weights: &[f32]) -> Vec<[u32; 3]> {
 /// The oracle's stored answers, with no need of the reference.
 #[test]
 fn stored_answers() {
-    let stored = Stored::read(PATH);
-    let differ: Vec<&Stored> = stored.iter().filter(|stored| stored.proved() != **stored).collect();
-    println!("{} stored answers, {} differ", stored.len(), differ.len());
-    assert!(stored.len() == 2000 && differ.is_empty(), "{:x?}", &differ[..differ.len().min(4)]);
+    check(&Stored::read(PATH), 2000, Stored::proved);
 }
 
 /// Document 01's case and the corners of sums: no power, a weight -0, a sum past the largest f32.

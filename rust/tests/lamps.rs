@@ -5,6 +5,7 @@ use coltoctober::blocks;
 use coltoctober::cases::Random;
 use coltoctober::lists::{list_of, read, wrapping_count, Kind, BLOCK_RECORD, KINDS, MOST_LAMPS, MOST_WORDS};
 use coltoctober::proved::{lamps_build_light_bounds, lamps_check_block};
+use coltoctober::stored::check;
 use coltoctober::stored_lamps::{Stored, PATH, PATTERN};
 use std::io::Write;
 use std::process::{Command, Output, Stdio};
@@ -41,10 +42,7 @@ fn group(emission: f32, triangles: &[Vec<u32>]) -> Vec<u32> {
 /// The oracle's stored answers, with no need of the reference.
 #[test]
 fn stored_answers() {
-    let stored = Stored::read(PATH);
-    let differ: Vec<&Stored> = stored.iter().filter(|stored| stored.proved() != **stored).collect();
-    println!("{} stored answers, {} differ", stored.len(), differ.len());
-    assert!(stored.len() == 2000 && differ.is_empty(), "{:x?}", &differ[..differ.len().min(4)]);
+    check(&Stored::read(PATH), 2000, Stored::proved);
 }
 
 /// Every cut and every room of a list of all kinds, and its order of refusals.

@@ -11,8 +11,10 @@ fn main() {
     use coltoctober::proved;
     use coltoctober::timing::{row, slices, INPUTS, SAMPLES};
 
-    println!("{INPUTS} weights; nanoseconds a weight, medians of {SAMPLES} samples. Proved: the whole call by C on words, bins and work lent.");
-    println!("Rust: build_power_alias_table on floats, its Vecs its own.");
+    println!("{INPUTS} weights; nanoseconds a weight, medians of {SAMPLES} samples.");
+    println!(
+        "Proved: the whole call by C on words, bins and work lent. Rust: build_power_alias_table on floats, its Vecs its own."
+    );
     println!("weights | proved ns | Rust ns | ratio");
     let mut random = Random::new(0);
     let any: Vec<f32> = (0..INPUTS).map(|_| random.within(100.0).abs()).collect();

@@ -13,8 +13,9 @@ fn main() {
     use coltoctober::reference::native_inputs;
     use coltoctober::timing::{row, slices, INPUTS, SAMPLES};
 
-    println!("Lists of {INPUTS} lamps; nanoseconds a lamp, medians of {SAMPLES} samples. Proved: the whole call by C, list words to block words.");
-    println!("Rust: build_light_bounds and pack_exhaustive_bounds with its own library functions, its inputs ready; or read from the words.");
+    println!("Lists of {INPUTS} lamps; nanoseconds a lamp, medians of {SAMPLES} samples.");
+    println!("Proved: the whole call by C, list words to block words.");
+    println!("Rust: build_light_bounds, then pack_exhaustive_bounds, with its own library functions, its inputs ready; or from the words.");
     println!("lamps | proved ns | Rust ns | ratio");
     let mut random = Random::new(0);
     let mut bench = |label: &str, kinds: &[Kind], from_words: bool| {
