@@ -5,7 +5,7 @@ use std::path::{Path, PathBuf};
 #[path = "src/substitution.rs"]
 mod substitution;
 
-use substitution::{Pair, BORROWED, BY_VALUE, LIBRARY, MARKS, METHODS};
+use substitution::*;
 
 const ARCHIVES: &str = "COLTOCTOBER_STATICLIB";
 const REFERENCE: &str = "COLTOCTOBER_REFERENCE";
@@ -55,23 +55,33 @@ fn function<'a>(text: &'a str, head: &str) -> &'a str {
     &text[start..end]
 }
 
-fn prepare(bounds: &str, sampling: &str) {
-    let out = PathBuf::from(std::env::var_os("OUT_DIR").unwrap());
-    let native = substitute(bounds, BORROWED);
-    let oracle = substitute(&substitute(&native, MARKS), LIBRARY);
+/// Writes a reference file's text as it is compiled on either side.
+fn both(name: &str, text: &str, borrowed: &[&[Pair]], oracle: &[&[Pair]]) {
+    let native = borrowed.iter().fold(text.to_string(), |text, pairs| substitute(&text, pairs));
+    let oracle = oracle.iter().fold(native.clone(), |text, pairs| substitute(&text, pairs));
     if let Some(name) = methods(&oracle).find(|name| !METHODS.contains(name)) {
         stop(format!("the oracle calls {name}, which src/substitution.rs does not know"));
     }
-    let angle = substitute(function(sampling, "pub fn angle_between("), BY_VALUE);
-    for (name, text) in [("native.rs", &native), ("oracle.rs", &oracle), ("angle_between.rs", &angle)] {
-        std::fs::write(out.join(name), text).unwrap();
-    }
+    write(&format!("native_{name}.rs"), &native);
+    write(&format!("oracle_{name}.rs"), &oracle);
+}
+
+fn write(name: &str, text: &str) {
+    std::fs::write(PathBuf::from(std::env::var_os("OUT_DIR").unwrap()).join(name), text).unwrap();
+}
+
+fn prepare(bounds: &str, sampler: &str, sampling: &str) {
+    both("light_bounds", bounds, &[BORROWED, LOST], &[MARKS, LIBRARY]);
+    let Some(end) = sampler.find(SAMPLER_END) else { stop(format!("the reference has no {SAMPLER_END:?}")) };
+    both("light_sampler", &sampler[..end], &[SAMPLER_BORROWED], &[SAMPLER_MARKS, SAMPLER_LIBRARY]);
+    write("angle_between.rs", &substitute(function(sampling, "pub fn angle_between("), BY_VALUE));
 }
 
 fn main() {
     let archives = folder(ARCHIVES, "../target/staticlib");
-    link(&archives, "floats_c");
-    link(&archives, "bounds_c");
+    for name in ["floats_c", "bounds_c", "lamps_c", "alias_c"] {
+        link(&archives, name);
+    }
 
     println!("cargo:rustc-check-cfg=cfg(reference)");
     let files = folder(REFERENCE, "../../shared/docs");
@@ -81,9 +91,10 @@ fn main() {
         std::fs::read_to_string(path)
     };
     let bounds = read("src--src--gpu--flat--light_bounds.rs.txt");
+    let sampler = read("src--src--gpu--webgpu--light_sampler.rs.txt");
     let sampling = read("src--src--util--sampling--sampling.rs.txt");
-    if let (Ok(bounds), Ok(sampling)) = (bounds, sampling) {
-        prepare(&bounds, &sampling);
+    if let (Ok(bounds), Ok(sampler), Ok(sampling)) = (bounds, sampler, sampling) {
+        prepare(&bounds, &sampler, &sampling);
         println!("cargo:rustc-cfg=reference");
     }
 }

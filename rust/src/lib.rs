@@ -1,8 +1,12 @@
 //! The Rust side: the proved functions behind safe names, document 01's library functions written again in Rust,
 //! and what holds the two against each other and against Rust's own.
 
+pub mod absent;
+pub mod blocks;
 pub mod cases;
 pub mod functions;
+pub mod lent;
+pub mod lists;
 pub mod proved;
 pub mod records;
 #[cfg(reference)]
@@ -11,5 +15,8 @@ pub mod reference;
 pub mod runs;
 pub mod standins;
 pub mod stored;
+pub mod stored_alias;
+pub mod stored_lamps;
 pub mod timing;
 pub mod trig;
+pub mod weights;

@@ -1,4 +1,4 @@
-//! The proved functions: the one place that declares what `libfloats_c.a` and `libbounds_c.a` export.
+//! The proved functions: the one place that declares what the archives of the crates named `*_c` export.
 
 // SAFETY: nothing checks these lines against the Rattle source. There each function is proved for every input, so those on
 // plain numbers are safe to call; those on slices are wrapped below.
@@ -59,6 +59,20 @@ unsafe extern "C" {
     fn union_(a: *const u32, a_len: usize, b: *const u32, b_len: usize, out: *mut u32, out_len: usize) -> u32;
     #[link_name = "bounds_importance"]
     fn importance(record: *const u32, len: usize, query: *const u32, query_len: usize) -> u64;
+
+    #[link_name = "lamps_build_light_bounds"]
+    fn build_light_bounds(list: *const u32, len: usize, block: *mut u32, block_len: usize) -> u32;
+    #[link_name = "lamps_check_block"]
+    fn check_block(block: *const u32, len: usize) -> u32;
+    #[link_name = "alias_build_power_alias_table"]
+    fn build_power_alias_table(
+        weights: *const u32,
+        len: usize,
+        bins: *mut u32,
+        bins_len: usize,
+        work: *mut u32,
+        work_len: usize,
+    ) -> u32;
 }
 
 /// The word at a place, 0 past the last whole word.
@@ -109,6 +123,24 @@ pub fn bounds_importance(record: &[u32], query: &[u32]) -> Result<u32, u32> {
         0 => Ok(answer as u32),
         _ => Err(answer as u32),
     }
+}
+
+/// The records of a lamp list, written to the front of `block`.
+pub fn lamps_build_light_bounds(list: &[u32], block: &mut [u32]) -> Result<(), u32> {
+    answer(unsafe { build_light_bounds(list.as_ptr(), list.len(), block.as_mut_ptr(), block.len()) })
+}
+
+/// The check of a bounds block's layout.
+pub fn lamps_check_block(block: &[u32]) -> Result<(), u32> {
+    answer(unsafe { check_block(block.as_ptr(), block.len()) })
+}
+
+/// The alias table of weights, three words a bin, written to the front of `bins`.
+pub fn alias_build_power_alias_table(weights: &[u32], bins: &mut [u32], work: &mut [u32]) -> Result<(), u32> {
+    let (bins_len, work_len) = (bins.len(), work.len());
+    answer(unsafe {
+        build_power_alias_table(weights.as_ptr(), weights.len(), bins.as_mut_ptr(), bins_len, work.as_mut_ptr(), work_len)
+    })
 }
 
 /// A refusal's number, 0 for none.

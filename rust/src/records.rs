@@ -7,13 +7,15 @@ pub type Record = [u32; 13];
 /// Point 3, normal 3.
 pub type Query = [u32; 6];
 
-type Vector = [f32; 3];
+pub(crate) type Vector = [f32; 3];
 
-const SMALLEST: f32 = f32::from_bits(1);
+pub(crate) const SMALLEST: f32 = f32::from_bits(1);
 const BELOW_1: f32 = f32::from_bits(0x3f7f_ffff);
-const ABOVE_1: f32 = f32::from_bits(0x3f80_0001);
+pub(crate) const ABOVE_1: f32 = f32::from_bits(0x3f80_0001);
+/// Three NaN patterns, then the infinities.
+pub(crate) const UNFIT: [u32; 5] = [0x7fc0_0000, 0xffc0_0001, 0x7f80_0001, 0x7f80_0000, 0xff80_0000];
 
-fn bits(v: Vector) -> [u32; 3] {
+pub(crate) fn bits(v: Vector) -> [u32; 3] {
     v.map(f32::to_bits)
 }
 
@@ -22,11 +24,11 @@ fn scaled(v: Vector, k: f32) -> Vector {
 }
 
 impl Random {
-    fn chance(&mut self, one_in: u64) -> bool {
+    pub(crate) fn chance(&mut self, one_in: u64) -> bool {
         self.below(one_in) == 0
     }
 
-    fn of<T: Copy>(&mut self, choices: &[T]) -> T {
+    pub(crate) fn of<T: Copy>(&mut self, choices: &[T]) -> T {
         choices[self.below(choices.len() as u64) as usize]
     }
 
@@ -35,12 +37,12 @@ impl Random {
         (self.bits() as i64 as f64 / 2f64.powi(63)) as f32 * size
     }
 
-    fn vector(&mut self, size: f32) -> Vector {
+    pub(crate) fn vector(&mut self, size: f32) -> Vector {
         [(); 3].map(|()| self.within(size))
     }
 
     /// One of few places, so that boxes and points often meet; or any within some size.
-    fn coordinate(&mut self) -> f32 {
+    pub(crate) fn coordinate(&mut self) -> f32 {
         let size = self.of(&[1.0, 10.0, 1000.0]);
         match self.below(12) {
             0..=3 => self.of(&[0.0, 1.0, 2.0, -1.0, -0.0, 0.5]),
@@ -63,7 +65,7 @@ impl Random {
         ([0, 1, 2].map(|i| ends(i).0), [0, 1, 2].map(|i| ends(i).1))
     }
 
-    fn unit(&mut self) -> Vector {
+    pub(crate) fn unit(&mut self) -> Vector {
         let v = self.vector(1.0);
         let length = v.iter().map(|x| x * x).sum::<f32>().sqrt();
         if length > 0.0 {
@@ -74,7 +76,7 @@ impl Random {
     }
 
     /// Mostly of length 1; else 40, small, so small that its square is 0 or nearly, or so large that it is not finite.
-    fn direction(&mut self) -> Vector {
+    pub(crate) fn direction(&mut self) -> Vector {
         let axes = [[1.0, 0.0, 0.0], [0.0, 1.0, 0.0], [0.0, 0.0, 1.0], [0.0, 0.0, -1.0], [-1.0, 0.0, -0.0]];
         let v = if self.chance(3) { self.of(&axes) } else { self.unit() };
         if self.chance(6) {
@@ -84,14 +86,14 @@ impl Random {
         }
     }
 
-    fn cosine(&mut self) -> f32 {
+    pub(crate) fn cosine(&mut self) -> f32 {
         match self.below(3) {
             0 => self.of(&[-1.0, -0.0, 0.0, 1.0, 0.5, -0.5, BELOW_1, -BELOW_1, SMALLEST]),
             _ => self.within(1.0),
         }
     }
 
-    fn phi(&mut self) -> f32 {
+    pub(crate) fn phi(&mut self) -> f32 {
         match self.below(6) {
             0 => self.of(&[0.0, -0.0, SMALLEST, 1e-40, f32::MIN_POSITIVE, 1e30, f32::MAX]),
             1 => 1.0,
@@ -113,10 +115,9 @@ impl Random {
     /// One word or more made unfit: any place not finite, ends of a box exchanged, no direction, a power or a cosine out of range,
     /// an unknown side, or any bits.
     fn damage(&mut self, record: &mut Record) {
-        let unfit = [f32::NAN.to_bits(), 0xffc0_0001, 0x7f80_0001, f32::INFINITY.to_bits(), f32::NEG_INFINITY.to_bits()];
         let axis = self.below(3) as usize;
         match self.below(8) {
-            0 | 1 => record[self.below(12) as usize] = self.of(&unfit),
+            0 | 1 => record[self.below(12) as usize] = self.of(&UNFIT),
             2 => {
                 record[axis] = (f32::from_bits(record[axis + 3]) + self.of(&[1.0, 1e10])).to_bits();
             }

@@ -1,6 +1,8 @@
-//! The reference, `light_bounds.rs` of pbrt-r4, compiled from ../../shared/docs twice: as the oracle, with document 01's library
-//! functions put in (substitution.rs), and as it is, with Rust's own. Around the oracle: records as words, errors as numbers.
+//! The reference, `light_bounds.rs` and `light_sampler.rs` of pbrt-r4, compiled from ../../shared/docs twice: as the oracle, with
+//! document 01's library functions put in (substitution.rs), and as it is, with Rust's own. Around the oracle: records, lists and
+//! weights as words, errors as numbers, lent slices.
 
+use crate::lists::{self, Kind, Lamp, BLOCK_RECORD};
 use crate::records::{Query, Record};
 use crate::{standins, trig};
 use std::cell::Cell;
@@ -15,7 +17,7 @@ impl PbrtError {
     }
 }
 
-/// Document 01's number for each error that validate and importance can give.
+/// Document 01's number for each error that the functions here can give.
 pub const REFUSALS: &[(&str, u32)] = &[
     ("Light bounds contain a non-finite coordinate.", 5),
     ("Light bounds have min greater than max.", 6),
@@ -24,7 +26,25 @@ pub const REFUSALS: &[(&str, u32)] = &[
     ("Light bounds contain an invalid range.", 8),
     ("Importance input contains a non-finite value.", 5),
     ("Light direction must be finite and non-zero.", 7),
+    (MISPLACED, 4),
+    ("Light emission or scale is invalid.", 8),
+    ("Spot light cone is invalid.", 8),
+    ("Area light triangle has zero area.", 9),
+    ("Area light geometric normal must be finite and non-zero.", 7),
+    ("Area light group has no triangles.", 9),
+    (LOST, LOST_UNION),
+    ("Power light weights must be finite and non-negative.", 8),
 ];
+
+/// The one error that comes before a short slice.
+const MISPLACED: &str = "Light handles must match the global LightRecord order.";
+
+/// The message that substitution.rs gives to any error of a union within a group.
+const LOST: &str = "a union's operand fails its check";
+
+fn lost(_: PbrtError) -> PbrtError {
+    PbrtError(LOST)
+}
 
 /// "a union's operand fails its check": any error of a union.
 pub const LOST_UNION: u32 = 10;
@@ -32,8 +52,15 @@ pub const LOST_UNION: u32 = 10;
 /// "side unknown": document 01's own, since Rust's side is a bool. It comes before Rust's order.
 pub const RAGGED: u32 = 1;
 
+/// "over 4,096 lamps by word 0, weights"; "a lent output or work slice is under its reserve": document 01's own.
+pub const CROWDED: u32 = 2;
+pub const SHORT_TRAY: u32 = 3;
+
+/// The error's number; its message is marked.
 fn number(error: PbrtError) -> u32 {
-    REFUSALS.iter().find(|(message, _)| *message == error.0).map(|(_, n)| *n).unwrap_or_else(|| panic!("unknown error {error:?}"))
+    let row = REFUSALS.iter().position(|(message, _)| *message == error.0).unwrap_or_else(|| panic!("unknown error {error:?}"));
+    TAKEN.set(TAKEN.get() | 1 << (BRANCHES.len() + row));
+    REFUSALS[row].1
 }
 
 macro_rules! branches {
@@ -63,21 +90,31 @@ branches! {
     Weighed "importance: a cosine to hold against the cone"
     Dark "importance: 0 outside the cone"
     Normal "importance: a normal"
+    SharpSpot "spot: the cosine of its fall 1 though its cosines differ, 0.999"
+    AllOnes "alias: a sum of 0, all weights 1"
+    ExcessUnder "alias: an excess below 1"
+    ExcessOver "alias: an excess of 1 or more"
+    LeftUnder "alias: a bin under 1 left over"
 }
 
-thread_local!(static TAKEN: Cell<u32> = const { Cell::new(0) });
+thread_local!(static TAKEN: Cell<u64> = const { Cell::new(0) });
 
 fn mark(branch: Branch) {
     TAKEN.set(TAKEN.get() | 1 << branch as u32);
 }
 
-/// The branches taken in a case, as a set.
+/// The branches taken in a case and the errors that became its numbers, as a set.
 #[derive(Clone, Copy, Debug, PartialEq)]
-pub struct Branches(u32);
+pub struct Branches(u64);
 
 impl Branches {
     pub fn has(self, branch: Branch) -> bool {
         self.0 >> branch as u32 & 1 == 1
+    }
+
+    /// Every branch and every row of `REFUSALS` in turn.
+    pub fn all(self) -> impl Iterator<Item = bool> {
+        (0..BRANCHES.len() + REFUSALS.len()).map(move |i| self.0 >> i & 1 == 1)
     }
 }
 
@@ -98,6 +135,7 @@ trait Standin {
     fn standin_cos(self) -> f32;
     fn standin_acos(self) -> f32;
     fn standin_sin_cos(self) -> (f32, f32);
+    fn standin_word(self) -> u32;
 }
 
 impl Standin for f32 {
@@ -124,6 +162,9 @@ impl Standin for f32 {
     }
     fn standin_sin_cos(self) -> (f32, f32) {
         (trig::sin(self), trig::cos(self))
+    }
+    fn standin_word(self) -> u32 {
+        standins::word(self)
     }
 }
 
@@ -180,18 +221,22 @@ macro_rules! borrowed {
 /// The reference over document 01's library functions.
 #[allow(dead_code)]
 pub mod oracle {
-    use super::{mark, Branch, PbrtError, Standin};
+    use super::{lost, mark, Branch, PbrtError, Standin};
     borrowed!(crate::standins::sqrt, crate::trig::asin);
 
     pub mod light_bounds {
-        include!(concat!(env!("OUT_DIR"), "/oracle.rs"));
+        include!(concat!(env!("OUT_DIR"), "/oracle_light_bounds.rs"));
+    }
+
+    pub mod light_sampler {
+        include!(concat!(env!("OUT_DIR"), "/oracle_light_sampler.rs"));
     }
 }
 
 /// The reference over Rust's own.
 #[allow(dead_code)]
 pub mod native {
-    use super::PbrtError;
+    use super::{lost, PbrtError};
 
     fn asin(x: f32) -> f32 {
         x.asin()
@@ -202,7 +247,11 @@ pub mod native {
     borrowed!(super::sqrt, super::asin);
 
     pub mod light_bounds {
-        include!(concat!(env!("OUT_DIR"), "/native.rs"));
+        include!(concat!(env!("OUT_DIR"), "/native_light_bounds.rs"));
+    }
+
+    pub mod light_sampler {
+        include!(concat!(env!("OUT_DIR"), "/native_light_sampler.rs"));
     }
 }
 
@@ -258,3 +307,93 @@ fn words_of(figures: [[f32; 3]; 4], two_sided: bool) -> Record {
 
 on_words!(oracle, validate, union, importance, oracle_of_words);
 on_words!(native, native_validate, native_union, native_importance, native_of_words);
+
+/// Document 01's rule for a lent slice after the checks that leave it alone: its reserve holds what is given, or zeros where
+/// that is refused; the words past it stay.
+fn lend(slice: &mut [u32], given: Result<&[u32], usize>) {
+    match given {
+        Ok(words) => slice[..words.len()].copy_from_slice(words),
+        Err(reserve) => slice[..reserve].fill(0),
+    }
+}
+
+/// Lists and weights as words on one side, and that side's answers with what it writes to the slices lent.
+macro_rules! on_lists {
+    ($side:ident, $inputs:ident, $build:ident, $alias:ident) => {
+        /// The lamps of a list as the reference takes them.
+        pub fn $inputs(lamps: &[Lamp]) -> Vec<$side::light_bounds::LightBoundInput> {
+            use $side::light_bounds::{AreaTriangleInput, LightBoundInput};
+            let lamp = |&Lamp { kind, handle, words }: &Lamp| match kind {
+                Kind::Point => LightBoundInput::Point {
+                    handle,
+                    world_position: three(words),
+                    intensity_max: f32::from_bits(words[3]),
+                    scale: f32::from_bits(words[4]),
+                },
+                Kind::Spot => LightBoundInput::Spot {
+                    handle,
+                    world_position: three(words),
+                    direction: three(&words[3..]),
+                    intensity_max: f32::from_bits(words[6]),
+                    scale: f32::from_bits(words[7]),
+                    cos_theta_o: f32::from_bits(words[8]),
+                    cos_falloff_end: f32::from_bits(words[9]),
+                },
+                Kind::Group => LightBoundInput::AreaGroup {
+                    handle,
+                    triangles: lists::triangles(words)
+                        .map(|words| AreaTriangleInput {
+                            world_positions: [0, 3, 6].map(|at| three(&words[at..])),
+                            area: f32::from_bits(words[9]),
+                            geometric_normal: three(&words[10..]),
+                        })
+                        .collect(),
+                    emission_max: f32::from_bits(words[0]),
+                    scale: f32::from_bits(words[1]),
+                    two_sided: words[2] == 1,
+                },
+            };
+            lamps.iter().map(lamp).collect()
+        }
+
+        /// The list's lamps as records, written to the lent block.
+        pub fn $build(list: &[u32], block: &mut [u32]) -> Result<(), u32> {
+            let lamps = lists::read(list)?;
+            let reserve = 1 + BLOCK_RECORD * lamps.len();
+            let built = $side::light_bounds::build_light_bounds(&$inputs(&lamps));
+            let misplaced = built.as_ref().is_err_and(|error| error.0 == MISPLACED);
+            if !misplaced && block.len() < reserve {
+                return Err(SHORT_TRAY);
+            }
+            let packed = built.and_then(|bounds| $side::light_sampler::pack_exhaustive_bounds(&bounds));
+            let words = packed.map_err(number);
+            if !misplaced {
+                lend(block, words.as_deref().map_err(|_| reserve));
+            }
+            words.map(|_| ())
+        }
+
+        /// The weights' alias table, written to the lent bins; the lent work is left zero.
+        pub fn $alias(weights: &[u32], bins: &mut [u32], work: &mut [u32]) -> Result<(), u32> {
+            let m = weights.len();
+            if m > lists::MOST_LAMPS {
+                return Err(CROWDED);
+            }
+            if bins.len() < 3 * m || work.len() < 4 * m {
+                return Err(SHORT_TRAY);
+            }
+            let weights: Vec<f32> = weights.iter().map(|weight| f32::from_bits(*weight)).collect();
+            let table = $side::light_sampler::build_power_alias_table(&weights).map_err(number);
+            let words = |table: Vec<$side::light_sampler::PowerAliasBin>| -> Vec<u32> {
+                table.iter().flat_map(|bin| [standins::word(bin.q), standins::word(bin.p), bin.alias]).collect()
+            };
+            let words = table.map(words);
+            lend(bins, words.as_deref().map_err(|_| 3 * m));
+            lend(work, Err(4 * m));
+            words.map(|_| ())
+        }
+    };
+}
+
+on_lists!(oracle, inputs, build_light_bounds, build_power_alias_table);
+on_lists!(native, native_inputs, native_build_light_bounds, native_build_power_alias_table);

@@ -60,11 +60,43 @@ impl Stored {
         words.into_iter().flat_map(u32::to_le_bytes).collect()
     }
 
-    pub fn read(bytes: &[u8]) -> Vec<Stored> {
-        let words: Vec<u32> = bytes.as_chunks().0.iter().map(|word| u32::from_le_bytes(*word)).collect();
-        let cases = words.chunks_exact(WORDS);
-        assert!(cases.remainder().is_empty() && bytes.len() % 4 == 0, "a part case");
-        let of = |words: &[u32]| padded(words);
-        cases.map(|w| Stored { kind: w[0], a: of(&w[1..14]), b: of(&w[14..27]), number: w[27], result: of(&w[28..]) }).collect()
+    pub fn read(path: &str) -> Vec<Stored> {
+        let of = |w: &[u32]| Stored {
+            kind: w[0],
+            a: padded(&w[1..14]),
+            b: padded(&w[14..27]),
+            number: w[27],
+            result: padded(&w[28..]),
+        };
+        words_of_file(path, WORDS).chunks_exact(WORDS).map(of).collect()
     }
+}
+
+/// The words of a file of cases of so many words.
+pub fn words_of_file(path: &str, case: usize) -> Vec<u32> {
+    let bytes = std::fs::read(path).unwrap_or_else(|error| panic!("{path}: {error}"));
+    assert!(bytes.len().is_multiple_of(4 * case), "{path}: a part case");
+    bytes.as_chunks().0.iter().map(|word| u32::from_le_bytes(*word)).collect()
+}
+
+/// Cases as they come, each once, until so many of each number are there; 0 is the number of an answer given.
+pub fn filled<S: PartialEq>(quotas: &[(u32, usize)], mut next: impl FnMut() -> Option<(u32, S)>) -> Vec<S> {
+    let mut left = quotas.to_vec();
+    let mut stored = Vec::new();
+    while left.iter().any(|(_, left)| *left > 0) {
+        let Some((number, case)) = next() else { continue };
+        let Some((_, left)) = left.iter_mut().find(|(n, left)| *n == number && *left > 0) else { continue };
+        if !stored.contains(&case) {
+            *left -= 1;
+            stored.push(case);
+        }
+    }
+    stored
+}
+
+/// Ends the test where a stored answer is not the proved function's, or where they are not so many.
+pub fn check<S: PartialEq + std::fmt::Debug>(stored: &[S], count: usize, proved: fn(&S) -> S) {
+    let differ: Vec<&S> = stored.iter().filter(|stored| proved(stored) != **stored).collect();
+    println!("{} stored answers, {} differ", stored.len(), differ.len());
+    assert!(stored.len() == count && differ.is_empty(), "{:x?}", &differ[..differ.len().min(4)]);
 }

@@ -10,6 +10,17 @@ pub const BORROWED: &[Pair] = &[
     ("use crate::util::vecmath::angle_between;", "use super::borrowed::angle_between;"),
 ];
 
+/// The same of light_sampler.rs, whose text is cut before `resolve_light_sampler`: from there on it chooses a kind of sampler.
+pub const SAMPLER_BORROWED: &[Pair] = &[
+    ("use crate::gpu::flat;", "use super::light_bounds as flat;"),
+    ("use crate::util::error::PbrtError;", "use super::PbrtError;"),
+];
+
+pub const SAMPLER_END: &str = "pub fn resolve_light_sampler(";
+
+/// An error of a union within a group, told apart from the record's own check.
+pub const LOST: &[Pair] = &[("existing.union(current)?", "existing.union(current).map_err(super::lost)?")];
+
 /// The oracle only: document 01's library functions in place of Rust's own.
 pub const LIBRARY: &[Pair] = &[
     ("use std::collections::HashSet;", "use std::collections::HashSet;\nuse super::Standin;"),
@@ -22,6 +33,15 @@ pub const LIBRARY: &[Pair] = &[
     (".acos()", ".standin_acos()"),
     (".sin_cos()", ".standin_sin_cos()"),
     (".sum::<f32>()", ".fold(0.0f32, |sum, term| sum + term)"),
+];
+
+/// The same in the sampler: sums from left to right, and words as they are stored.
+pub const SAMPLER_LIBRARY: &[Pair] = &[
+    ("use super::PbrtError;", "use super::PbrtError;\nuse super::Standin;"),
+    ("f32::to_bits", "crate::standins::word"),
+    (".to_bits()", ".standin_word()"),
+    (".sum::<f32>()", ".fold(0.0f32, |sum, term| sum + term)"),
+    (".sum::<f64>()", ".fold(0.0f64, |sum, term| sum + term)"),
 ];
 
 /// The oracle only: marks of the branches taken. They change no figure.
@@ -47,6 +67,17 @@ pub const MARKS: &[Pair] = &[
     ),
     ("if dot(n, n) != 0.0 {", "if dot(n, n) != 0.0 { super::mark(super::Branch::Normal);"),
     ("    if cos_a > cos_b {\n        1.0", "    if cos_a > cos_b { super::mark(super::Branch::Clamped);\n        1.0"),
+    ("cos_theta_e = 0.999;", "cos_theta_e = 0.999; super::mark(super::Branch::SharpSpot);"),
+];
+
+pub const SAMPLER_MARKS: &[Pair] = &[
+    ("weights.fill(1.0);", "weights.fill(1.0); super::mark(super::Branch::AllOnes);"),
+    ("under.push((excess, over_index));", "under.push((excess, over_index)); super::mark(super::Branch::ExcessUnder);"),
+    ("over.push((excess, over_index));", "over.push((excess, over_index)); super::mark(super::Branch::ExcessOver);"),
+    (
+        "for (_, index) in under.into_iter()",
+        "if !under.is_empty() { super::mark(super::Branch::LeftUnder); } for (_, index) in under.into_iter()",
+    ),
 ];
 
 /// `angle_between` of sampling.rs, by value as document 01 has it.
@@ -64,6 +95,7 @@ pub const METHODS: &[&str] = &[
     "standin_cos",
     "standin_acos",
     "standin_sin_cos",
+    "standin_word",
     "into_iter",
     "iter",
     "chain",
@@ -85,4 +117,14 @@ pub const METHODS: &[&str] = &[
     "union",
     "diagonal",
     "centroid",
+    "push",
+    "pop",
+    "extend",
+    "fill",
+    "to_vec",
+    "is_empty",
+    "unwrap",
+    "and_then",
+    "checked_mul",
+    "checked_add",
 ];

@@ -4,7 +4,7 @@
 use coltoctober::cases::Random;
 use coltoctober::functions::Function;
 use coltoctober::proved;
-use coltoctober::stored::{Stored, PATH};
+use coltoctober::stored::{check, Stored, PATH};
 
 const CASES: u64 = 1_000_000;
 
@@ -47,10 +47,7 @@ fn marked_angles() {
 /// The oracle's stored answers, with no need of the reference.
 #[test]
 fn stored_answers() {
-    let stored = Stored::read(&std::fs::read(PATH).unwrap());
-    let differ: Vec<&Stored> = stored.iter().filter(|stored| stored.proved() != **stored).collect();
-    println!("{} stored answers, {} differ", stored.len(), differ.len());
-    assert!(stored.len() > 2000 && differ.is_empty(), "{:x?}", &differ[..differ.len().min(4)]);
+    check(&Stored::read(PATH), 3000, Stored::proved);
 }
 
 /// Lengths that are no record's, no query's and no tray's; 1 comes before 3, and neither writes.
@@ -86,10 +83,7 @@ fn lengths() {
 #[cfg(not(reference))]
 #[test]
 fn reference_is_absent() {
-    use std::io::Write;
-    // not by a macro, whose lines a passing test keeps back
-    let said = "The reference, ../shared/docs, is absent: only its stored answers were held against the proved bounds.";
-    writeln!(std::io::stderr(), "{said}").unwrap();
+    coltoctober::absent::say("only its stored answers were held against the proved bounds");
 }
 
 #[cfg(reference)]

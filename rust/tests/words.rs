@@ -1,10 +1,11 @@
 //! The differential runs of the gate: words in slices, proved against std's, with all that lies about a slice held in view.
 
 use coltoctober::cases::Random;
+use coltoctober::lent::{byte, word, Lent};
 use coltoctober::proved;
+use std::fmt::Debug;
 
 const CASES: usize = 1_000_000;
-const MARGIN: usize = 16;
 
 /// Runs the cases: lengths from 0 to 70, each many times over, and now and then a longer one.
 fn lengths(mut run: impl FnMut(&mut Random, usize)) {
@@ -15,43 +16,16 @@ fn lengths(mut run: impl FnMut(&mut Random, usize)) {
     }
 }
 
-/// A slice with room before and behind it, at every alignment in turn.
-struct Lent<T> {
-    all: Vec<T>,
-    start: usize,
-    len: usize,
-}
-
-impl<T: Copy + PartialEq + std::fmt::Debug> Lent<T> {
-    fn new(random: &mut Random, len: usize, of: fn(u64) -> T) -> Lent<T> {
-        let start = MARGIN + random.below(8) as usize;
-        let all = (0..start + len + MARGIN).map(|_| of(random.bits())).collect();
-        Lent { all, start, len }
-    }
-
-    fn slice(&mut self) -> &mut [T] {
-        &mut self.all[self.start..self.start + self.len]
-    }
-
-    /// Both write to copies of the same memory, and must answer alike and leave it alike, outside the slice too.
-    fn same<A: PartialEq + std::fmt::Debug>(
-        mut self,
-        proved: impl FnOnce(&mut [T]) -> A,
-        expected: impl FnOnce(&mut [T]) -> A,
-        show: impl FnOnce() -> String,
-    ) {
-        let mut copy = Lent { all: self.all.clone(), ..self };
-        let answers = (proved(self.slice()), expected(copy.slice()));
-        assert!(answers.0 == answers.1 && self.all == copy.all, "{}: {answers:x?}\n{:x?}\n{:x?}", show(), self.all, copy.all);
-    }
-}
-
-fn byte(bits: u64) -> u8 {
-    bits as u8
-}
-
-fn word(bits: u64) -> u32 {
-    bits as u32
+/// Both write to copies of the same memory, and must answer alike and leave it alike, outside the slice too.
+fn same<T: Copy + PartialEq + Debug, A: PartialEq + Debug>(
+    mut lent: Lent<T>,
+    proved: impl FnOnce(&mut [T]) -> A,
+    expected: impl FnOnce(&mut [T]) -> A,
+    show: impl FnOnce() -> String,
+) {
+    let mut copy = lent.clone();
+    let answers = (proved(lent.slice()), expected(copy.slice()));
+    assert!(answers.0 == answers.1 && lent == copy, "{}: {answers:x?}\n{:x?}\n{:x?}", show(), lent.all, copy.all);
 }
 
 /// A place within, about or far past the end of so many words; so far that four times it wraps.
@@ -77,7 +51,8 @@ fn set_word(bytes: &mut [u8], place: usize, w: u32) {
 fn word_at_place() {
     lengths(|random, len| {
         let at = place(random, len / 4);
-        Lent::new(random, len, byte).same(
+        same(
+            Lent::new(random, len, byte),
             |bytes| proved::word_at(bytes, at),
             |bytes| word_at(bytes, at),
             || format!("word_at({len} bytes, {at})"),
@@ -89,7 +64,8 @@ fn word_at_place() {
 fn set_word_at_place() {
     lengths(|random, len| {
         let (at, w) = (place(random, len / 4), word(random.bits()));
-        Lent::new(random, len, byte).same(
+        same(
+            Lent::new(random, len, byte),
             |bytes| proved::set_word(bytes, at, w),
             |bytes| set_word(bytes, at, w),
             || format!("set_word({len} bytes, {at}, {w:x})"),
@@ -110,7 +86,8 @@ fn word_count() {
 fn fill() {
     lengths(|random, len| {
         let (from, to, v) = (place(random, len), place(random, len), word(random.bits()));
-        Lent::new(random, len, word).same(
+        same(
+            Lent::new(random, len, word),
             |words| proved::fill(words, from, to, v),
             |words| words.iter_mut().take(to).skip(from).for_each(|word| *word = v),
             || format!("fill({len} words, {from}, {to}, {v:x})"),
@@ -124,7 +101,8 @@ fn words_of_bytes() {
         let mut lent = Lent::new(random, len, byte);
         let bytes = &*lent.slice();
         let room = (len / 4 + random.below(5) as usize).saturating_sub(2);
-        Lent::new(random, room, word).same(
+        same(
+            Lent::new(random, room, word),
             |words| proved::words_of_bytes(bytes, words),
             |words| {
                 if len % 4 != 0 {
@@ -145,7 +123,8 @@ fn bytes_of_words() {
         let mut lent = Lent::new(random, len, word);
         let words = &*lent.slice();
         let room = (4 * len + random.below(17) as usize).saturating_sub(8);
-        Lent::new(random, room, byte).same(
+        same(
+            Lent::new(random, room, byte),
             |bytes| proved::bytes_of_words(words, bytes),
             |bytes| {
                 let written = bytes.get_mut(..4 * len).ok_or(3u32)?;

@@ -2,8 +2,7 @@
 
 #[cfg(not(reference))]
 fn main() {
-    eprintln!("The reference, ../shared/docs, is absent: there is nothing to time against.");
-    std::process::exit(1);
+    coltoctober::absent::stop("there is nothing to time against");
 }
 
 #[cfg(reference)]

@@ -2,8 +2,7 @@
 
 #[cfg(not(reference))]
 fn main() {
-    eprintln!("The reference, ../shared/docs, is absent: there is no oracle to ask.");
-    std::process::exit(1);
+    coltoctober::absent::stop("there is no oracle to ask");
 }
 
 #[cfg(reference)]

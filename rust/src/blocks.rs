@@ -1,0 +1,67 @@
+//! The check of a bounds block's layout, our own form, and blocks for its runs, good and damaged.
+
+use crate::cases::Random;
+use crate::lists::{BLOCK_RECORD, MOST_LAMPS, MOST_WORDS};
+use crate::proved;
+
+/// Refusal 2 is for too many words or lamps, 1 for a length that is not the count's or a side that is not 0 or 1, 4 for a handle
+/// that is not its place.
+pub fn check_block(block: &[u32]) -> Result<(), u32> {
+    let count = block.first().map_or(0, |count| *count as usize);
+    if block.len() > MOST_WORDS || count > MOST_LAMPS {
+        return Err(2);
+    }
+    let records = || block[1..].chunks_exact(BLOCK_RECORD);
+    if block.len() != 1 + BLOCK_RECORD * count || records().any(|record| record[BLOCK_RECORD - 1] > 1) {
+        return Err(1);
+    }
+    if records().enumerate().any(|(place, record)| record[0] as usize != place) {
+        return Err(4);
+    }
+    Ok(())
+}
+
+impl Random {
+    /// A block whose figures have any bits, its layout good or not.
+    fn block(&mut self) -> Vec<u32> {
+        let count = match self.below(5000) {
+            0 => MOST_LAMPS as u64,
+            1 => MOST_LAMPS as u64 + 1,
+            _ => self.below(9),
+        };
+        let mut block = vec![count as u32];
+        for place in 0..count {
+            block.push(place as u32);
+            block.extend((0..BLOCK_RECORD - 2).map(|_| self.bits() as u32));
+            block.push(self.below(2) as u32);
+        }
+        let times = self.of(&[0, 0, 0, 1, 1, 2]);
+        for _ in 0..times {
+            let bit = 1 << self.below(32);
+            let place = self.below(count.max(1)) as usize * BLOCK_RECORD + 1;
+            match self.below(8) {
+                0 => block.truncate(self.below(block.len() as u64 + 1) as usize),
+                1 => (0..1 + self.below(28)).for_each(|_| block.push(0)),
+                2 if !block.is_empty() => block[0] = self.of(&[block[0] ^ bit, 4096, 4097, u32::MAX]),
+                3 | 4 if place < block.len() => block[place] ^= bit,
+                5 | 6 if place + BLOCK_RECORD <= block.len() => block[place + BLOCK_RECORD - 1] ^= bit,
+                _ if self.chance(200) => block.resize(MOST_WORDS + self.below(3) as usize, 0),
+                _ => {}
+            }
+        }
+        block
+    }
+}
+
+/// Holds the proved check against the one here, and counts the cases by their number.
+pub fn run(seed: u64, cases: u64) -> [u64; 14] {
+    let mut random = Random::new(seed);
+    let mut counts = [0; 14];
+    for _ in 0..cases {
+        let block = random.block();
+        let expected = check_block(&block);
+        assert_eq!(proved::lamps_check_block(&block), expected, "{} words: {:08x?}", block.len(), &block[..block.len().min(60)]);
+        counts[expected.err().unwrap_or(0) as usize] += 1;
+    }
+    counts
+}
