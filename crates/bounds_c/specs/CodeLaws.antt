@@ -1,17 +1,18 @@
 -- Laws of the words of the bounds' answers: what a union leaves in the lent slice. Assumes nothing.
 use Prim.Native.Nat.{ℕ, _≤_, _<_}
-use mathlib.Core.Path.{_≡_, refl, ap, subst, sym, _∙_}
+use mathlib.Core.Path.{_≡_, refl, sym, _∙_}
 use native.Mathlib.Nat.{min-eq-left}
 use borrow.Author.Tests.{lt-leb}
 use mathlib.Core.List.{List, []}
 use lib.ListN.{length}
-use native.Mathlib.Omega.{arith}
-use Rattle.words.specs.Answers.{Answer, given, refused, _then_}
+use Rattle.words.specs.AnswerLaws.{only-number}
+use Rattle.words.specs.Answers.{given, refused}
 use Rattle.words.specs.Fill.{filled}
 use Rattle.words.specs.Stores.{stored}
 use Rattle.words.specs.Tray.{tray}
 use Rattle.words.specs.TrayLaws.{tray-full}
-use Rattle.light_bounds.specs.Records.{validate, operand, union, join}
+use Rattle.light_bounds.specs.LateLaws.{late-union}
+use Rattle.light_bounds.specs.Records.{union}
 use Rattle.light_bounds.specs.RecordLaws.{writtenAt-sets}
 use Rattle.light_bounds.specs.RecordWords.{writtenAt, recordList}
 use Rattle.light_bounds.specs.declared.light_bounds.LightBounds.{LightBounds}
@@ -26,22 +27,6 @@ pub zero-front : (n : ℕ) (ws : List ℕ) → 13 ≤ length ws → 4 < n → fi
 unfolding filled tray
 zero-front n ws h l = rw (lt-leb n 4 l, min-eq-left h)
 
--- a union is refused by 10 alone
-other : {A : Type 0} → Answer A → Type 0
-other (given a) = Unit
-other (refused n) = ⊥
-
-numberOf : {A : Type 0} → Answer A → ℕ
-numberOf (given a) = 0
-numberOf (refused n) = n
-
-refused-ten : {B : Type 0} (x : Answer (Unit {0})) (y : Answer (Unit {0})) (v : B) (n : ℕ) →
-    operand x then (λ _. operand y then λ _. given v) ≡ refused n → 4 < n
-unfolding _then_ other numberOf
-refused-ten (given a) (given b) v n h = absurd (subst other h tt)
-refused-ten (given a) (refused m) v n h = subst (λ (k : ℕ). 4 < k) (ap numberOf h) (omega arith)
-refused-ten (refused m) y v n h = subst (λ (k : ℕ). 4 < k) (ap numberOf h) (omega arith)
-
+-- a union refuses late
 pub union-refused : (a b : LightBounds) (n : ℕ) → union a b ≡ refused n → 4 < n
-unfolding union
-union-refused a b n h = refused-ten (validate a) (validate b) (join a b) n h
+union-refused a b n e = only-number (late-union a b) e

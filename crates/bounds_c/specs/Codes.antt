@@ -14,11 +14,6 @@ use Rattle.light_bounds.specs.declared.light_bounds.Query.{Query}
 use Rattle.light_bounds.specs.declared.record_words.Found.{Found}
 use Rattle.light_bounds.specs.declared.record_words.Found.the-variants.{Record, UnknownSide, Past}
 
--- 0 where it is done, else the refusal's number
-abbrev pub code : {A : Type 0} → Answer A → ℕ
-code (given a) = 0
-code (refused n) = n
-
 -- a value's bits, or 2^32 and the refusal's number
 abbrev pub valueCode : Answer Float → ℕ
 valueCode (given x) = toBits binary32 x

@@ -2,10 +2,11 @@
 ghost use mathlib.Core.Path.{_≡_};
 ghost use Prim.Native.Nat.{_≤_};
 ghost use lib.ListN.{length};
+ghost use Rattle.words.specs.Answers.{code};
 ghost use Rattle.words.specs.Tray.{tray};
 ghost use Rattle.trig.specs.Trig.{cos as cosOf, sin as sinOf, acos as acosOf, asin as asinOf};
 ghost use Rattle.light_bounds.specs.Records.{union as unionOf};
-ghost use Rattle.bounds_c.specs.Codes.{code, valueCode, validateWords, importanceWords, unionWords, queryOf};
+ghost use Rattle.bounds_c.specs.Codes.{valueCode, validateWords, importanceWords, unionWords, queryOf};
 ghost use Rattle.light_bounds.specs.RecordWords.{recordList};
 use light_bounds::bounds::Validity;
 use light_bounds::light_bounds::Joined;

@@ -7,7 +7,7 @@ use mathlib.Core.List.{List, [], _∷_, _++_}
 use native.Mathlib.Omega.{arith}
 use borrow.Author.Tests.{le-leb, lt-leb, ltb-false}
 use lib.Dec.{leb, ltb, eqb}
-use lib.Ieee.{Float, lt, eq}
+use lib.Ieee.{Float, lt}
 use lib.Ieee.Scale.{finite}
 use Rattle.ieee.specs.Single.{zero as zerof}
 use lib.ListN.{length, getD, drop}
@@ -15,11 +15,10 @@ use Rattle.words.specs.AnswerLaws.{Early, Late, only-given, only-refused, only-
 use Rattle.words.specs.Answers.{Answer, given, refused, _then_, count}
 use Rattle.words.specs.Tray.{tray}
 use Rattle.words.specs.TrayLaws.{tray-full}
-use Rattle.light_bounds.specs.Boxes.{boxCheck, inverted}
-use Rattle.light_bounds.specs.Records.{validate, coneCheck, rangeCheck, isCosine, operand, union, join}
+use Rattle.light_bounds.specs.LateLaws.{late-box, late-normalize, late-validate, late-union}
+use Rattle.light_bounds.specs.Records.{isCosine}
 use Rattle.light_bounds.specs.RecordWords.{sideKnown}
-use Rattle.light_bounds.specs.Vectors.{normalize, finiteVec, dot, length as size}
-use Rattle.light_bounds.specs.declared.bounds.Bounds3.{Bounds3}
+use Rattle.light_bounds.specs.Vectors.{finiteVec}
 use Rattle.light_bounds.specs.declared.light_bounds.LightBounds.{LightBounds}
 use Rattle.light_bounds.specs.declared.vecmath.Vec3.{Vec3}
 use Rattle.lamps.specs.Block.{blockWords, packedFrom, packExhaustiveBounds}
@@ -35,31 +34,6 @@ use Rattle.lamps.specs.declared.cursor.Reading.{Reading}
 use Rattle.lamps.specs.declared.lamp_bounds.AreaTriangleInput.{AreaTriangleInput}
 
 -- ---- the lamps' figures: above 4
-
-late-box : (b : Bounds3) → Late (boxCheck b)
-unfolding boxCheck
-late-box b = only-cond (finiteVec (b .min) && finiteVec (b .max)) (only-cond (inverted b) (only-refused (omega arith)) only-given) (only-refused (omega arith))
-
-late-normalize : (v : Vec3) → Late (normalize v)
-unfolding normalize
-late-normalize v = only-cond (not (finite (size v)) || eq (size v) zerof) (only-refused (omega arith)) only-given
-
-late-validate : (r : LightBounds) → Late (validate r)
-unfolding validate coneCheck rangeCheck
-late-validate r =
-    only-then (late-box (r .bounds))
-    (λ _. only-cond (finiteVec (r .direction) && (finite (r .phi) && (finite (r .«cos_theta_o») && finite (r .«cos_theta_e»))))
-    (only-cond (eq (dot (r .direction) (r .direction)) zerof) (only-refused (omega arith))
-    (only-cond (lt (r .phi) zerof || not (isCosine (r .«cos_theta_o») && isCosine (r .«cos_theta_e»))) (only-refused (omega arith)) only-given))
-    (only-refused (omega arith)))
-
-late-operand : (x : Answer (Unit {0})) → Late (operand x)
-late-operand (given u) = only-given
-late-operand (refused n) = only-refused (omega arith)
-
-late-union : (a b : LightBounds) → Late (union a b)
-unfolding union
-late-union a b = only-then (late-operand (validate a)) (λ _. only-then (late-operand (validate b)) (λ _. only-given))
 
 late-emission : (value scale : Float) → Late (validateEmission value scale)
 unfolding validateEmission

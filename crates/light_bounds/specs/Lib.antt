@@ -6,3 +6,4 @@ pub mod Importance
 pub mod RecordWords
 pub mod RecordLaws
 pub mod BoundsLaws
+pub mod LateLaws

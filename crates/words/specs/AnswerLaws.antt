@@ -4,7 +4,7 @@ use mathlib.Core.Path.{_≡_, refl, ap, subst, sym, _∙_}
 use mathlib.Core.Bool.{Bool, true, false, cond}
 use mathlib.Core.List.{List}
 use lib.ListN.{length}
-use Rattle.words.specs.Answers.{Answer, given, refused, _then_, count}
+use Rattle.words.specs.Answers.{Answer, given, refused, _then_, count, code}
 
 pub then-assoc : {A B C : Type 0} (x : Answer A) (f : A → Answer B) (g : B → Answer C) → (x then f) then g ≡ x then (λ (a : A). f a then g)
 unfolding _then_
@@ -86,3 +86,7 @@ count-given (refused m) n e = absurd (not-both e refl)
 pub count-refused : {A : Type 0} (x : Answer (List A)) (n : ℕ) → count x ≡ refused n → x ≡ refused n
 count-refused (given l) n e = absurd (not-both refl e)
 count-refused (refused m) n e = ap refused (refused-injective e)
+
+pub code-count : {A : Type 0} (x : Answer (List A)) → code (count x) ≡ code x
+code-count (given l) = refl
+code-count (refused n) = refl

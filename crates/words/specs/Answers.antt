@@ -18,3 +18,8 @@ _then_ (refused n) next = refused n
 abbrev pub count : {A : Type 0} → Answer (List A) → Answer ℕ
 count (given xs) = given (length xs)
 count (refused n) = refused n
+
+-- for C: 0 where it is done, else the refusal's number
+abbrev pub code : {A : Type 0} → Answer A → ℕ
+code (given a) = 0
+code (refused n) = n
