@@ -1,0 +1,133 @@
+// A lamp list on standard input, its bounds block on standard output: little-endian words in, little-endian words out; or `refused N` and a line's end. Bytes that
+// are no whole word make the list ragged (1), unless it is over the limits (2).
+ghost use Prim.Native.Nat.{_≤_};
+ghost use lib.ListN.{length};
+use lamps::block::Counted;
+use lamps::build::build_light_bounds;
+use lamps::build::check_list;
+use words::bytes::Words;
+use words::bytes::bytes_of_words;
+use words::bytes::words_of_bytes;
+use words::refusal::Refusal;
+use words::refusal::refusal_number;
+
+// What was read: whole words, and bytes behind them.
+struct Input {
+    words: usize,
+    stray: usize,
+}
+
+// The words of bytes, as far as the list has room.
+fn put_words(bytes: &[u8], list: &mut [u32]) {
+    match words_of_bytes(bytes, list) {
+        Words::Count(n) => {}
+        Words::Refused(why) => {}
+    }
+}
+
+// Reads standard input, a chunk at a time, until it ends or the list has no room for another chunk: then it is over 2^20 words.
+fn read_list(list: &mut [u32], chunk: &mut [u8]) -> Input
+    requires { ⌜ 4 ≤ length (now chunk) ⌝ }
+    ensures { λ r. ⌜ r .words ≤ length (now (list .entry)) ⌝ }
+{
+    let mut words: usize = 0;
+    let mut stray: usize = 0;
+    let each = chunk.len() / 4;
+    while words + each <= list.len() {
+        let n = io::read_full(0, chunk);
+        let got = n / 4;
+        let end = 4 * got;
+        put_words(&chunk[..end], &mut list[words..]);
+        words += got;
+        if n < chunk.len() {
+            stray = n % 4;
+            break;
+        }
+    }
+    Input { words, stray }
+}
+
+// Writes words to standard output; the chunk has room for them.
+fn write_part(words: &[u32], chunk: &mut [u8]) {
+    match bytes_of_words(words, chunk) {
+        Words::Count(n) => {
+            if n <= chunk.len() / 4 {
+                let end = 4 * n;
+                io::write_all(1, &chunk[..end]);
+            }
+        }
+        Words::Refused(why) => {}
+    }
+}
+
+// The same for more words than that, as many at a time as it has room for.
+fn write_words(words: &[u32], chunk: &mut [u8])
+    requires { ⌜ 4 ≤ length (now chunk) ⌝ }
+{
+    let each = chunk.len() / 4;
+    let mut done: usize = 0;
+    while each < words.len() - done {
+        let end = done + each;
+        write_part(&words[done..end], chunk);
+        done = end;
+    }
+    write_part(&words[done..], chunk);
+}
+
+fn write_refusal(why: Refusal) {
+    io::write_all(1, b"refused ");
+    io::print_decimal(1, refusal_number(why) as u64);
+    io::write_all(1, b"\n");
+}
+
+// A list with bytes behind its last word.
+fn refuse_stray(list: &[u32]) {
+    match check_list(list) {
+        Counted::Lamps(m) => write_refusal(Refusal::Ragged),
+        Counted::Refused(why) => match why {
+            Refusal::Crowded => write_refusal(Refusal::Crowded),
+            _ => write_refusal(Refusal::Ragged),
+        },
+    }
+}
+
+fn convert(list: &[u32], block: &mut [u32], chunk: &mut [u8])
+    requires { ⌜ 4 ≤ length (now chunk) ⌝ }
+{
+    match build_light_bounds(list, block) {
+        Counted::Lamps(m) => {
+            if m <= 4096 {
+                let end = 1 + 14 * m;
+                if end <= block.len() {
+                    write_words(&block[..end], chunk);
+                }
+            }
+        }
+        Counted::Refused(why) => write_refusal(why),
+    }
+}
+
+// Reads, converts, writes.
+fn run(list: &mut [u32], block: &mut [u32], chunk: &mut [u8])
+    requires { ⌜ 4 ≤ length (now chunk) ⌝ }
+{
+    let input = read_list(list, chunk);
+    let words = input.words;
+    if input.stray == 0 {
+        convert(&list[..words], block, chunk);
+    } else {
+        refuse_stray(&list[..words]);
+    }
+}
+
+// Lends room for a list of 2^20 words and a chunk more, and for the block of 4,096 lamps.
+fn lend(list: &mut [u32; 1064960], block: &mut [u32; 57345], chunk: &mut [u8; 65536]) {
+    run(list, block, chunk);
+}
+
+fn main() {
+    let mut list = [0u32; 1064960];
+    let mut block = [0u32; 57345];
+    let mut chunk = [0u8; 65536];
+    lend(&mut list, &mut block, &mut chunk);
+}
