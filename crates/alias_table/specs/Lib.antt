@@ -1,1 +1,2 @@
 pub mod AliasTable
+pub mod Stacks

@@ -1,17 +1,39 @@
 // The power alias table (specs/AliasTable.antt): `build_power_alias_table` of pbrt-r4's light_sampler.rs over lent slices. The two stacks of the Rust stand in the
 // lent work, each entry a weight's word and a place: `under` from word 0 on, `over` from word 2m on.
 ghost use mathlib.Core.Path.{_≡_};
-ghost use mathlib.Core.List.{List, []};
-ghost use Prim.Native.Nat.{_*_};
-ghost use lib.ListN.{length};
+ghost use mathlib.Core.Bool.{cond};
+ghost use mathlib.Core.List.{List, [], map, _++_};
+ghost use Prim.Native.Nat.{_+_, _*_, _≤_, _<_};
+ghost use lib.Ieee.{binary64};
+ghost use lib.ListN.{length, getD, replicate, drop};
+ghost use Rattle.ieee.specs.Single.{single, zero as zerof, one};
+ghost use Rattle.ieee.specs.Narrow.{narrow as narrowed};
 ghost use Rattle.words.specs.Tray.{tray};
-ghost use Rattle.alias_table.specs.AliasTable.{Bin, buildPowerAliasTable, binWords, count, tabled};
+ghost use Rattle.alias_table.specs.AliasTable.{Bin, sumFrom, total as totalOf, buildPowerAliasTable, binWords, count, tabled};
+ghost use Rattle.alias_table.specs.Stacks.{sumsOf, weighted, played, Room, Started, Playing, Played, Left, Wholed};
 use words::refusal::Refusal;
+use words::floats::f32_of_word;
+use words::floats::word_of_f32;
+use words::fill::zero_words;
+use floats::narrow::narrow;
+use floats::narrow::widen;
 
 // How many bins were written, or why none.
 pub enum AliasTable {
     Bins(usize),
     Refused(Refusal),
+}
+
+// The sum of the weights as f32 and as f64, or a weight is not finite or below zero.
+enum Sums {
+    Of(f32, f64),
+    Bad,
+}
+
+// How many entries each stack holds.
+struct Heights {
+    under: usize,
+    over: usize,
 }
 
 // Bins of three words (q, p, alias) into `bins`, with `work` of four words a weight. Over 4,096 weights is refusal 2, short bins or work 3, a weight that is NaN,
@@ -21,6 +43,171 @@ pub fn build_power_alias_table(weights: &[u32], bins: &mut [u32], work: &mut [u3
     ensures { λ _. ⌜ now (bins .exit) ≡ tray binWords (3 * length (now (weights .entry))) (buildPowerAliasTable (now (weights .entry)) (length (now (bins .entry))) (length (now (work .entry)))) (now (bins .entry)) ⌝ }
     ensures { λ _. ⌜ now (work .exit) ≡ tray (λ (bs : List Bin). []) (4 * length (now (weights .entry))) (buildPowerAliasTable (now (weights .entry)) (length (now (bins .entry))) (length (now (work .entry)))) (now (work .entry)) ⌝ }
 {
-    // to be written
-    AliasTable::Refused(Refusal::Crowded)
+    let m = weights.len();
+    if m > 4096 {
+        return AliasTable::Refused(Refusal::Crowded);
+    }
+    if bins.len() < 3 * m {
+        return AliasTable::Refused(Refusal::ShortTray);
+    }
+    if work.len() < 4 * m {
+        return AliasTable::Refused(Refusal::ShortTray);
+    }
+    let s = add_up(weights);
+    match s {
+        Sums::Of(single, double) => {
+            let flat = single == 0.0;
+            build(weights, flat, total(flat, double, m), bins, work);
+            AliasTable::Bins(m)
+        }
+        Sums::Bad => {
+            zero_words(bins, 0, 3 * m);
+            zero_words(work, 0, 4 * m);
+            AliasTable::Refused(Refusal::OutOfRange)
+        }
+    }
+}
+
+// Both sums left to right, in one pass.
+fn add_up(weights: &[u32]) -> Sums
+    ensures { λ r. ⌜ r ≡ sumsOf (map single (now (weights .entry))) ⌝ }
+{
+    let mut single = 0.0;
+    let mut double = 0.0;
+    let mut i = 0;
+    while i < weights.len() {
+        let w = f32_of_word(weights[i]);
+        if w < 0.0 {
+            return Sums::Bad;
+        }
+        if w < 1.0 / 0.0 {
+            single = single + w;
+            double = double + widen(w);
+            i += 1;
+        } else {
+            return Sums::Bad;
+        }
+    }
+    Sums::Of(single, double)
+}
+
+// The sum to divide by: that of the weights, or of m ones.
+fn total(flat: bool, double: f64, m: usize) -> f32
+    ensures { λ r. ⌜ r ≡ narrowed (cond flat (sumFrom binary64 zerof (replicate m one)) double) ⌝ }
+{
+    if flat { narrow(ones(m)) } else { narrow(double) }
+}
+
+fn ones(m: usize) -> f64
+    ensures { λ r. ⌜ r ≡ sumFrom binary64 zerof (replicate m one) ⌝ }
+{
+    let mut s = 0.0;
+    let mut i = 0;
+    while i < m {
+        s = s + 1.0;
+        i += 1;
+    }
+    s
+}
+
+// The weight at a place; where the weights are flat each is one.
+fn weight_at(weights: &[u32], flat: bool, i: usize) -> f32
+    requires { ⌜ i < length (now weights) ⌝ }
+    ensures { λ r. ⌜ r ≡ getD (weighted flat (now (weights .entry))) i zerof ⌝ }
+{
+    if flat { 1.0 } else { f32_of_word(weights[i]) }
+}
+
+// The game, from the start to the zeroed work.
+fn build(weights: &[u32], flat: bool, sum: f32, bins: &mut [u32], work: &mut [u32])
+    requires { ⌜ Room (length (now weights)) (now bins) (now work) ⌝ }
+    requires { ⌜ sum ≡ totalOf (weighted flat (now weights)) ⌝ }
+    ensures { λ _. ⌜ now (bins .exit) ≡ binWords (played (weighted flat (now (weights .entry)))) ++ drop (3 * length (now (weights .entry))) (now (bins .entry)) ⌝ }
+    ensures { λ _. ⌜ now (work .exit) ≡ replicate (4 * length (now (weights .entry))) 0 ++ drop (4 * length (now (weights .entry))) (now (work .entry)) ⌝ }
+{
+    let m = weights.len();
+    let h = start(weights, flat, sum, bins, work);
+    let h2 = play(m, bins, work, h.under, h.over);
+    make_whole(bins, work, 0, h2.under);
+    make_whole(bins, work, 2 * m, h2.over);
+    zero_words(work, 0, 4 * m);
+}
+
+// The bins with q zero and no alias, and each on its stack.
+fn start(weights: &[u32], flat: bool, sum: f32, bins: &mut [u32], work: &mut [u32]) -> Heights
+    requires { ⌜ Room (length (now weights)) (now bins) (now work) ⌝ }
+    requires { ⌜ sum ≡ totalOf (weighted flat (now weights)) ⌝ }
+    ensures { λ r. ⌜ Started (weighted flat (now (weights .entry))) (now (bins .entry)) (now (work .entry)) (now (bins .exit)) (now (work .exit)) (r .under) (r .over) ⌝ }
+{
+    let m = weights.len();
+    let count = m as f32;
+    let mut under = 0;
+    let mut over = 0;
+    let mut i = 0;
+    while i < m {
+        let p = weight_at(weights, flat, i) / sum;
+        let at = 3 * i;
+        bins[at] = 0;
+        bins[at + 1] = word_of_f32(p);
+        bins[at + 2] = 0xffff_ffff;
+        let p_hat = p * count;
+        if p_hat < 1.0 {
+            let u = 2 * under;
+            work[u] = word_of_f32(p_hat);
+            work[u + 1] = i as u32;
+            under += 1;
+        } else {
+            let o = 2 * m + 2 * over;
+            work[o] = word_of_f32(p_hat);
+            work[o + 1] = i as u32;
+            over += 1;
+        }
+        i += 1;
+    }
+    Heights { under, over }
+}
+
+// Turns, while neither stack is empty. Each takes one bin out of the game.
+fn play(m: usize, bins: &mut [u32], work: &mut [u32], under: usize, over: usize) -> Heights
+    requires { ⌜ Playing m (now bins) (now work) under over ⌝ }
+    ensures { λ r. ⌜ Played m (now (bins .entry)) (now (work .entry)) under over (now (bins .exit)) (now (work .exit)) (r .under) (r .over) ⌝ }
+{
+    let mut nu = under;
+    let mut no = over;
+    while 0 < nu {
+        if no == 0 {
+            break;
+        }
+        let u = 2 * (nu - 1);
+        let o = 2 * m + 2 * (no - 1);
+        let under_word = work[u];
+        let under_index = work[u + 1];
+        let over_index = work[o + 1];
+        let at = 3 * (under_index as usize);
+        bins[at] = under_word;
+        bins[at + 2] = over_index;
+        let excess = f32_of_word(under_word) + f32_of_word(work[o]) - 1.0;
+        if excess < 1.0 {
+            work[u] = word_of_f32(excess);
+            work[u + 1] = over_index;
+            no -= 1;
+        } else {
+            work[o] = word_of_f32(excess);
+            nu -= 1;
+        }
+    }
+    Heights { under: nu, over: no }
+}
+
+// What is left on the stack from word `base` on is whole: q is 1.
+fn make_whole(bins: &mut [u32], work: &[u32], base: usize, n: usize)
+    requires { ⌜ Left (now bins) (now work) base n ⌝ }
+    ensures { λ _. ⌜ Wholed (now (bins .entry)) (now (work .entry)) base n (now (bins .exit)) ⌝ }
+{
+    let mut k = 0;
+    while k < n {
+        let at = 3 * (work[base + 2 * k + 1] as usize);
+        bins[at] = 0x3f80_0000;
+        k += 1;
+    }
 }
