@@ -1,2 +1,4 @@
 pub mod AliasTable
+pub mod AliasLaws
 pub mod Stacks
+pub mod StackLaws

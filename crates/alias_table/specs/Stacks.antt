@@ -4,7 +4,7 @@ use mathlib.Core.Path.{_≡_}
 use mathlib.Core.Bool.{Bool, cond}
 use mathlib.Core.List.{List, [], _∷_, _++_, map}
 use lib.Ieee.{Float, binary32, binary64, toBits}
-use lib.ListN.{length, getD, drop, replicate}
+use lib.ListN.{length, getD, set, drop, replicate}
 use Rattle.ieee.specs.Single.{single, zero as zerof, one}
 use Rattle.alias_table.specs.AliasTable.{Bin, Entry, State, anyBad, sumFrom, start, turns, leftover, finish, binWords}
 use Rattle.alias_table.specs.declared.Sums.{Sums}
@@ -38,15 +38,17 @@ unfoldable pub stackAt : ℕ → List ℕ → ℕ → List Entry
 stackAt base work zero = []
 stackAt base work (suc n) = entryAt base work n ∷ stackAt base work n
 
+-- an entry's two words at a place
+abbrev pub put : List ℕ → ℕ → Float → ℕ → List ℕ
+put work at weight index = set (set work at (toBits binary32 weight)) (at + 1) index
+
 -- each entry's place is one of m, and its word is that of its weight
 abbrev pub Sound : ℕ → ℕ → List ℕ → ℕ → Type 0
 Sound m base work n =
     (k : ℕ) → k < n → (getD work (base + 2 * k + 1) 0 < m) × (toBits binary32 (single (getD work (base + 2 * k) 0)) ≡ getD work (base + 2 * k) 0)
 
--- The words of a game's state: m bins, then `binsRest`; `under` from word 0 on, `over` from word 2m on; after 4m words `workRest`.
-pub record Game (m : ℕ) (binsRest workRest : List ℕ) (s : State) (bins work : List ℕ) (under over : ℕ) : Type 0 where
-  pub bins-are : bins ≡ binWords (s .bins) ++ binsRest
-  pub count : length (s .bins) ≡ m
+-- The stacks of a state as they stand in the work: `under` from word 0 on, `over` from word 2m on; after 4m words `workRest`.
+pub record Stacks (m : ℕ) (workRest : List ℕ) (s : State) (work : List ℕ) (under over : ℕ) : Type 0 where
   pub under-are : stackAt 0 work under ≡ s .under
   pub over-are : stackAt (2 * m) work over ≡ s .over
   pub under-sound : Sound m 0 work under
@@ -54,6 +56,12 @@ pub record Game (m : ℕ) (binsRest workRest : List ℕ) (s : State) (bins work 
   pub together : under + over ≤ m
   pub room : 4 * m ≤ length work
   pub rest : drop (4 * m) work ≡ workRest
+
+-- The words of a game's state: m bins, then `binsRest`; and the stacks.
+pub record Game (m : ℕ) (binsRest workRest : List ℕ) (s : State) (bins work : List ℕ) (under over : ℕ) : Type 0 where
+  pub bins-are : bins ≡ binWords (s .bins) ++ binsRest
+  pub count : length (s .bins) ≡ m
+  pub stacks : Stacks m workRest s work under over
 
 -- ---- what each step asks, and what it does
 

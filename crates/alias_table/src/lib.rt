@@ -2,15 +2,16 @@
 // lent work, each entry a weight's word and a place: `under` from word 0 on, `over` from word 2m on.
 ghost use mathlib.Core.Path.{_≡_};
 ghost use mathlib.Core.Bool.{cond};
-ghost use mathlib.Core.List.{List, [], map, _++_};
+ghost use mathlib.Core.List.{List, [], _∷_, map, _++_};
 ghost use Prim.Native.Nat.{_+_, _*_, _≤_, _<_};
-ghost use lib.Ieee.{binary64};
-ghost use lib.ListN.{length, getD, replicate, drop};
-ghost use Rattle.ieee.specs.Single.{single, zero as zerof, one};
+ghost use lib.Ieee.{binary32, binary64, toBits};
+ghost use lib.ListN.{length, getD, set, replicate, drop};
+ghost use lib.Seq.{sets};
+ghost use Rattle.ieee.specs.Single.{_⊕_, _⊖_, single, zero as zerof, one};
 ghost use Rattle.ieee.specs.Narrow.{narrow as narrowed};
 ghost use Rattle.words.specs.Tray.{tray};
 ghost use Rattle.alias_table.specs.AliasTable.{Bin, sumFrom, total as totalOf, buildPowerAliasTable, binWords, count, tabled};
-ghost use Rattle.alias_table.specs.Stacks.{sumsOf, weighted, played, Room, Started, Playing, Played, Left, Wholed};
+ghost use Rattle.alias_table.specs.Stacks.{sumsOf, weighted, played, put, Room, Started, Playing, Played, Left, Wholed};
 use words::refusal::Refusal;
 use words::floats::f32_of_word;
 use words::floats::word_of_f32;
@@ -146,25 +147,38 @@ fn start(weights: &[u32], flat: bool, sum: f32, bins: &mut [u32], work: &mut [u3
     let mut i = 0;
     while i < m {
         let p = weight_at(weights, flat, i) / sum;
-        let at = 3 * i;
-        bins[at] = 0;
-        bins[at + 1] = word_of_f32(p);
-        bins[at + 2] = 0xffff_ffff;
+        put_bin(bins, 3 * i, p);
         let p_hat = p * count;
         if p_hat < 1.0 {
-            let u = 2 * under;
-            work[u] = word_of_f32(p_hat);
-            work[u + 1] = i as u32;
+            put_entry(work, 2 * under, p_hat, i as u32);
             under += 1;
+            i += 1;
         } else {
-            let o = 2 * m + 2 * over;
-            work[o] = word_of_f32(p_hat);
-            work[o + 1] = i as u32;
+            put_entry(work, 2 * m + 2 * over, p_hat, i as u32);
             over += 1;
+            i += 1;
         }
-        i += 1;
     }
     Heights { under, over }
+}
+
+// A bin's three words at a place: q zero, p, no alias.
+fn put_bin(bins: &mut [u32], at: usize, p: f32)
+    requires { ⌜ at + 2 < length (now bins) ⌝ }
+    ensures { λ _. ⌜ now (bins .exit) ≡ sets (now (bins .entry)) at (0 ∷ toBits binary32 p ∷ 0xffff_ffff ∷ []) ⌝ }
+{
+    bins[at] = 0;
+    bins[at + 1] = word_of_f32(p);
+    bins[at + 2] = 0xffff_ffff;
+}
+
+// A stack's entry at a place.
+fn put_entry(work: &mut [u32], at: usize, weight: f32, index: u32)
+    requires { ⌜ at + 1 < length (now work) ⌝ }
+    ensures { λ _. ⌜ now (work .exit) ≡ put (now (work .entry)) at weight index ⌝ }
+{
+    work[at] = word_of_f32(weight);
+    work[at + 1] = index;
 }
 
 // Turns, while neither stack is empty. Each takes one bin out of the game.
@@ -181,22 +195,35 @@ fn play(m: usize, bins: &mut [u32], work: &mut [u32], under: usize, over: usize)
         let u = 2 * (nu - 1);
         let o = 2 * m + 2 * (no - 1);
         let under_word = work[u];
-        let under_index = work[u + 1];
         let over_index = work[o + 1];
-        let at = 3 * (under_index as usize);
-        bins[at] = under_word;
-        bins[at + 2] = over_index;
-        let excess = f32_of_word(under_word) + f32_of_word(work[o]) - 1.0;
+        let excess = joint(under_word, work[o]);
+        settle(bins, work[u + 1], under_word, over_index);
         if excess < 1.0 {
-            work[u] = word_of_f32(excess);
-            work[u + 1] = over_index;
+            put_entry(work, u, excess, over_index);
             no -= 1;
         } else {
-            work[o] = word_of_f32(excess);
+            put_entry(work, o, excess, over_index);
             nu -= 1;
         }
     }
     Heights { under: nu, over: no }
+}
+
+// What an over bin has left beside an under one.
+fn joint(under: u32, over: u32) -> f32
+    ensures { λ r. ⌜ r ≡ single under ⊕ single over ⊖ one ⌝ }
+{
+    f32_of_word(under) + f32_of_word(over) - 1.0
+}
+
+// q and the alias of the bin at a place.
+fn settle(bins: &mut [u32], place: u32, q: u32, alias: u32)
+    requires { ⌜ 3 * place + 2 < length (now bins) ⌝ }
+    ensures { λ _. ⌜ now (bins .exit) ≡ set (set (now (bins .entry)) (3 * place) q) (3 * place + 2) alias ⌝ }
+{
+    let at = 3 * (place as usize);
+    bins[at] = q;
+    bins[at + 2] = alias;
 }
 
 // What is left on the stack from word `base` on is whole: q is 1.

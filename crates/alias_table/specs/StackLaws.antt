@@ -1,0 +1,502 @@
+-- Laws of the game in words (Stacks.antt): what each store does to the bins and to the stacks. Assumes nothing.
+use Prim.Native.Nat.{ℕ, zero, suc, _+_, _-_, _*_, _≤_, _<_, zero-le}
+use mathlib.Core.Path.{_≡_, refl, sym, ap, subst, _∙_}
+use mathlib.Core.Bool.{Bool, true, false, cond, not, _||_}
+use mathlib.Core.List.{List, [], _∷_, _++_, map}
+use mathlib.Core.Logic.{_⊎_, inl, inr, ⊎-elim}
+use native.Mathlib.Nat.{zero-add, le-refl, add-zero}
+use native.Mathlib.Numerals.{add-one}
+use native.Mathlib.Decide.{decLt}
+use native.Mathlib.Omega.{arith}
+use lib.Dec.{T}
+use lib.IntN.{pos}
+use lib.Ieee.{Float, nan, inf, fin, binary32, binary64, ofBits, toBits, ofInt, fits, add, div, lt}
+use lib.Ieee.Bits.{ofBits-toBits}
+use lib.Ieee.Fits.{mul-fits, sub-fits}
+use lib.Ieee.Scale.{finite}
+use lib.ListN.{length, getD, set, take, drop, replicate, length-set, length-map, length-append, length-drop, length-replicate, getD-replicate, List·getD-map, drop-of-length-le}
+use lib.Seq.{sets, drop-cons, drop-set-lt, getD-set-same, getD-set-other, take-all}
+use Rattle.ieee.specs.Single.{_⊕_, _⊖_, _⊗_, _⊘_, single, zero as zerof, one}
+use Rattle.words.specs.Stores.{Copied, copied-none, copied-run}
+use Rattle.alias_table.specs.AliasTable.{Bin, Entry, State, none, bad, anyBad, sumFrom, total, bin, push, pushAll, start, update, settle, whole, turned, turn, turns, leftover, finish, binWords}
+use Rattle.alias_table.specs.AliasLaws.{turns-stay, start-bins, length-update, length-leftover}
+use Rattle.alias_table.specs.Stacks.{sumsFrom, weighted, entryAt, stackAt, put, Sound, Stacks, Game, Room, Started, Left, Wholed}
+use Rattle.alias_table.specs.declared.Sums.{Sums}
+use Rattle.alias_table.specs.declared.Sums.the-variants.{Of, Bad}
+
+-- ---- weights
+
+pub bad-below : (w : Float) → lt w zerof ≡ true → bad w ≡ true
+bad-below w h = rw h (or-true (not (finite w)))
+  where
+    or-true : (b : Bool) → b || true ≡ true
+    or-true true = refl
+    or-true false = refl
+
+pub bad-above : (w : Float) → lt w (inf false) ≡ false → bad w ≡ true
+unfolding lt
+bad-above nan h = refl
+bad-above (inf s) h = refl
+bad-above (fin s m e) h = absurd (subst T h tt)
+
+pub good-between : (w : Float) → lt w zerof ≡ false → lt w (inf false) ≡ true → bad w ≡ false
+unfolding lt ofBits
+good-between nan h k = absurd (subst T (sym k) tt)
+good-between (inf true) h k = absurd (subst T h tt)
+good-between (inf false) h k = absurd (subst T (sym k) tt)
+good-between (fin s m e) h k = rw h
+
+module _ (s d w : Float) (ws : List Float) where
+  pub sums-good : bad w ≡ false → sumsFrom s d (w ∷ ws) ≡ sumsFrom (add binary32 s w) (add binary64 d w) ws
+  unfolding sumsFrom anyBad sumFrom
+  sums-good h = rw h
+
+  pub sums-bad : bad w ≡ true → sumsFrom s d (w ∷ ws) ≡ Bad
+  unfolding sumsFrom anyBad
+  sums-bad h = rw h
+
+-- the weights from a place on
+pub weights-from : (words : List ℕ) (i : ℕ) → i < length words → drop i (map single words) ≡ single (getD words i 0) ∷ drop (i + 1) (map single words)
+weights-from words i h =
+    drop-cons (map single words) i zerof (rw length-map h)
+    ∙ rw (add-one, ← List·getD-map single words i 0)
+
+pub weights-none : (words : List ℕ) (i : ℕ) → length words ≤ i → drop i (map single words) ≡ []
+weights-none words i h = drop-of-length-le (map single words) {i = i} (rw length-map h)
+
+pub ones-from : (m i : ℕ) → i < m → replicate (m - i) one ≡ one ∷ replicate (m - (i + 1)) one
+ones-from m i h =
+    let e : m - i ≡ suc (m - (i + 1)) = omega arith in
+    rw e
+
+pub ones-none : (m i : ℕ) → m ≤ i → replicate (m - i) one ≡ []
+ones-none m i h =
+    let e : m - i ≡ 0 = omega arith in
+    rw e
+
+pub weighted-length : (flat : Bool) (words : List ℕ) → length (weighted flat words) ≡ length words
+unfolding weighted
+weighted-length true words = length-replicate (length words) one
+weighted-length false words = length-map words single
+
+pub weighted-one : (words : List ℕ) (i : ℕ) → i < length words → getD (weighted true words) i zerof ≡ one
+unfolding weighted
+weighted-one words i h = getD-replicate (length words) i one zerof h
+
+pub weighted-own : (words : List ℕ) (i : ℕ) → getD (weighted false words) i zerof ≡ single (getD words i 0)
+unfolding weighted
+weighted-own words i = List·getD-map single words i 0
+
+-- ---- bins
+
+three : (i : ℕ) → 3 * suc i ≡ suc (suc (suc (3 * i)))
+three i = omega arith
+
+three-two : (i : ℕ) → 3 * suc i + 2 ≡ suc (suc (suc (3 * i + 2)))
+three-two i = omega arith
+
+pub length-binWords : (bs : List Bin) → length (binWords bs) ≡ 3 * length bs
+unfolding binWords
+length-binWords [] = refl
+length-binWords (b ∷ bs) = rw (length-binWords bs, three)
+
+pub drop-binWords : (i : ℕ) (bs : List Bin) → drop (3 * i) (binWords bs) ≡ binWords (drop i bs)
+unfolding binWords
+drop-binWords zero bs = refl
+drop-binWords (suc i) [] = rw three
+drop-binWords (suc i) (b ∷ bs) = rw three (drop-binWords i bs)
+
+pub settle-words : (bs : List Bin) (i : ℕ) (w : Float) (a : ℕ) (rest : List ℕ) → i < length bs
+    → set (set (binWords bs ++ rest) (3 * i) (toBits binary32 w)) (3 * i + 2) a ≡ binWords (update bs i (settle w a)) ++ rest
+unfolding binWords update
+settle-words [] i w a rest h = absurd (omega arith)
+settle-words (b ∷ bs) zero w a rest h = refl
+settle-words (b ∷ bs) (suc i) w a rest h = rw (three-two, three, settle-words bs i w a rest (omega arith))
+
+one-word : toBits binary32 one ≡ 0x3f80_0000
+unfolding toBits ofBits
+one-word = refl
+
+pub whole-words : (bs : List Bin) (i : ℕ) (rest : List ℕ) → i < length bs
+    → set (binWords bs ++ rest) (3 * i) 0x3f80_0000 ≡ binWords (update bs i whole) ++ rest
+unfolding binWords update
+whole-words [] i rest h = absurd (omega arith)
+whole-words (b ∷ bs) zero rest h = rw one-word
+whole-words (b ∷ bs) (suc i) rest h = rw (three, whole-words bs i rest (omega arith))
+
+-- ---- stacks
+
+-- the words of n entries are the same
+abbrev Same : ℕ → ℕ → List ℕ → List ℕ → Type 0
+Same base n work work′ = (j : ℕ) → base ≤ j → j < base + 2 * n → getD work′ j 0 ≡ getD work j 0
+
+stack-same : (base n : ℕ) (work work′ : List ℕ) → Same base n work work′ → stackAt base work′ n ≡ stackAt base work n
+unfolding stackAt
+stack-same base zero work work′ s = refl
+stack-same base (suc n) work work′ s =
+    rw (s (base + 2 * n) (omega arith) (omega arith), s (base + 2 * n + 1) (omega arith) (omega arith), stack-same base n work work′ (λ j h k. s j h (omega arith)))
+
+sound-same : (m base n : ℕ) (work work′ : List ℕ) → Same base n work work′ → Sound m base work n → Sound m base work′ n
+sound-same m base n work work′ s h k l = rw (s (base + 2 * k + 1) (omega arith) (omega arith), s (base + 2 * k) (omega arith) (omega arith)) (h k l)
+
+put-same : (base n : ℕ) (work : List ℕ) (at : ℕ) (w : Float) (i : ℕ) → (at + 1 < base) ⊎ (base + 2 * n ≤ at) → Same base n work (put work at w i)
+put-same base n work at w i out j h k =
+    getD-set-other (set work at (toBits binary32 w)) (at + 1) j i 0 (λ e. ⊎-elim (λ l. omega arith) (λ l. omega arith) out)
+    ∙ getD-set-other work at j (toBits binary32 w) 0 (λ e. ⊎-elim (λ l. omega arith) (λ l. omega arith) out)
+
+module _ (work : List ℕ) (at : ℕ) (w : Float) (i : ℕ) (h : at + 1 < length work) where
+  put-weight : getD (put work at w i) at 0 ≡ toBits binary32 w
+  put-weight = getD-set-other (set work at (toBits binary32 w)) (at + 1) at i 0 (λ e. omega arith) ∙ getD-set-same work at (toBits binary32 w) 0 (omega arith)
+
+  put-index : getD (put work at w i) (at + 1) 0 ≡ i
+  put-index = getD-set-same (set work at (toBits binary32 w)) (at + 1) i 0 (rw length-set h)
+
+length-put : (work : List ℕ) (at : ℕ) (w : Float) (i : ℕ) → length (put work at w i) ≡ length work
+length-put work at w i = simp length-set
+
+module _ (base n : ℕ) (work : List ℕ) (at : ℕ) (w : Float) (i : ℕ) (place : base + 2 * n ≡ at) (h : at + 1 < length work) (fit : T (fits binary32 w)) where
+  stack-put : stackAt base (put work at w i) (suc n) ≡ record { weight = w; index = i } ∷ stackAt base work n
+  unfolding stackAt
+  stack-put =
+      rw (place, put-weight work at w i h, put-index work at w i h, ofBits-toBits binary32 w fit, stack-same base n work (put work at w i) (put-same base n work at w i (inr (omega arith))))
+
+  sound-put : (m : ℕ) → i < m → Sound m base work n → Sound m base (put work at w i) (suc n)
+  sound-put m l s k b = go (decLt k n)
+    where
+      go : Dec (k < n) → (getD (put work at w i) (base + 2 * k + 1) 0 < m) × (toBits binary32 (single (getD (put work at w i) (base + 2 * k) 0)) ≡ getD (put work at w i) (base + 2 * k) 0)
+      go (yes y) = sound-same m base n work (put work at w i) (put-same base n work at w i (inr (omega arith))) s k y
+      go (no z) =
+          let e : base + 2 * k ≡ at = omega arith in
+          rw (e, put-weight work at w i h, put-index work at w i h, ofBits-toBits binary32 w fit) (l, refl)
+
+-- ---- pushing and popping
+
+under-push : (e : Entry) (s : State) → lt (e .weight) one ≡ true → push e s ≡ record { bins = s .bins; under = e ∷ s .under; over = s .over }
+unfolding push
+under-push e s h = rw h
+
+over-push : (e : Entry) (s : State) → lt (e .weight) one ≡ false → push e s ≡ record { bins = s .bins; under = s .under; over = e ∷ s .over }
+unfolding push
+over-push e s h = rw h
+
+module _ {m : ℕ} {workRest : List ℕ} {s : State} {work : List ℕ} {under over : ℕ} (g : Stacks m workRest s work under over) (w : Float) (i : ℕ)
+    (fit : T (fits binary32 w)) (low : i < m) (more : under + over < m) where
+  pub stacks-under : (at : ℕ) → 2 * under ≡ at → lt w one ≡ true
+      → Stacks m workRest (push (record { weight = w; index = i }) s) (put work at w i) (suc under) over
+  stacks-under at e l =
+      let place : 0 + 2 * under ≡ at = omega arith in
+      let in-work : at + 1 < length work = omega (arith, g .room) in
+      let out : Same (2 * m) over work (put work at w i) = put-same (2 * m) over work at w i (inl (omega arith)) in
+      subst (λ (t : State). Stacks m workRest t (put work at w i) (suc under) over) (sym (under-push (record { weight = w; index = i }) s l))
+      (record {
+        under-are = stack-put 0 under work at w i place in-work fit ∙ ap (λ (es : List Entry). record { weight = w; index = i } ∷ es) (g .under-are);
+        over-are = stack-same (2 * m) over work (put work at w i) out ∙ g .over-are;
+        under-sound = sound-put 0 under work at w i place in-work fit m low (g .under-sound);
+        over-sound = sound-same m (2 * m) over work (put work at w i) out (g .over-sound);
+        together = omega arith;
+        room = rw length-put (g .room);
+        rest = drop-set-lt (4 * m) (set work at (toBits binary32 w)) (at + 1) i (omega arith) ∙ drop-set-lt (4 * m) work at (toBits binary32 w) (omega arith) ∙ g .rest;
+      })
+
+  pub stacks-over : (at : ℕ) → 2 * m + 2 * over ≡ at → lt w one ≡ false
+      → Stacks m workRest (push (record { weight = w; index = i }) s) (put work at w i) under (suc over)
+  stacks-over at place l =
+      let in-work : at + 1 < length work = omega (arith, g .room) in
+      let out : Same 0 under work (put work at w i) = put-same 0 under work at w i (inr (omega arith)) in
+      subst (λ (t : State). Stacks m workRest t (put work at w i) under (suc over)) (sym (over-push (record { weight = w; index = i }) s l))
+      (record {
+        under-are = stack-same 0 under work (put work at w i) out ∙ g .under-are;
+        over-are = stack-put (2 * m) over work at w i place in-work fit ∙ ap (λ (es : List Entry). record { weight = w; index = i } ∷ es) (g .over-are);
+        under-sound = sound-same m 0 under work (put work at w i) out (g .under-sound);
+        over-sound = sound-put (2 * m) over work at w i place in-work fit m low (g .over-sound);
+        together = omega arith;
+        room = rw length-put (g .room);
+        rest = drop-set-lt (4 * m) (set work at (toBits binary32 w)) (at + 1) i (omega arith) ∙ drop-set-lt (4 * m) work at (toBits binary32 w) (omega arith) ∙ g .rest;
+      })
+
+stacks-none : (m : ℕ) (work : List ℕ) (bs : List Bin) → 4 * m ≤ length work → Stacks m (drop (4 * m) work) (record { bins = bs; under = []; over = [] }) work 0 0
+unfolding stackAt
+stacks-none m work bs h =
+    record {
+      under-are = refl;
+      over-are = refl;
+      under-sound = λ k l. absurd (omega arith);
+      over-sound = λ k l. absurd (omega arith);
+      together = omega arith;
+      room = h;
+      rest = refl;
+    }
+
+-- the top of each stack taken
+popped : {m : ℕ} {workRest : List ℕ} {s : State} {work : List ℕ} (a b : ℕ) (bs : List Bin) → Stacks m workRest s work (suc a) (suc b)
+    → Stacks m workRest (record { bins = bs; under = stackAt 0 work a; over = stackAt (2 * m) work b }) work a b
+popped a b bs g =
+    record {
+      under-are = refl;
+      over-are = refl;
+      under-sound = λ k l. g .under-sound k (omega arith);
+      over-sound = λ k l. g .over-sound k (omega arith);
+      together = omega (arith, g .together);
+      room = g .room;
+      rest = g .rest;
+    }
+
+-- ---- a turn
+
+-- what the over bin has left
+abbrev pub left : List ℕ → ℕ → ℕ → Float
+left work u o = single (getD work u 0) ⊕ single (getD work o 0) ⊖ one
+
+-- the settled bin's words
+abbrev pub settled : List ℕ → List ℕ → ℕ → ℕ → List ℕ
+settled bins work u o = set (set bins (3 * getD work (u + 1) 0) (getD work u 0)) (3 * getD work (u + 1) 0 + 2) (getD work (o + 1) 0)
+
+module _ {m : ℕ} {binsRest workRest : List ℕ} {s : State} {bins work : List ℕ} (a b : ℕ) (g : Game m binsRest workRest s bins work (suc a) (suc b)) where
+  bs : List Bin
+  bs = update (s .bins) (getD work (2 * a + 1) 0) (settle (single (getD work (2 * a) 0)) (getD work (2 * m + 2 * b + 1) 0))
+
+  turned-is : turn s ≡ push (record { weight = left work (2 * a) (2 * m + 2 * b); index = getD work (2 * m + 2 * b + 1) 0 })
+      (record { bins = bs; under = stackAt 0 work a; over = stackAt (2 * m) work b })
+  unfolding bs turned stackAt
+  turned-is = rw (← g .stacks .under-are, ← g .stacks .over-are, zero-add)
+
+  low-index : getD work (2 * a + 1) 0 < m
+  low-index = rw zero-add at (g .stacks .under-sound a (omega arith) .0)
+
+  low-over : getD work (2 * m + 2 * b + 1) 0 < m
+  low-over = g .stacks .over-sound b (omega arith) .0
+
+  own-word : toBits binary32 (single (getD work (2 * a) 0)) ≡ getD work (2 * a) 0
+  own-word = rw zero-add at (g .stacks .under-sound a (omega arith) .1)
+
+  settled-is : settled bins work (2 * a) (2 * m + 2 * b) ≡ binWords bs ++ binsRest
+  unfolding bs
+  settled-is =
+      rw (g .bins-are)
+      (rw own-word at (settle-words (s .bins) (getD work (2 * a + 1) 0) (single (getD work (2 * a) 0)) (getD work (2 * m + 2 * b + 1) 0) binsRest
+      (rw (g .count) low-index)))
+
+  count-is : length bs ≡ m
+  unfolding bs
+  count-is = length-update (s .bins) (getD work (2 * a + 1) 0) (settle (single (getD work (2 * a) 0)) (getD work (2 * m + 2 * b + 1) 0)) ∙ g .count
+
+  under-turn : lt (left work (2 * a) (2 * m + 2 * b)) one ≡ true
+      → Game m binsRest workRest (turn s) (settled bins work (2 * a) (2 * m + 2 * b))
+        (put work (2 * a) (left work (2 * a) (2 * m + 2 * b)) (getD work (2 * m + 2 * b + 1) 0)) (suc a) b
+  under-turn l =
+      let w = left work (2 * a) (2 * m + 2 * b) in
+      let i = getD work (2 * m + 2 * b + 1) 0 in
+      let next : State = record { bins = bs; under = stackAt 0 work a; over = stackAt (2 * m) work b } in
+      let e : Entry = record { weight = w; index = i } in
+      let is : push e next ≡ record { bins = bs; under = e ∷ stackAt 0 work a; over = stackAt (2 * m) work b } = under-push e next l in
+      rw turned-is
+      (record {
+        bins-are = settled-is ∙ ap (λ (t : State). binWords (t .bins) ++ binsRest) (sym is);
+        count = ap (λ (t : State). length (t .bins)) is ∙ count-is;
+        stacks = stacks-under (popped a b bs (g .stacks)) w i (sub-fits binary32 _ one) low-over (omega (arith, g .stacks .together)) (2 * a) refl l;
+      })
+
+  over-turn : lt (left work (2 * a) (2 * m + 2 * b)) one ≡ false
+      → Game m binsRest workRest (turn s) (settled bins work (2 * a) (2 * m + 2 * b))
+        (put work (2 * m + 2 * b) (left work (2 * a) (2 * m + 2 * b)) (getD work (2 * m + 2 * b + 1) 0)) a (suc b)
+  over-turn l =
+      let w = left work (2 * a) (2 * m + 2 * b) in
+      let i = getD work (2 * m + 2 * b + 1) 0 in
+      let next : State = record { bins = bs; under = stackAt 0 work a; over = stackAt (2 * m) work b } in
+      let e : Entry = record { weight = w; index = i } in
+      let is : push e next ≡ record { bins = bs; under = stackAt 0 work a; over = e ∷ stackAt (2 * m) work b } = over-push e next l in
+      rw turned-is
+      (record {
+        bins-are = settled-is ∙ ap (λ (t : State). binWords (t .bins) ++ binsRest) (sym is);
+        count = ap (λ (t : State). length (t .bins)) is ∙ count-is;
+        stacks = stacks-over (popped a b bs (g .stacks)) w i (sub-fits binary32 _ one) low-over (omega (arith, g .stacks .together)) (2 * m + 2 * b) refl l;
+      })
+
+-- the same by the heights
+module _ {m : ℕ} {binsRest workRest : List ℕ} {s : State} {bins work : List ℕ} (nu no : ℕ) (g : Game m binsRest workRest s bins work nu no)
+    (u : 0 < nu) (o : 0 < no) where
+  pub turn-under : lt (left work (2 * (nu - 1)) (2 * m + 2 * (no - 1))) one ≡ true
+      → Game m binsRest workRest (turn s) (settled bins work (2 * (nu - 1)) (2 * m + 2 * (no - 1)))
+        (put work (2 * (nu - 1)) (left work (2 * (nu - 1)) (2 * m + 2 * (no - 1))) (getD work (2 * m + 2 * (no - 1) + 1) 0)) nu (no - 1)
+  turn-under l =
+      let e : suc (nu - 1) ≡ nu = omega arith in
+      let f : suc (no - 1) ≡ no = omega arith in
+      let g′ : Game m binsRest workRest s bins work (suc (nu - 1)) (suc (no - 1)) = rw (e, f) g in
+      rw e at (under-turn (nu - 1) (no - 1) g′ l)
+
+  pub turn-over : lt (left work (2 * (nu - 1)) (2 * m + 2 * (no - 1))) one ≡ false
+      → Game m binsRest workRest (turn s) (settled bins work (2 * (nu - 1)) (2 * m + 2 * (no - 1)))
+        (put work (2 * m + 2 * (no - 1)) (left work (2 * (nu - 1)) (2 * m + 2 * (no - 1))) (getD work (2 * m + 2 * (no - 1) + 1) 0)) (nu - 1) no
+  turn-over l =
+      let e : suc (nu - 1) ≡ nu = omega arith in
+      let f : suc (no - 1) ≡ no = omega arith in
+      let g′ : Game m binsRest workRest s bins work (suc (nu - 1)) (suc (no - 1)) = rw (e, f) g in
+      rw f at (over-turn (nu - 1) (no - 1) g′ l)
+
+-- a game on its way to its last state: as many turns are left as bins, at least
+pub record Reached (m : ℕ) (binsRest workRest : List ℕ) (last : State) (bins work : List ℕ) (under over : ℕ) : Type 0 where
+  pub state : State
+  pub to-go : ℕ
+  pub enough : under + over ≤ to-go
+  pub then : turns to-go state ≡ last
+  pub game : Game m binsRest workRest state bins work under over
+
+pub reached-none : {m : ℕ} {binsRest workRest : List ℕ} {s : State} {bins work : List ℕ} {nu no : ℕ} → Game m binsRest workRest s bins work nu no
+    → Reached m binsRest workRest (turns m s) bins work nu no
+reached-none {m} {s = s} g = record { state = s; to-go = m; enough = g .stacks .together; then = refl; game = g }
+
+pub reached-next : {m : ℕ} {binsRest workRest : List ℕ} {last : State} {bins work bins′ work′ : List ℕ} {nu no nu′ no′ : ℕ}
+    (r : Reached m binsRest workRest last bins work nu no) → nu′ + no′ < nu + no → Game m binsRest workRest (turn (r .state)) bins′ work′ nu′ no′
+    → Reached m binsRest workRest last bins′ work′ nu′ no′
+unfolding turns
+reached-next {m} {binsRest} {workRest} {last} {bins} {work} {bins′} {work′} {nu} {no} {nu′} {no′} r less g = go (r .to-go) (r .enough) (r .then)
+  where
+    go : (k : ℕ) → nu + no ≤ k → turns k (r .state) ≡ last → Reached m binsRest workRest last bins′ work′ nu′ no′
+    go zero h t = absurd (omega arith)
+    go (suc k) h t = record { state = turn (r .state); to-go = k; enough = omega arith; then = t; game = g }
+
+pub reached-last : {m : ℕ} {binsRest workRest : List ℕ} {last : State} {bins work : List ℕ} {nu no : ℕ} → Reached m binsRest workRest last bins work nu no
+    → (nu ≡ 0) ⊎ (no ≡ 0) → Game m binsRest workRest last bins work nu no
+unfolding stackAt
+reached-last {m} {binsRest} {workRest} {last} {bins} {work} {nu} {no} r h =
+    subst (λ (t : State). Game m binsRest workRest t bins work nu no) (sym (turns-stay (r .to-go) (r .state) (⊎-elim under over h)) ∙ r .then) (r .game)
+  where
+    under : nu ≡ 0 → (r .state .under ≡ []) ⊎ (r .state .over ≡ [])
+    under e = inl (sym (r .game .stacks .under-are) ∙ rw e)
+
+    over : no ≡ 0 → (r .state .under ≡ []) ⊎ (r .state .over ≡ [])
+    over e = inr (sym (r .game .stacks .over-are) ∙ rw e)
+
+-- ---- the start
+
+abbrev startWith : Float → List Float → State
+startWith sum ws =
+    pushAll (ofInt binary32 (pos (length ws))) 0 (map (bin sum) ws) (record { bins = map (bin sum) ws; under = []; over = [] })
+
+-- a weight's share, and what it is pushed with
+abbrev pub share : List Float → Float → ℕ → Float
+share ws sum i = getD ws i zerof ⊘ sum
+
+abbrev pub hat : List Float → Float → ℕ → Float
+hat ws sum i = share ws sum i ⊗ ofInt binary32 (pos (length ws))
+
+-- a bin's words at the start
+abbrev pub fresh : List Float → Float → ℕ → List ℕ
+fresh ws sum i = 0 ∷ toBits binary32 (share ws sum i) ∷ none ∷ []
+
+zero-word : toBits binary32 zerof ≡ 0
+unfolding toBits ofBits
+zero-word = refl
+
+-- the first i bins written and pushed
+pub record Starting (ws : List Float) (sum : Float) (bins₀ work₀ bins work : List ℕ) (under over i : ℕ) : Type 0 where
+  pub all : under + over ≡ i
+  pub some : i ≤ length ws
+  pub bins-are : Copied (binWords (map (bin sum) ws)) bins₀ (3 * i) bins
+  pub same : length work ≡ length work₀
+  pub state : State
+  pub stacks : Stacks (length ws) (drop (4 * length ws) work₀) state work under over
+  pub then : pushAll (ofInt binary32 (pos (length ws))) i (drop i (map (bin sum) ws)) state ≡ startWith sum ws
+
+pub starting-none : (ws : List Float) (sum : Float) (bins work : List ℕ) → 4 * length ws ≤ length work → Starting ws sum bins work bins work 0 0 0
+starting-none ws sum bins work h =
+    record {
+      all = refl;
+      some = omega arith;
+      bins-are = copied-none;
+      same = refl;
+      state = record { bins = map (bin sum) ws; under = []; over = [] };
+      stacks = stacks-none (length ws) work (map (bin sum) ws) h;
+      then = refl;
+    }
+
+module _ {ws : List Float} {sum : Float} {bins₀ work₀ bins work : List ℕ} {under over i : ℕ} (g : Starting ws sum bins₀ work₀ bins work under over i)
+    (h : i < length ws) (room : 3 * length ws ≤ length bins₀) where
+  next-bin : drop i (map (bin sum) ws) ≡ record { q = zerof; p = share ws sum i; alias = none } ∷ drop (i + 1) (map (bin sum) ws)
+  next-bin =
+      drop-cons (map (bin sum) ws) i (bin sum zerof) (rw length-map h)
+      ∙ rw (add-one, List·getD-map (bin sum) ws i zerof)
+
+  fresh-is : take 3 (drop (3 * i) (binWords (map (bin sum) ws))) ≡ fresh ws sum i
+  unfolding binWords
+  fresh-is = rw (drop-binWords, next-bin, zero-word)
+
+  next-copied : Copied (binWords (map (bin sum) ws)) bins₀ (3 * (i + 1)) (sets bins (3 * i) (fresh ws sum i))
+  next-copied =
+      let e : 3 * i + 3 ≡ 3 * (i + 1) = omega arith in
+      let fit : 3 * i + 3 ≤ length (binWords (map (bin sum) ws)) = rw (length-binWords, length-map) (omega arith) in
+      rw e at (copied-run (fresh ws sum i) (g .bins-are) fresh-is fit (omega arith))
+
+  next-pushed : pushAll (ofInt binary32 (pos (length ws))) (i + 1) (drop (i + 1) (map (bin sum) ws)) (push (record { weight = hat ws sum i; index = i }) (g .state))
+      ≡ startWith sum ws
+  unfolding pushAll
+  next-pushed = rw add-one (rw (next-bin, add-one) at (g .then))
+
+  pub starting-under : lt (hat ws sum i) one ≡ true
+      → Starting ws sum bins₀ work₀ (sets bins (3 * i) (fresh ws sum i)) (put work (2 * under) (hat ws sum i) i) (under + 1) over (i + 1)
+  starting-under l =
+      record {
+        all = omega (arith, g .all);
+        some = omega arith;
+        bins-are = next-copied;
+        same = length-put work (2 * under) (hat ws sum i) i ∙ g .same;
+        state = push (record { weight = hat ws sum i; index = i }) (g .state);
+        stacks = rw (add-one under) (stacks-under (g .stacks) (hat ws sum i) i (mul-fits binary32 _ _) h (omega (arith, g .all)) (2 * under) refl l);
+        then = next-pushed;
+      }
+
+  pub starting-over : lt (hat ws sum i) one ≡ false
+      → Starting ws sum bins₀ work₀ (sets bins (3 * i) (fresh ws sum i)) (put work (2 * length ws + 2 * over) (hat ws sum i) i) under (over + 1) (i + 1)
+  starting-over l =
+      record {
+        all = omega (arith, g .all);
+        some = omega arith;
+        bins-are = next-copied;
+        same = length-put work (2 * length ws + 2 * over) (hat ws sum i) i ∙ g .same;
+        state = push (record { weight = hat ws sum i; index = i }) (g .state);
+        stacks = rw (add-one over) (stacks-over (g .stacks) (hat ws sum i) i (mul-fits binary32 _ _) h (omega (arith, g .all)) (2 * length ws + 2 * over) refl l);
+        then = next-pushed;
+      }
+
+pub starting-all : {ws : List Float} {sum : Float} {bins₀ work₀ bins work : List ℕ} {under over i : ℕ} → Starting ws sum bins₀ work₀ bins work under over i
+    → length ws ≤ i → sum ≡ total ws → Started ws bins₀ work₀ bins work under over
+unfolding start pushAll
+starting-all {ws} {sum} {bins₀} {work₀} {bins} {work} {under} {over} {i} g h t =
+    let e : i ≡ length ws = omega (arith, g .some) in
+    let none-left : drop i (map (bin sum) ws) ≡ [] = drop-of-length-le (map (bin sum) ws) {i = i} (rw length-map h) in
+    let all-words : take (3 * i) (binWords (map (bin sum) ws)) ≡ binWords (map (bin sum) ws) =
+          take-all (3 * i) (binWords (map (bin sum) ws)) (rw (length-binWords, length-map) (omega arith)) in
+    let is : g .state ≡ start ws = rw (none-left, t) at (g .then) in
+    record {
+      bins-are = rw (start-bins, ← t, ← e) (rw all-words at (g .bins-are .is));
+      count = rw start-bins (length-map ws (bin (total ws)));
+      stacks = rw is at (g .stacks);
+    }
+
+-- ---- what is left over
+
+-- one more is whole
+pub whole-next : (bs : List Bin) (binsRest bins work : List ℕ) (base k : ℕ) → bins ≡ binWords (leftover (stackAt base work k) bs) ++ binsRest
+    → getD work (base + 2 * k + 1) 0 < length bs
+    → set bins (3 * getD work (base + 2 * k + 1) 0) 0x3f80_0000 ≡ binWords (leftover (stackAt base work (k + 1)) bs) ++ binsRest
+unfolding leftover stackAt
+whole-next bs binsRest bins work base k e h =
+    rw (e, add-one k) (whole-words (leftover (stackAt base work k) bs) (getD work (base + 2 * k + 1) 0) binsRest (rw length-leftover h))
+
+module _ {m : ℕ} {binsRest workRest : List ℕ} {s : State} {bins work : List ℕ} {nu no : ℕ} (g : Game m binsRest workRest s bins work nu no) where
+  pub left-under : Left bins work 0 nu
+  left-under = (s .bins, binsRest, g .bins-are, rw (g .count) (g .stacks .under-sound), omega (arith, g .stacks .room, g .stacks .together))
+
+  pub wholed-under : {bins′ : List ℕ} → Wholed bins work 0 nu bins′ → bins′ ≡ binWords (leftover (s .under) (s .bins)) ++ binsRest
+  wholed-under w = rw (← g .stacks .under-are) (w (s .bins) binsRest (g .bins-are) (rw (g .count) (g .stacks .under-sound)))
+
+  over-count : length (leftover (s .under) (s .bins)) ≡ m
+  over-count = length-leftover (s .under) (s .bins) ∙ g .count
+
+  pub left-over : {bins′ : List ℕ} → bins′ ≡ binWords (leftover (s .under) (s .bins)) ++ binsRest → Left bins′ work (2 * m) no
+  left-over e =
+      (leftover (s .under) (s .bins), binsRest, e, rw over-count (g .stacks .over-sound), omega (arith, g .stacks .room, g .stacks .together))
+
+  pub wholed-over : {bins′ bins″ : List ℕ} → bins′ ≡ binWords (leftover (s .under) (s .bins)) ++ binsRest → Wholed bins′ work (2 * m) no bins″
+      → bins″ ≡ binWords (finish s) ++ binsRest
+  wholed-over e w = rw (← g .stacks .over-are) (w (leftover (s .under) (s .bins)) binsRest e (rw over-count (g .stacks .over-sound)))
