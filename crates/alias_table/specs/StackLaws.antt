@@ -64,6 +64,23 @@ weights-from words i h =
 pub weights-none : (words : List ℕ) (i : ℕ) → length words ≤ i → drop i (map single words) ≡ []
 weights-none words i h = drop-of-length-le (map single words) {i = i} (rw length-map h)
 
+module _ (words : List ℕ) (i : ℕ) (s d x : Float) {last : Sums} (h : i < length words) (is : x ≡ single (getD words i 0))
+    (then : sumsFrom s d (drop i (map single words)) ≡ last) where
+  here : sumsFrom s d (x ∷ drop (i + 1) (map single words)) ≡ last
+  here = rw is (rw (weights-from words i h) at then)
+
+  -- one more weight
+  pub sums-next : lt x zerof ≡ false → lt x (inf false) ≡ true
+      → sumsFrom (add binary32 s x) (add binary64 d x) (drop (i + 1) (map single words)) ≡ last
+  sums-next a b = sym (sums-good s d x (drop (i + 1) (map single words)) (good-between x a b)) ∙ here
+
+  pub sums-stop : bad x ≡ true → Bad ≡ last
+  sums-stop b = sym (sums-bad s d x (drop (i + 1) (map single words)) b) ∙ here
+
+pub sums-last : (words : List ℕ) (i : ℕ) (s d : Float) {last : Sums} → length words ≤ i → sumsFrom s d (drop i (map single words)) ≡ last → Of s d ≡ last
+unfolding sumsFrom anyBad sumFrom
+sums-last words i s d h then = rw (weights-none words i h) at then
+
 pub ones-from : (m i : ℕ) → i < m → replicate (m - i) one ≡ one ∷ replicate (m - (i + 1)) one
 ones-from m i h =
     let e : m - i ≡ suc (m - (i + 1)) = omega arith in
@@ -73,6 +90,15 @@ pub ones-none : (m i : ℕ) → m ≤ i → replicate (m - i) one ≡ []
 ones-none m i h =
     let e : m - i ≡ 0 = omega arith in
     rw e
+
+module _ (m i : ℕ) (s : Float) {last : Float} (then : sumFrom binary64 s (replicate (m - i) one) ≡ last) where
+  pub ones-next : i < m → sumFrom binary64 (add binary64 s one) (replicate (m - (i + 1)) one) ≡ last
+  unfolding sumFrom
+  ones-next h = rw (ones-from m i h) at then
+
+  pub ones-last : m ≤ i → s ≡ last
+  unfolding sumFrom
+  ones-last h = rw (ones-none m i h) at then
 
 pub weighted-length : (flat : Bool) (words : List ℕ) → length (weighted flat words) ≡ length words
 unfolding weighted
@@ -482,6 +508,9 @@ pub whole-next : (bs : List Bin) (binsRest bins work : List ℕ) (base k : ℕ) 
 unfolding leftover stackAt
 whole-next bs binsRest bins work base k e h =
     rw (e, add-one k) (whole-words (leftover (stackAt base work k) bs) (getD work (base + 2 * k + 1) 0) binsRest (rw length-leftover h))
+
+pub left-in : (bins work : List ℕ) (base n k : ℕ) → Left bins work base n → k < n → 3 * getD work (base + 2 * k + 1) 0 < length bins
+left-in bins work base n k (bs, rest, e, sound, room) h = rw (e, length-append, length-binWords) (omega (arith, sound k h .0))
 
 module _ {m : ℕ} {binsRest workRest : List ℕ} {s : State} {bins work : List ℕ} {nu no : ℕ} (g : Game m binsRest workRest s bins work nu no) where
   pub left-under : Left bins work 0 nu
