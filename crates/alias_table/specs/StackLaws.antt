@@ -341,6 +341,11 @@ module _ {m : ℕ} {binsRest workRest : List ℕ} {s : State} {bins work : List 
 -- the same by the heights
 module _ {m : ℕ} {binsRest workRest : List ℕ} {s : State} {bins work : List ℕ} (nu no : ℕ) (g : Game m binsRest workRest s bins work nu no)
     (u : 0 < nu) (o : 0 < no) where
+  pub settle-in : 3 * getD work (2 * (nu - 1) + 1) 0 + 2 < length bins
+  settle-in =
+      let low : getD work (2 * (nu - 1) + 1) 0 < m = rw zero-add at (g .stacks .under-sound (nu - 1) (omega arith) .0) in
+      rw (g .bins-are, length-append, length-binWords, g .count) (omega arith)
+
   pub turn-under : lt (left work (2 * (nu - 1)) (2 * m + 2 * (no - 1))) one ≡ true
       → Game m binsRest workRest (turn s) (settled bins work (2 * (nu - 1)) (2 * m + 2 * (no - 1)))
         (put work (2 * (nu - 1)) (left work (2 * (nu - 1)) (2 * m + 2 * (no - 1))) (getD work (2 * m + 2 * (no - 1) + 1) 0)) nu (no - 1)
