@@ -17,10 +17,12 @@ use lib.Ieee.Scale.{finite}
 use lib.ListN.{length, getD, set, take, drop, replicate, length-set, length-map, length-append, length-drop, length-replicate, getD-replicate, List·getD-map, drop-of-length-le}
 use lib.Seq.{sets, drop-cons, drop-set-lt, getD-set-same, getD-set-other, take-all}
 use Rattle.ieee.specs.Single.{_⊕_, _⊖_, _⊗_, _⊘_, single, zero as zerof, one}
+use Rattle.words.specs.Fill.{filled}
+use Rattle.words.specs.FillLaws.{filled-within}
 use Rattle.words.specs.Stores.{Copied, copied-none, copied-run}
 use Rattle.alias_table.specs.AliasTable.{Bin, Entry, State, none, bad, anyBad, sumFrom, total, bin, push, pushAll, start, update, settle, whole, turned, turn, turns, leftover, finish, binWords}
 use Rattle.alias_table.specs.AliasLaws.{turns-stay, start-bins, length-update, length-leftover}
-use Rattle.alias_table.specs.Stacks.{sumsFrom, weighted, entryAt, stackAt, put, Sound, Stacks, Game, Room, Started, Left, Wholed}
+use Rattle.alias_table.specs.Stacks.{sumsFrom, weighted, entryAt, stackAt, put, Sound, Stacks, Game, Room, Started, Playing, Played, Left, Wholed, played}
 use Rattle.alias_table.specs.declared.Sums.{Sums}
 use Rattle.alias_table.specs.declared.Sums.the-variants.{Of, Bad}
 
@@ -534,3 +536,26 @@ module _ {m : ℕ} {binsRest workRest : List ℕ} {s : State} {bins work : List 
   pub wholed-over : {bins′ bins″ : List ℕ} → bins′ ≡ binWords (leftover (s .under) (s .bins)) ++ binsRest → Wholed bins′ work (2 * m) no bins″
       → bins″ ≡ binWords (finish s) ++ binsRest
   wholed-over e w = rw (← g .stacks .over-are) (w (leftover (s .under) (s .bins)) binsRest e (rw over-count (g .stacks .over-sound)))
+
+-- ---- from the start to the end
+
+module _ (ws : List Float) (bins₀ work₀ : List ℕ) {bins work : List ℕ} {nu no : ℕ} (m : ℕ) (len : length ws ≡ m) (s : Started ws bins₀ work₀ bins work nu no) where
+  started : Game m (drop (3 * m) bins₀) (drop (4 * m) work₀) (start ws) bins work nu no
+  started = rw len at s
+
+  pub playing : Playing m bins work nu no
+  playing = (drop (3 * m) bins₀, drop (4 * m) work₀, start ws, started)
+
+  pub game-over : {bins′ work′ : List ℕ} {nu′ no′ : ℕ} → Played m bins work nu no bins′ work′ nu′ no′
+      → Game m (drop (3 * m) bins₀) (drop (4 * m) work₀) (turns m (start ws)) bins′ work′ nu′ no′
+  game-over p = p (drop (3 * m) bins₀) (drop (4 * m) work₀) (start ws) started
+
+pub played-is : (ws : List Float) (m : ℕ) → length ws ≡ m → finish (turns m (start ws)) ≡ played ws
+unfolding played
+played-is ws m e = rw e
+
+-- zeros in front
+pub zeroed : (l rest : List ℕ) (n : ℕ) → n ≤ length l → drop n l ≡ rest → filled l 0 n 0 ≡ replicate n 0 ++ rest
+zeroed l rest n h e =
+    let z : n - 0 ≡ n = omega arith in
+    filled-within l 0 n 0 (omega arith) h ∙ rw (z, e)
