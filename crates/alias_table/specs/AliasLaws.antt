@@ -1,15 +1,18 @@
 -- Laws of the alias table's definition, beyond the Rust: the game ends, every alias is a place or none, every bin is settled once, and an under bin's q is its
 -- weight as it was computed. Assumes nothing.
-use Prim.Native.Nat.{ℕ, zero, suc, _+_, _≤_, _<_}
+use Prim.Native.Nat.{ℕ, zero, suc, _+_, _-_, _≤_, _<_}
 use mathlib.Core.Path.{_≡_, refl, sym, ap, subst, _∙_}
 use mathlib.Core.Bool.{Bool, true, false, cond}
 use mathlib.Core.List.{List, [], _∷_, _++_, map}
-use mathlib.Core.Logic.{_⊎_, inl, inr}
+use mathlib.Core.Logic.{_⊎_, inl, inr, ⊎-elim}
+use native.Mathlib.Nat.{add-suc, zero-add, lt-of-not-le}
+use native.Mathlib.Decide.{decLe}
 use native.Mathlib.Omega.{arith}
+use borrow.Author.Tests.{eq-eqb, ne-eqb}
 use lib.Dec.{eqb}
 use lib.IntN.{pos}
 use lib.Ieee.{Float, binary32, ofInt, eq, lt}
-use lib.ListN.{length, getD, replicate, length-map, length-replicate}
+use lib.ListN.{length, getD, replicate, length-map, length-replicate, List·getD-map}
 use Rattle.ieee.specs.Single.{_⊕_, _⊖_, _⊗_, _⊘_, zero as zerof, one}
 use Rattle.alias_table.specs.AliasTable.{Bin, Entry, State, none, sumFrom, filledIn, total, bin, push, pushAll, start, update, settle, whole, turned, turn, turns, leftover, finish, table}
 
@@ -30,6 +33,45 @@ pub turns-stay : (n : ℕ) (s : State) → (s .under ≡ []) ⊎ (s .over ≡ []
 unfolding turns
 turns-stay zero s h = refl
 turns-stay (suc n) s h = rw (over-stays s h) (turns-stay n s h)
+
+-- a turn takes one out
+height-push : (e : Entry) (s : State) → length (push e s .under) + length (push e s .over) ≡ suc (length (s .under) + length (s .over))
+unfolding push
+height-push e s = go (lt (e .weight) one)
+  where
+    go : (b : Bool) → (let t = cond {A = State} b (record { bins = s .bins; under = e ∷ s .under; over = s .over }) (record { bins = s .bins; under = s .under; over = e ∷ s .over }) in length (t .under) + length (t .over)) ≡ suc (length (s .under) + length (s .over))
+    go true = omega arith
+    go false = omega arith
+
+height-pushAll : (count : Float) (i : ℕ) (bs : List Bin) (s : State)
+    → length (pushAll count i bs s .under) + length (pushAll count i bs s .over) ≡ length bs + (length (s .under) + length (s .over))
+unfolding pushAll
+height-pushAll count i [] s = omega arith
+height-pushAll count i (b ∷ bs) s =
+    let e : Entry = record { weight = b .p ⊗ count; index = i } in
+    omega (arith, height-pushAll count (suc i) bs (push e s), height-push e s)
+
+height-start : (ws : List Float) → length (start ws .under) + length (start ws .over) ≡ length ws
+unfolding start
+height-start ws =
+    height-pushAll (ofInt binary32 (pos (length ws))) 0 (map (bin (total ws)) ws) (record { bins = map (bin (total ws)) ws; under = []; over = [] })
+    ∙ omega (arith, length-map ws (bin (total ws)))
+
+ends-from : (n : ℕ) (bs : List Bin) (us os : List Entry) → length us + length os ≤ n
+    → (turns n (record { bins = bs; under = us; over = os }) .under ≡ []) ⊎ (turns n (record { bins = bs; under = us; over = os }) .over ≡ [])
+unfolding turns turned
+ends-from zero bs [] os h = inl refl
+ends-from zero bs (u ∷ us) os h = absurd (omega arith)
+ends-from (suc n) bs [] os h = inl (ap (λ (s : State). s .under) (turns-stay (suc n) (record { bins = bs; under = []; over = os }) (inl refl)))
+ends-from (suc n) bs (u ∷ us) [] h = inr (ap (λ (s : State). s .over) (turns-stay (suc n) (record { bins = bs; under = u ∷ us; over = [] }) (inr refl)))
+ends-from (suc n) bs (u ∷ us) (o ∷ os) h =
+    let e : Entry = record { weight = u .weight ⊕ o .weight ⊖ one; index = o .index } in
+    let rest : State = record { bins = update bs (u .index) (settle (u .weight) (o .index)); under = us; over = os } in
+    ends-from n (push e rest .bins) (push e rest .under) (push e rest .over) (omega (arith, height-push e rest))
+
+-- the game is over after as many turns as bins
+ends-after : (ws : List Float) (n : ℕ) → length ws ≤ n → (turns n (start ws) .under ≡ []) ⊎ (turns n (start ws) .over ≡ [])
+ends-after ws n h = ends-from n (start ws .bins) (start ws .under) (start ws .over) (omega (arith, height-start ws))
 
 -- ---- how many bins
 
@@ -88,6 +130,9 @@ filledIn-length ws = go (eq (sumFrom binary32 zerof ws) zerof)
     go true = length-replicate (length ws) one
     go false = refl
 
+pub ends : (ws : List Float) → (turns (length ws) (start (filledIn ws)) .under ≡ []) ⊎ (turns (length ws) (start (filledIn ws)) .over ≡ [])
+ends ws = ends-after (filledIn ws) (length ws) (omega (arith, filledIn-length ws))
+
 start-length : (ws : List Float) → length (start ws .bins) ≡ length ws
 start-length ws = ap (λ (l : List Bin). length l) (start-bins ws) ∙ length-map ws (bin (total ws))
 
@@ -95,3 +140,145 @@ pub table-length : (ws : List Float) → length (table ws) ≡ length ws
 unfolding table
 table-length ws =
     finish-length (turns (length ws) (start (filledIn ws))) ∙ length-turns (length ws) (start (filledIn ws)) ∙ start-length (filledIn ws) ∙ filledIn-length ws
+
+-- ---- every bin is settled once
+
+-- how often a place stands in a list
+unfoldable pub occurrences : ℕ → List ℕ → ℕ
+occurrences i [] = 0
+occurrences i (j ∷ js) = cond (eqb i j) (suc (occurrences i js)) (occurrences i js)
+
+abbrev pub places : List Entry → List ℕ
+places es = map (λ (e : Entry). e .index) es
+
+-- the place that a turn settles, if there is a turn to take
+unfoldable pub settledBy : List Entry → List Entry → List ℕ
+settledBy (u ∷ us) (o ∷ os) = u .index ∷ []
+settledBy [] os = []
+settledBy (u ∷ us) [] = []
+
+-- the places in the order in which their bins are settled: turn by turn, then what is left over
+unfoldable pub inTurns : ℕ → State → List ℕ
+inTurns zero s = places (s .under) ++ places (s .over)
+inTurns (suc n) s = settledBy (s .under) (s .over) ++ inTurns n (turn s)
+
+abbrev pub settledPlaces : List Float → List ℕ
+settledPlaces ws = inTurns (length ws) (start (filledIn ws))
+
+-- one where the places are the same
+hit : ℕ → ℕ → ℕ
+hit i j = cond (eqb i j) 1 0
+
+hit-same : (i j : ℕ) → i ≡ j → hit i j ≡ 1
+unfolding hit
+hit-same i j e = rw (eq-eqb i j e)
+
+hit-other : (i j : ℕ) → (i ≡ j → ⊥) → hit i j ≡ 0
+unfolding hit
+hit-other i j e = rw (ne-eqb i j e)
+
+occurrences-none : (i : ℕ) → occurrences i [] ≡ 0
+unfolding occurrences
+occurrences-none i = refl
+
+occurrences-cons : (i j : ℕ) (js : List ℕ) → occurrences i (j ∷ js) ≡ hit i j + occurrences i js
+unfolding occurrences hit
+occurrences-cons i j js = go (eqb i j)
+  where
+    go : (b : Bool) → cond b (suc (occurrences i js)) (occurrences i js) ≡ cond b 1 0 + occurrences i js
+    go true = omega arith
+    go false = omega arith
+
+occurrences-append : (i : ℕ) (js ks : List ℕ) → occurrences i (js ++ ks) ≡ occurrences i js + occurrences i ks
+unfolding occurrences
+occurrences-append i [] ks = sym (zero-add (occurrences i ks))
+occurrences-append i (j ∷ js) ks =
+    omega (arith, occurrences-cons i j (js ++ ks), occurrences-cons i j js, occurrences-append i js ks)
+
+-- how often a place stands on the stacks
+held : ℕ → List Entry → List Entry → ℕ
+held i us os = occurrences i (places us) + occurrences i (places os)
+
+abbrev heldIn : ℕ → State → ℕ
+heldIn i s = held i (s .under) (s .over)
+
+held-push : (i : ℕ) (e : Entry) (s : State) → heldIn i (push e s) ≡ hit i (e .index) + heldIn i s
+unfolding push held
+held-push i e s = go (lt (e .weight) one)
+  where
+    go : (b : Bool) → heldIn i (cond {A = State} b (record { bins = s .bins; under = e ∷ s .under; over = s .over }) (record { bins = s .bins; under = s .under; over = e ∷ s .over })) ≡ hit i (e .index) + heldIn i s
+    go true = omega (arith, occurrences-cons i (e .index) (places (s .under)))
+    go false = omega (arith, occurrences-cons i (e .index) (places (s .over)))
+
+held-turned : (i : ℕ) (bs : List Bin) (us os : List Entry) → heldIn i (turned bs us os) + occurrences i (settledBy us os) ≡ held i us os
+unfolding turned settledBy held
+held-turned i bs [] os = omega (arith, occurrences-none i)
+held-turned i bs (u ∷ us) [] = omega (arith, occurrences-none i)
+held-turned i bs (u ∷ us) (o ∷ os) =
+    omega (arith,
+    held-push i (record { weight = u .weight ⊕ o .weight ⊖ one; index = o .index })
+      (record { bins = update bs (u .index) (settle (u .weight) (o .index)); under = us; over = os }),
+    occurrences-none i, occurrences-cons i (u .index) [], occurrences-cons i (u .index) (places us), occurrences-cons i (o .index) (places os))
+
+held-turns : (i n : ℕ) (s : State) → heldIn i (turns n s) ≤ heldIn i s
+unfolding turns
+held-turns i zero s = omega arith
+held-turns i (suc n) s = omega (arith, held-turns i n (turn s), held-turned i (s .bins) (s .under) (s .over))
+
+held-inTurns : (i n : ℕ) (s : State) → occurrences i (inTurns n s) ≡ heldIn i s
+unfolding inTurns held
+held-inTurns i zero s = occurrences-append i (places (s .under)) (places (s .over))
+held-inTurns i (suc n) s =
+    omega (arith, occurrences-append i (settledBy (s .under) (s .over)) (inTurns n (turn s)), held-inTurns i n (turn s), held-turned i (s .bins) (s .under) (s .over))
+
+-- the places before and past the bins pushed
+held-outside : (i : ℕ) (count : Float) (j : ℕ) (bs : List Bin) (s : State) → (i < j) ⊎ (j + length bs ≤ i) → heldIn i (pushAll count j bs s) ≡ heldIn i s
+unfolding pushAll
+held-outside i count j [] s h = refl
+held-outside i count j (b ∷ bs) s h =
+    let e : Entry = record { weight = b .p ⊗ count; index = j } in
+    held-outside i count (suc j) bs (push e s) (⊎-elim (λ l. inl (omega arith)) (λ l. inr (omega arith)) h)
+    ∙ held-push i e s
+    ∙ ap (λ (n : ℕ). n + heldIn i s) (hit-other i j (λ p. ⊎-elim (λ l. omega arith) (λ l. omega arith) h))
+    ∙ zero-add (heldIn i s)
+
+-- and those of the bins
+held-inside : (i : ℕ) (count : Float) (j : ℕ) (bs : List Bin) (s : State) → j ≤ i → i < j + length bs → heldIn i (pushAll count j bs s) ≡ suc (heldIn i s)
+unfolding pushAll
+held-inside i count j [] s h k = absurd (omega arith)
+held-inside i count j (b ∷ bs) s h k =
+    go (decLe i j) (λ l. held-inside i count (suc j) bs (push (record { weight = b .p ⊗ count; index = j }) s) l (omega arith))
+  where
+    go : Dec (i ≤ j) → (j < i → heldIn i (pushAll count (suc j) bs (push (record { weight = b .p ⊗ count; index = j }) s)) ≡ suc (heldIn i (push (record { weight = b .p ⊗ count; index = j }) s))) → heldIn i (pushAll count (suc j) bs (push (record { weight = b .p ⊗ count; index = j }) s)) ≡ suc (heldIn i s)
+    go (yes l) more =
+        held-outside i count (suc j) bs (push (record { weight = b .p ⊗ count; index = j }) s) (inl (omega arith))
+        ∙ omega (arith, held-push i (record { weight = b .p ⊗ count; index = j }) s, hit-same i j (omega arith))
+    go (no n) more =
+        more (lt-of-not-le n)
+        ∙ omega (arith, held-push i (record { weight = b .p ⊗ count; index = j }) s, hit-other i j (λ p. omega (arith, lt-of-not-le n)))
+
+module _ (ws : List Float) (i : ℕ) where
+  held-none : heldIn i (record { bins = map (bin (total ws)) ws; under = []; over = [] }) ≡ 0
+  unfolding held occurrences
+  held-none = refl
+
+  held-start : i < length ws → heldIn i (start ws) ≡ 1
+  unfolding start
+  held-start h =
+      held-inside i (ofInt binary32 (pos (length ws))) 0 (map (bin (total ws)) ws) (record { bins = map (bin (total ws)) ws; under = []; over = [] })
+      (omega arith) (rw length-map (omega arith))
+      ∙ ap suc held-none
+
+  held-past : length ws ≤ i → heldIn i (start ws) ≡ 0
+  unfolding start
+  held-past h =
+      held-outside i (ofInt binary32 (pos (length ws))) 0 (map (bin (total ws)) ws) (record { bins = map (bin (total ws)) ws; under = []; over = [] })
+      (inr (rw length-map (omega arith)))
+      ∙ held-none
+
+-- every bin is settled once, and nothing else is
+pub once : (ws : List Float) (i : ℕ) → i < length ws → occurrences i (settledPlaces ws) ≡ 1
+once ws i h = held-inTurns i (length ws) (start (filledIn ws)) ∙ held-start (filledIn ws) i (rw filledIn-length h)
+
+pub no-other : (ws : List Float) (i : ℕ) → length ws ≤ i → occurrences i (settledPlaces ws) ≡ 0
+no-other ws i h = held-inTurns i (length ws) (start (filledIn ws)) ∙ held-past (filledIn ws) i (rw filledIn-length h)
