@@ -126,12 +126,12 @@ fn build(weights: &[u32], flat: bool, sum: f32, bins: &mut [u32], work: &mut [u3
     ensures { λ _. ⌜ now (bins .exit) ≡ binWords (played (weighted flat (now (weights .entry)))) ++ drop (3 * length (now (weights .entry))) (now (bins .entry)) ⌝ }
     ensures { λ _. ⌜ now (work .exit) ≡ replicate (4 * length (now (weights .entry))) 0 ++ drop (4 * length (now (weights .entry))) (now (work .entry)) ⌝ }
 {
-    let m = weights.len();
-    let h = start(weights, flat, sum, bins, work);
-    let h2 = play(m, bins, work, h.under, h.over);
-    make_whole(bins, work, 0, h2.under);
-    make_whole(bins, work, 2 * m, h2.over);
-    zero_words(work, 0, 4 * m);
+    let count = weights.len();
+    let first = start(weights, flat, sum, bins, work);
+    let last = play(count, bins, work, first.under, first.over);
+    make_whole(bins, work, 0, last.under);
+    make_whole(bins, work, 2 * count, last.over);
+    zero_words(work, 0, 4 * count);
 }
 
 // The bins with q zero and no alias, and each on its stack.
