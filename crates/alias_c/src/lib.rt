@@ -12,7 +12,11 @@ use words::refusal::refusal_number;
 
 // 0, or the refusal's number.
 #[no_mangle]
-pub extern "C" fn alias_build_power_alias_table(weights: &[u32], bins: &mut [u32], work: &mut [u32]) -> u32
+pub extern "C" fn alias_build_power_alias_table(
+    weights: &[u32],
+    bins: &mut [u32],
+    work: &mut [u32],
+) -> u32
     ensures { λ r. ⌜ r ≡ code (buildPowerAliasTable (now (weights .entry)) (length (now (bins .entry))) (length (now (work .entry)))) ⌝ }
     ensures { λ _. ⌜ now (bins .exit) ≡ tray binWords (3 * length (now (weights .entry))) (buildPowerAliasTable (now (weights .entry)) (length (now (bins .entry))) (length (now (work .entry)))) (now (bins .entry)) ⌝ }
     ensures { λ _. ⌜ now (work .exit) ≡ tray (λ (bs : List Bin). []) (4 * length (now (weights .entry))) (buildPowerAliasTable (now (weights .entry)) (length (now (bins .entry))) (length (now (work .entry)))) (now (work .entry)) ⌝ }

@@ -106,7 +106,7 @@ length-turned bs [] os = refl
 length-turned bs (u ∷ us) [] = refl
 length-turned bs (u ∷ us) (o ∷ os) =
     ap (λ (l : List Bin). length l) (push-bins (record { weight = u .weight ⊕ o .weight ⊖ one; index = o .index })
-      (record { bins = update bs (u .index) (settle (u .weight) (o .index)); under = us; over = os }))
+    (record { bins = update bs (u .index) (settle (u .weight) (o .index)); under = us; over = os }))
     ∙ length-update bs (u .index) (settle (u .weight) (o .index))
 
 length-turns : (n : ℕ) (s : State) → length (turns n s .bins) ≡ length (s .bins)
@@ -215,10 +215,15 @@ unfolding turned settledBy held
 held-turned i bs [] os = omega (arith, occurrences-none i)
 held-turned i bs (u ∷ us) [] = omega (arith, occurrences-none i)
 held-turned i bs (u ∷ us) (o ∷ os) =
-    omega (arith,
-    held-push i (record { weight = u .weight ⊕ o .weight ⊖ one; index = o .index })
-      (record { bins = update bs (u .index) (settle (u .weight) (o .index)); under = us; over = os }),
-    occurrences-none i, occurrences-cons i (u .index) [], occurrences-cons i (u .index) (places us), occurrences-cons i (o .index) (places os))
+    omega (
+      arith,
+      held-push i (record { weight = u .weight ⊕ o .weight ⊖ one; index = o .index })
+          (record { bins = update bs (u .index) (settle (u .weight) (o .index)); under = us; over = os }),
+      occurrences-none i,
+      occurrences-cons i (u .index) [],
+      occurrences-cons i (u .index) (places us),
+      occurrences-cons i (o .index) (places os),
+    )
 
 held-turns : (i n : ℕ) (s : State) → heldIn i (turns n s) ≤ heldIn i s
 unfolding turns
@@ -462,7 +467,7 @@ module _ (bs : List Bin) (us′ os′ : List Entry) (u o : Entry) (us os : List 
   unfolding settledBy
   settled-out h =
       let one-out : occurrences (u .index) (settledBy us′ os′) ≡ 1 =
-            rw (eu, eo) (omega (arith, occurrences-cons (u .index) (u .index) [], occurrences-none (u .index), hit-same (u .index) (u .index) refl)) in
+      rw (eu, eo) (omega (arith, occurrences-cons (u .index) (u .index) [], occurrences-none (u .index), hit-same (u .index) (u .index) refl)) in
       omega (arith, h, held-turned (u .index) bs us′ os′)
 
 -- the state after n turns
@@ -486,8 +491,12 @@ module _ (ws : List Float) (n : ℕ) (u o : Entry) (us os : List Entry) (eu : af
       go : Dec (length ws ≤ u .index) → u .index < length ws
       go (no l) = lt-of-not-le l
       go (yes l) =
-          absurd (omega (arith, held-past (filledIn ws) (u .index) (rw filledIn-length l), held-turns (u .index) n (start (filledIn ws)),
-          held-once (after n ws .bins) _ _ u o us os eu eo))
+          absurd (omega (
+            arith,
+            held-past (filledIn ws) (u .index) (rw filledIn-length l),
+            held-turns (u .index) n (start (filledIn ws)),
+            held-once (after n ws .bins) _ _ u o us os eu eo,
+          ))
 
   out : heldIn (u .index) (turn (after n ws)) ≡ 0
   out =
@@ -504,7 +513,7 @@ module _ (ws : List Float) (n : ℕ) (u o : Entry) (us os : List Entry) (eu : af
       ∙ turns-there (u .index) k (turn (after n ws)) out
       ∙ ap (λ (l : List Bin). binAt l (u .index)) (settled-bins (after n ws .bins) _ _ u o us os eu eo)
       ∙ update-here (after n ws .bins) (u .index) (settle (u .weight) (o .index))
-        (omega (arith, low, length-turns n (start (filledIn ws)), start-length (filledIn ws), filledIn-length ws))
+      (omega (arith, low, length-turns n (start (filledIn ws)), start-length (filledIn ws), filledIn-length ws))
 
 -- q of a bin that a turn settles is its weight as computed, and its alias is the other's place
 pub settled-q : (ws : List Float) (n : ℕ) (u o : Entry) (us os : List Entry) → turns n (start (filledIn ws)) .under ≡ u ∷ us

@@ -310,7 +310,7 @@ module _ {m : ℕ} {binsRest workRest : List ℕ} {s : State} {bins work : List 
 
   under-turn : lt (left work (2 * a) (2 * m + 2 * b)) one ≡ true
       → Game m binsRest workRest (turn s) (settled bins work (2 * a) (2 * m + 2 * b))
-        (put work (2 * a) (left work (2 * a) (2 * m + 2 * b)) (getD work (2 * m + 2 * b + 1) 0)) (suc a) b
+      (put work (2 * a) (left work (2 * a) (2 * m + 2 * b)) (getD work (2 * m + 2 * b + 1) 0)) (suc a) b
   under-turn l =
       let w = left work (2 * a) (2 * m + 2 * b) in
       let i = getD work (2 * m + 2 * b + 1) 0 in
@@ -326,7 +326,7 @@ module _ {m : ℕ} {binsRest workRest : List ℕ} {s : State} {bins work : List 
 
   over-turn : lt (left work (2 * a) (2 * m + 2 * b)) one ≡ false
       → Game m binsRest workRest (turn s) (settled bins work (2 * a) (2 * m + 2 * b))
-        (put work (2 * m + 2 * b) (left work (2 * a) (2 * m + 2 * b)) (getD work (2 * m + 2 * b + 1) 0)) a (suc b)
+      (put work (2 * m + 2 * b) (left work (2 * a) (2 * m + 2 * b)) (getD work (2 * m + 2 * b + 1) 0)) a (suc b)
   over-turn l =
       let w = left work (2 * a) (2 * m + 2 * b) in
       let i = getD work (2 * m + 2 * b + 1) 0 in
@@ -350,7 +350,7 @@ module _ {m : ℕ} {binsRest workRest : List ℕ} {s : State} {bins work : List 
 
   pub turn-under : lt (left work (2 * (nu - 1)) (2 * m + 2 * (no - 1))) one ≡ true
       → Game m binsRest workRest (turn s) (settled bins work (2 * (nu - 1)) (2 * m + 2 * (no - 1)))
-        (put work (2 * (nu - 1)) (left work (2 * (nu - 1)) (2 * m + 2 * (no - 1))) (getD work (2 * m + 2 * (no - 1) + 1) 0)) nu (no - 1)
+      (put work (2 * (nu - 1)) (left work (2 * (nu - 1)) (2 * m + 2 * (no - 1))) (getD work (2 * m + 2 * (no - 1) + 1) 0)) nu (no - 1)
   turn-under l =
       let e : suc (nu - 1) ≡ nu = omega arith in
       let f : suc (no - 1) ≡ no = omega arith in
@@ -359,7 +359,7 @@ module _ {m : ℕ} {binsRest workRest : List ℕ} {s : State} {bins work : List 
 
   pub turn-over : lt (left work (2 * (nu - 1)) (2 * m + 2 * (no - 1))) one ≡ false
       → Game m binsRest workRest (turn s) (settled bins work (2 * (nu - 1)) (2 * m + 2 * (no - 1)))
-        (put work (2 * m + 2 * (no - 1)) (left work (2 * (nu - 1)) (2 * m + 2 * (no - 1))) (getD work (2 * m + 2 * (no - 1) + 1) 0)) (nu - 1) no
+      (put work (2 * m + 2 * (no - 1)) (left work (2 * (nu - 1)) (2 * m + 2 * (no - 1))) (getD work (2 * m + 2 * (no - 1) + 1) 0)) (nu - 1) no
   turn-over l =
       let e : suc (nu - 1) ≡ nu = omega arith in
       let f : suc (no - 1) ≡ no = omega arith in
@@ -498,7 +498,7 @@ starting-all {ws} {sum} {bins₀} {work₀} {bins} {work} {under} {over} {i} g h
     let e : i ≡ length ws = omega (arith, g .some) in
     let none-left : drop i (map (bin sum) ws) ≡ [] = drop-of-length-le (map (bin sum) ws) {i = i} (rw length-map h) in
     let all-words : take (3 * i) (binWords (map (bin sum) ws)) ≡ binWords (map (bin sum) ws) =
-          take-all (3 * i) (binWords (map (bin sum) ws)) (rw (length-binWords, length-map) (omega arith)) in
+    take-all (3 * i) (binWords (map (bin sum) ws)) (rw (length-binWords, length-map) (omega arith)) in
     let is : g .state ≡ start ws = rw (none-left, t) at (g .then) in
     record {
       bins-are = rw (start-bins, ← t, ← e) (rw all-words at (g .bins-are .is));

@@ -12,12 +12,12 @@ ghost use Rattle.ieee.specs.Narrow.{narrow as narrowed};
 ghost use Rattle.words.specs.Tray.{tray};
 ghost use Rattle.alias_table.specs.AliasTable.{Bin, sumFrom, total as totalOf, buildPowerAliasTable, binWords, count, tabled};
 ghost use Rattle.alias_table.specs.Stacks.{sumsOf, weighted, played, put, Room, Started, Playing, Played, Left, Wholed};
-use words::refusal::Refusal;
-use words::floats::f32_of_word;
-use words::floats::word_of_f32;
-use words::fill::zero_words;
 use floats::narrow::narrow;
 use floats::narrow::widen;
+use words::fill::zero_words;
+use words::floats::f32_of_word;
+use words::floats::word_of_f32;
+use words::refusal::Refusal;
 
 // How many bins were written, or why none.
 pub enum AliasTable {
@@ -96,7 +96,11 @@ fn add_up(weights: &[u32]) -> Sums
 fn total(flat: bool, double: f64, m: usize) -> f32
     ensures { λ r. ⌜ r ≡ narrowed (cond flat (sumFrom binary64 zerof (replicate m one)) double) ⌝ }
 {
-    if flat { narrow(ones(m)) } else { narrow(double) }
+    if flat {
+        narrow(ones(m))
+    } else {
+        narrow(double)
+    }
 }
 
 fn ones(m: usize) -> f64
@@ -206,7 +210,10 @@ fn play(m: usize, bins: &mut [u32], work: &mut [u32], under: usize, over: usize)
             nu -= 1;
         }
     }
-    Heights { under: nu, over: no }
+    Heights {
+        under: nu,
+        over: no,
+    }
 }
 
 // What an over bin has left beside an under one.

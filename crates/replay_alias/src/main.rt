@@ -39,7 +39,11 @@ fn answer(case: &[u32], bins: &mut [u32], work: &mut [u32]) -> u32 {
     if work.len() < work_room {
         return 255;
     }
-    table(&case[4..end], &mut bins[..bins_room], &mut work[..work_room])
+    table(
+        &case[4..end],
+        &mut bins[..bins_room],
+        &mut work[..work_room],
+    )
 }
 
 // Whether the n words stored from a place on are those given.

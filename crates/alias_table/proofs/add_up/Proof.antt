@@ -50,11 +50,12 @@ loop-less c = search needs
 
 loop-again : tie.Need-loop-again Inv-loop μ-loop
 unfolding ofBits div
-loop-again c =
-    (omega arith,
-    rw (c .widen .ensures)
-    (sums-next (now (c .before .before .before .before .before .before .before .before .args .weights)) (c .before .before .before .before .before .before .loop .i) (c .before .before .before .before .before .before .loop .single) (c .before .before .before .before .before .before .loop .double) (c .before .before .before .f32-of-word .result) (omega arith) (c .before .before .before .f32-of-word .ensures) (c .before .before .before .before .before .before .loop .inv .1)
-    (c .before .before .if1 .left) (c .before .if2 .taken)))
+loop-again c = (
+  omega arith,
+  rw (c .widen .ensures)
+      (sums-next (now (c .before .before .before .before .before .before .before .before .args .weights)) (c .before .before .before .before .before .before .loop .i) (c .before .before .before .before .before .before .loop .single) (c .before .before .before .before .before .before .loop .double) (c .before .before .before .f32-of-word .result) (omega arith) (c .before .before .before .f32-of-word .ensures) (c .before .before .before .before .before .before .loop .inv .1)
+      (c .before .before .if1 .left) (c .before .if2 .taken)),
+)
 
 returns-2 : tie.Need-returns-2 Inv-loop μ-loop
 unfolding ofBits div

@@ -56,9 +56,10 @@ returns c =
     let ws = weighted (c .before .before .before .before .before .before .before .before .before .before .before .before .before .before .before .before .before .before .before .before .before .before .before .before .before .before .before .before .before .before .before .args .flat) words in
     let len = weighted-length (c .before .before .before .before .before .before .before .before .before .before .before .before .before .before .before .before .before .before .before .before .before .before .before .before .before .before .before .before .before .before .before .args .flat) words in
     let g = game-over ws (now (c .before .before .before .before .before .before .before .before .before .before .before .before .before .before .before .before .before .before .before .before .before .before .before .before .before .before .before .before .before .before .before .args .bins)) (now (c .before .before .before .before .before .before .before .before .before .before .before .before .before .before .before .before .before .before .before .before .before .before .before .before .before .before .before .before .before .before .before .args .work)) (length words) len (c .before .before .before .before .before .before .before .before .before .before .before .before .before .before .before .before .before .before .before .before .before .before .before .before .before .start .ensures) (c .before .before .before .before .before .before .before .before .before .before .before .before .before .before .before .before .before .before .play .ensures) in
-    let under = wholed-under g (c .before .before .before .before .before .before .before .before .before .before .before .make-whole .ensures) in
-    (rw (← played-is ws (length words) len) (wholed-over g under (c .before .before .before .before .before .before .make-whole2 .ensures)),
-    c .before .before .zero-words .ensures ∙ zeroed _ _ (4 * length words) (g .stacks .room) (g .stacks .rest))
+    let under = wholed-under g (c .before .before .before .before .before .before .before .before .before .before .before .make-whole .ensures) in (
+      rw (← played-is ws (length words) len) (wholed-over g under (c .before .before .before .before .before .before .make-whole2 .ensures)),
+      c .before .before .zero-words .ensures ∙ zeroed _ _ (4 * length words) (g .stacks .room) (g .stacks .rest),
+    )
 
 pub build-spec : {M : Type 1} → statement M
 build-spec =

@@ -42,9 +42,10 @@ total-requires : tie.Need-total-requires
 total-requires c κs = search needs
 
 build-requires : tie.Need-build-requires
-build-requires c κs =
-    (record { few = c .before .before .before .before .before .before .before .before .before .if1 .left; bins-room = c .before .before .before .before .before .before .before .before .if2 .left; work-room = c .before .before .before .before .before .before .before .if3 .left },
-    c .before .before .total .ensures ∙ total-is (now (c .before .before .before .before .before .before .before .before .before .before .before .before .before .args .weights)) (c .before .before .before .before .s .given .0 .0) (c .before .before .before .before .s .given .0 .1 .0) (sym (c .before .before .before .before .s .given .1) ∙ c .before .before .before .before .before .before .add-up .ensures))
+build-requires c κs = (
+  record { few = c .before .before .before .before .before .before .before .before .before .if1 .left; bins-room = c .before .before .before .before .before .before .before .before .if2 .left; work-room = c .before .before .before .before .before .before .before .if3 .left },
+  c .before .before .total .ensures ∙ total-is (now (c .before .before .before .before .before .before .before .before .before .before .before .before .before .args .weights)) (c .before .before .before .before .s .given .0 .0) (c .before .before .before .before .s .given .0 .1 .0) (sym (c .before .before .before .before .s .given .1) ∙ c .before .before .before .before .before .before .add-up .ensures),
+)
 
 enum-told : tie.Need-enum-told
 enum-told c = search needs
@@ -72,10 +73,13 @@ returns-4 c =
     let words = now (c .before .before .before .before .before .before .before .before .before .before .before .before .before .before .before .before .before .before .args .weights) in
     let of = sym (c .before .before .before .before .before .before .before .before .before .s .given .1) ∙ c .before .before .before .before .before .before .before .before .before .before .before .add-up .ensures in
     let len = played-length words (c .before .before .before .before .before .before .before .before .before .s .given .0 .0) (c .before .before .before .before .before .before .before .before .before .s .given .0 .1 .0) of in
-    rw (answer-given (now (c .before .before .before .before .before .before .before .before .before .before .before .before .before .before .before .before .before .before .args .weights)) (length (now (c .before .before .before .before .before .before .before .before .before .before .before .before .before .before .before .before .before .before .args .bins))) (length (now (c .before .before .before .before .before .before .before .before .before .before .before .before .before .before .before .before .before .before .args .work))) (c .before .before .before .before .before .before .before .before .before .s .given .0 .0) (c .before .before .before .before .before .before .before .before .before .s .given .0 .1 .0) (c .before .before .before .before .before .before .before .before .before .before .before .before .before .before .if1 .left) (c .before .before .before .before .before .before .before .before .before .before .before .before .before .if2 .left) (c .before .before .before .before .before .before .before .before .before .before .before .before .if3 .left) of)
-    (rw len refl,
-    (c .before .before .before .before .build .ensures .0 ∙ tray-bins _ (length words) (now (c .before .before .before .before .before .before .before .before .before .before .before .before .before .before .before .before .before .before .args .bins)) len,
-    c .before .before .before .before .build .ensures .1 ∙ tray-work _ (4 * length words) (now (c .before .before .before .before .before .before .before .before .before .before .before .before .before .before .before .before .before .before .args .work))))
+    rw (answer-given (now (c .before .before .before .before .before .before .before .before .before .before .before .before .before .before .before .before .before .before .args .weights)) (length (now (c .before .before .before .before .before .before .before .before .before .before .before .before .before .before .before .before .before .before .args .bins))) (length (now (c .before .before .before .before .before .before .before .before .before .before .before .before .before .before .before .before .before .before .args .work))) (c .before .before .before .before .before .before .before .before .before .s .given .0 .0) (c .before .before .before .before .before .before .before .before .before .s .given .0 .1 .0) (c .before .before .before .before .before .before .before .before .before .before .before .before .before .before .if1 .left) (c .before .before .before .before .before .before .before .before .before .before .before .before .before .if2 .left) (c .before .before .before .before .before .before .before .before .before .before .before .before .if3 .left) of) (
+      rw len refl,
+      (
+        c .before .before .before .before .build .ensures .0 ∙ tray-bins _ (length words) (now (c .before .before .before .before .before .before .before .before .before .before .before .before .before .before .before .before .before .before .args .bins)) len,
+        c .before .before .before .before .build .ensures .1 ∙ tray-work _ (4 * length words) (now (c .before .before .before .before .before .before .before .before .before .before .before .before .before .before .before .before .before .before .args .work)),
+      ),
+    )
 
 same-length-3 : tie.Need-same-length-3
 same-length-3 c = search needs
@@ -85,10 +89,13 @@ same-length-4 c = search needs
 
 returns-5 : tie.Need-returns-5
 returns-5 c =
-    rw (answer-bad (now (c .before .before .before .before .before .before .before .before .before .before .before .before .before .before .before .before .before .args .weights)) (length (now (c .before .before .before .before .before .before .before .before .before .before .before .before .before .before .before .before .before .args .bins))) (length (now (c .before .before .before .before .before .before .before .before .before .before .before .before .before .before .before .before .before .args .work))) (c .before .before .before .before .before .before .before .before .before .before .before .before .before .if1 .left) (c .before .before .before .before .before .before .before .before .before .before .before .before .if2 .left) (c .before .before .before .before .before .before .before .before .before .before .before .if3 .left) (sym (c .before .before .before .before .before .before .before .before .enum-told .given .1) ∙ c .before .before .before .before .before .before .before .before .before .before .add-up .ensures))
-    (refl,
-    (c .before .before .before .before .before .before .zero-words .ensures ∙ tray-zeroed binWords (now (c .before .before .before .before .before .before .before .before .before .before .before .before .before .before .before .before .before .args .bins)) (3 * length (now (c .before .before .before .before .before .before .before .before .before .before .before .before .before .before .before .before .before .args .weights))) (c .before .before .before .before .before .before .before .before .before .before .before .before .if2 .left),
-    c .before .before .zero-words2 .ensures ∙ tray-zeroed (λ (x : List Bin). []) (now (c .before .before .before .before .before .before .before .before .before .before .before .before .before .before .before .before .before .args .work)) (4 * length (now (c .before .before .before .before .before .before .before .before .before .before .before .before .before .before .before .before .before .args .weights))) (c .before .before .before .before .before .before .before .before .before .before .before .if3 .left)))
+    rw (answer-bad (now (c .before .before .before .before .before .before .before .before .before .before .before .before .before .before .before .before .before .args .weights)) (length (now (c .before .before .before .before .before .before .before .before .before .before .before .before .before .before .before .before .before .args .bins))) (length (now (c .before .before .before .before .before .before .before .before .before .before .before .before .before .before .before .before .before .args .work))) (c .before .before .before .before .before .before .before .before .before .before .before .before .before .if1 .left) (c .before .before .before .before .before .before .before .before .before .before .before .before .if2 .left) (c .before .before .before .before .before .before .before .before .before .before .before .if3 .left) (sym (c .before .before .before .before .before .before .before .before .enum-told .given .1) ∙ c .before .before .before .before .before .before .before .before .before .before .add-up .ensures)) (
+      refl,
+      (
+        c .before .before .before .before .before .before .zero-words .ensures ∙ tray-zeroed binWords (now (c .before .before .before .before .before .before .before .before .before .before .before .before .before .before .before .before .before .args .bins)) (3 * length (now (c .before .before .before .before .before .before .before .before .before .before .before .before .before .before .before .before .before .args .weights))) (c .before .before .before .before .before .before .before .before .before .before .before .before .if2 .left),
+        c .before .before .zero-words2 .ensures ∙ tray-zeroed (λ (x : List Bin). []) (now (c .before .before .before .before .before .before .before .before .before .before .before .before .before .before .before .before .before .args .work)) (4 * length (now (c .before .before .before .before .before .before .before .before .before .before .before .before .before .before .before .before .before .args .weights))) (c .before .before .before .before .before .before .before .before .before .before .before .if3 .left),
+      ),
+    )
 
 pub build-power-alias-table-spec : {M : Type 1} → statement M
 build-power-alias-table-spec =

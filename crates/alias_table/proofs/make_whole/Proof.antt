@@ -57,12 +57,13 @@ loop-less c = omega arith
 loop-again : tie.Need-loop-again Inv-loop μ-loop
 loop-again c =
     let inv = c .before .before .loop .inv in
-    let k = c .before .before .loop .k in
-    (omega arith,
-    simp length-set (inv .1),
-    λ bs rest e s.
-      whole-next bs rest (c .before .before .loop .bins) (now (c .before .before .before .args .work)) (c .before .before .before .args .base) k
-      (inv .2 bs rest e (λ j l. s j (omega arith))) (s k (omega arith) .0))
+    let k = c .before .before .loop .k in (
+      omega arith,
+      simp length-set (inv .1),
+      λ bs rest e s.
+          whole-next bs rest (c .before .before .loop .bins) (now (c .before .before .before .args .work)) (c .before .before .before .args .base) k
+          (inv .2 bs rest e (λ j l. s j (omega arith))) (s k (omega arith) .0),
+    )
 
 same-length : tie.Need-same-length Inv-loop μ-loop
 same-length c = omega arith

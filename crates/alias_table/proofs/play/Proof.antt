@@ -75,7 +75,7 @@ slice-read-settle : tie.Need-slice-read-settle Inv-loop μ-loop
 slice-read-settle c = omega arith
 
 settle-requires : tie.Need-settle-requires Inv-loop μ-loop
-settle-requires c κs =     settle-in (c .before .before .before .before .before .before .before .before .loop .nu) (c .before .before .before .before .before .before .before .before .loop .no) (c .before .before .before .before .before .before .before .before .loop .inv .4 (c .before .before .before .before .before .before .before .before .before .before .before .pre .0) (c .before .before .before .before .before .before .before .before .before .before .before .pre .1) (c .before .before .before .before .before .before .before .before .before .before .before .pre .2) (c .before .before .before .before .before .before .before .before .before .before .before .pre .3) .game) (omega arith) (omega arith)
+settle-requires c κs = settle-in (c .before .before .before .before .before .before .before .before .loop .nu) (c .before .before .before .before .before .before .before .before .loop .no) (c .before .before .before .before .before .before .before .before .loop .inv .4 (c .before .before .before .before .before .before .before .before .before .before .before .pre .0) (c .before .before .before .before .before .before .before .before .before .before .before .pre .1) (c .before .before .before .before .before .before .before .before .before .before .before .pre .2) (c .before .before .before .before .before .before .before .before .before .before .before .pre .3) .game) (omega arith) (omega arith)
 
 put-entry-requires : tie.Need-put-entry-requires Inv-loop μ-loop
 put-entry-requires c κs = omega arith
@@ -88,16 +88,17 @@ loop-less c = omega arith
 
 loop-again : tie.Need-loop-again Inv-loop μ-loop
 loop-again c =
-    let inv = c .before .before .before .before .before .before .before .before .before .before .before .before .before .before .before .before .loop .inv in
-    (omega arith,
-    omega arith,
-    omega arith,
-    omega arith,
-    λ binsRest workRest s g.
-      let r = inv .4 binsRest workRest s g in
-      rw (c .before .before .put-entry .ensures, c .before .before .before .before .before .before .before .settle .ensures, c .before .before .before .before .before .before .before .before .before .before .joint .ensures)
-      (reached-next r (omega arith) (turn-under (c .before .before .before .before .before .before .before .before .before .before .before .before .before .before .before .before .loop .nu) (c .before .before .before .before .before .before .before .before .before .before .before .before .before .before .before .before .loop .no) (r .game) (omega arith) (omega arith)
-      (rw (c .before .before .before .before .before .before .before .before .before .before .joint .ensures) at (c .before .before .before .before .if2 .taken)))))
+    let inv = c .before .before .before .before .before .before .before .before .before .before .before .before .before .before .before .before .loop .inv in (
+      omega arith,
+      omega arith,
+      omega arith,
+      omega arith,
+      λ binsRest workRest s g.
+          let r = inv .4 binsRest workRest s g in
+          rw (c .before .before .put-entry .ensures, c .before .before .before .before .before .before .before .settle .ensures, c .before .before .before .before .before .before .before .before .before .before .joint .ensures)
+          (reached-next r (omega arith) (turn-under (c .before .before .before .before .before .before .before .before .before .before .before .before .before .before .before .before .loop .nu) (c .before .before .before .before .before .before .before .before .before .before .before .before .before .before .before .before .loop .no) (r .game) (omega arith) (omega arith)
+          (rw (c .before .before .before .before .before .before .before .before .before .before .joint .ensures) at (c .before .before .before .before .if2 .taken)))),
+    )
 
 put-entry-requires-2 : tie.Need-put-entry-requires-2 Inv-loop μ-loop
 put-entry-requires-2 c κs = omega arith
@@ -110,16 +111,17 @@ loop-less-2 c = omega arith
 
 loop-again-2 : tie.Need-loop-again-2 Inv-loop μ-loop
 loop-again-2 c =
-    let inv = c .before .before .before .before .before .before .before .before .before .before .before .before .before .before .before .before .loop .inv in
-    (omega arith,
-    omega arith,
-    omega arith,
-    omega arith,
-    λ binsRest workRest s g.
-      let r = inv .4 binsRest workRest s g in
-      rw (c .before .before .put-entry2 .ensures, c .before .before .before .before .before .before .before .settle .ensures, c .before .before .before .before .before .before .before .before .before .before .joint .ensures)
-      (reached-next r (omega arith) (turn-over (c .before .before .before .before .before .before .before .before .before .before .before .before .before .before .before .before .loop .nu) (c .before .before .before .before .before .before .before .before .before .before .before .before .before .before .before .before .loop .no) (r .game) (omega arith) (omega arith)
-      (rw (c .before .before .before .before .before .before .before .before .before .before .joint .ensures) at (c .before .before .before .before .if2 .left)))))
+    let inv = c .before .before .before .before .before .before .before .before .before .before .before .before .before .before .before .before .loop .inv in (
+      omega arith,
+      omega arith,
+      omega arith,
+      omega arith,
+      λ binsRest workRest s g.
+          let r = inv .4 binsRest workRest s g in
+          rw (c .before .before .put-entry2 .ensures, c .before .before .before .before .before .before .before .settle .ensures, c .before .before .before .before .before .before .before .before .before .before .joint .ensures)
+          (reached-next r (omega arith) (turn-over (c .before .before .before .before .before .before .before .before .before .before .before .before .before .before .before .before .loop .nu) (c .before .before .before .before .before .before .before .before .before .before .before .before .before .before .before .before .loop .no) (r .game) (omega arith) (omega arith)
+          (rw (c .before .before .before .before .before .before .before .before .before .before .joint .ensures) at (c .before .before .before .before .if2 .left)))),
+    )
 
 same-length : tie.Need-same-length Inv-loop μ-loop
 same-length c = omega arith

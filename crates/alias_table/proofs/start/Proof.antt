@@ -24,15 +24,16 @@ unfolding inFloat
 int-to-float-count c = rw (le-leb (length (now (c .before .before .before .before .args .weights))) (2 ^ 24) (omega (arith, c .before .before .before .before .pre))) tt
 
 loop-holds : tie.Need-loop-holds Inv-loop μ-loop
-loop-holds c =
-    (omega (arith, c .before .before .before .before .pre),
-    omega (arith, c .before .before .before .before .pre),
-    omega (arith, c .before .before .before .before .pre),
-    refl,
-    refl,
-    refl,
-    starting-none (weighted (c .before .before .before .before .args .flat) (now (c .before .before .before .before .args .weights))) (c .before .before .before .before .args .sum) (now (c .before .before .before .before .args .bins)) (now (c .before .before .before .before .args .work))
-    (rw weighted-length (omega (arith, c .before .before .before .before .pre))))
+loop-holds c = (
+  omega (arith, c .before .before .before .before .pre),
+  omega (arith, c .before .before .before .before .pre),
+  omega (arith, c .before .before .before .before .pre),
+  refl,
+  refl,
+  refl,
+  starting-none (weighted (c .before .before .before .before .args .flat) (now (c .before .before .before .before .args .weights))) (c .before .before .before .before .args .sum) (now (c .before .before .before .before .args .bins)) (now (c .before .before .before .before .args .work))
+      (rw weighted-length (omega (arith, c .before .before .before .before .pre))),
+)
 
 weight-at-requires : tie.Need-weight-at-requires Inv-loop μ-loop
 weight-at-requires c κs = omega arith
@@ -63,16 +64,17 @@ loop-less c = omega arith
 
 loop-again : tie.Need-loop-again Inv-loop μ-loop
 loop-again c =
-    let len = weighted-length (c .before .before .before .before .before .before .before .before .before .before .before .before .before .before .before .before .args .flat) (now (c .before .before .before .before .before .before .before .before .before .before .before .before .before .before .before .before .args .weights)) in
-    (omega arith,
-    omega arith,
-    omega arith,
-    omega arith,
-    omega arith,
-    omega arith,
-    rw (c .before .before .put-entry .ensures, c .before .before .before .before .before .before .before .put-bin .ensures, c .before .before .before .before .before .before .before .before .before .weight-at .ensures)
-    (rw len at (starting-under (c .before .before .before .before .before .before .before .before .before .before .before .loop .inv .6) (rw len (omega arith)) (rw len (omega arith))
-    (rw len (rw (c .before .before .before .before .before .before .before .before .before .weight-at .ensures) at (c .before .before .before .before .if1 .taken))))))
+    let len = weighted-length (c .before .before .before .before .before .before .before .before .before .before .before .before .before .before .before .before .args .flat) (now (c .before .before .before .before .before .before .before .before .before .before .before .before .before .before .before .before .args .weights)) in (
+      omega arith,
+      omega arith,
+      omega arith,
+      omega arith,
+      omega arith,
+      omega arith,
+      rw (c .before .before .put-entry .ensures, c .before .before .before .before .before .before .before .put-bin .ensures, c .before .before .before .before .before .before .before .before .before .weight-at .ensures)
+          (rw len at (starting-under (c .before .before .before .before .before .before .before .before .before .before .before .loop .inv .6) (rw len (omega arith)) (rw len (omega arith))
+          (rw len (rw (c .before .before .before .before .before .before .before .before .before .weight-at .ensures) at (c .before .before .before .before .if1 .taken))))),
+    )
 
 mul-put-entry-2 : tie.Need-mul-put-entry-2 Inv-loop μ-loop
 mul-put-entry-2 c = omega arith
@@ -100,16 +102,17 @@ loop-less-2 c = omega arith
 
 loop-again-2 : tie.Need-loop-again-2 Inv-loop μ-loop
 loop-again-2 c =
-    let len = weighted-length (c .before .before .before .before .before .before .before .before .before .before .before .before .before .before .before .before .args .flat) (now (c .before .before .before .before .before .before .before .before .before .before .before .before .before .before .before .before .args .weights)) in
-    (omega arith,
-    omega arith,
-    omega arith,
-    omega arith,
-    omega arith,
-    omega arith,
-    rw (c .before .before .put-entry2 .ensures, c .before .before .before .before .before .before .before .put-bin .ensures, c .before .before .before .before .before .before .before .before .before .weight-at .ensures)
-    (rw len at (starting-over (c .before .before .before .before .before .before .before .before .before .before .before .loop .inv .6) (rw len (omega arith)) (rw len (omega arith))
-    (rw len (rw (c .before .before .before .before .before .before .before .before .before .weight-at .ensures) at (c .before .before .before .before .if1 .left))))))
+    let len = weighted-length (c .before .before .before .before .before .before .before .before .before .before .before .before .before .before .before .before .args .flat) (now (c .before .before .before .before .before .before .before .before .before .before .before .before .before .before .before .before .args .weights)) in (
+      omega arith,
+      omega arith,
+      omega arith,
+      omega arith,
+      omega arith,
+      omega arith,
+      rw (c .before .before .put-entry2 .ensures, c .before .before .before .before .before .before .before .put-bin .ensures, c .before .before .before .before .before .before .before .before .before .weight-at .ensures)
+          (rw len at (starting-over (c .before .before .before .before .before .before .before .before .before .before .before .loop .inv .6) (rw len (omega arith)) (rw len (omega arith))
+          (rw len (rw (c .before .before .before .before .before .before .before .before .before .weight-at .ensures) at (c .before .before .before .before .if1 .left))))),
+    )
 
 same-length : tie.Need-same-length Inv-loop μ-loop
 same-length c = omega arith
