@@ -75,7 +75,7 @@ ends-after ws n h = ends-from n (start ws .bins) (start ws .under) (start ws .ov
 
 -- ---- how many bins
 
-push-bins : (e : Entry) (s : State) → push e s .bins ≡ s .bins
+pub push-bins : (e : Entry) (s : State) → push e s .bins ≡ s .bins
 unfolding push
 push-bins e s = go (lt (e .weight) one)
   where

@@ -21,8 +21,8 @@ use Rattle.words.specs.Fill.{filled}
 use Rattle.words.specs.FillLaws.{filled-within}
 use Rattle.words.specs.Stores.{Copied, copied-none, copied-run}
 use Rattle.alias_table.specs.AliasTable.{Bin, Entry, State, none, bad, anyBad, sumFrom, total, bin, push, pushAll, start, update, settle, whole, turned, turn, turns, leftover, finish, binWords}
-use Rattle.alias_table.specs.AliasLaws.{turns-stay, start-bins, length-update, length-leftover}
-use Rattle.alias_table.specs.Stacks.{sumsFrom, weighted, entryAt, stackAt, put, Sound, Stacks, Game, Room, Started, Playing, Played, Left, Wholed, played}
+use Rattle.alias_table.specs.AliasLaws.{turns-stay, push-bins, start-bins, length-update, length-leftover}
+use Rattle.alias_table.specs.Stacks.{sumsFrom, weighted, entryAt, stackAt, put, top, Sound, Stacks, Game, Room, Started, Playing, Played, Left, Wholed, played}
 use Rattle.alias_table.specs.declared.Sums.{Sums}
 use Rattle.alias_table.specs.declared.Sums.the-variants.{Of, Bad}
 
@@ -207,39 +207,47 @@ over-push : (e : Entry) (s : State) → lt (e .weight) one ≡ false → push e 
 unfolding push
 over-push e s h = rw h
 
+drop-put : (n : ℕ) (work : List ℕ) (at : ℕ) (w : Float) (i : ℕ) → at + 1 < n → drop n (put work at w i) ≡ drop n work
+drop-put n work at w i h =
+    drop-set-lt n (set work at (toBits binary32 w)) (at + 1) i h ∙ drop-set-lt n work at (toBits binary32 w) (omega arith)
+
 module _ {m : ℕ} {workRest : List ℕ} {s : State} {work : List ℕ} {under over : ℕ} (g : Stacks m workRest s work under over) (w : Float) (i : ℕ)
     (fit : T (fits binary32 w)) (low : i < m) (more : under + over < m) where
-  pub stacks-under : (at : ℕ) → 2 * under ≡ at → lt w one ≡ true
-      → Stacks m workRest (push (record { weight = w; index = i }) s) (put work at w i) (suc under) over
-  stacks-under at e l =
-      let place : 0 + 2 * under ≡ at = omega arith in
+  entry : Entry
+  entry = record { weight = w; index = i }
+
+  -- an entry pushed, and its words put on top of its stack
+  pub stacks-push : (below : Bool) → lt w one ≡ below
+      → Stacks m workRest (push (record { weight = w; index = i }) s) (put work (top m under over below) w i) (cond below (under + 1) under) (cond below over (over + 1))
+  unfolding entry
+  stacks-push true l =
+      let at = 2 * under in
+      let place : 0 + 2 * under ≡ at = zero-add (2 * under) in
       let in-work : at + 1 < length work = omega (arith, g .room) in
       let out : Same (2 * m) over work (put work at w i) = put-same (2 * m) over work at w i (inl (omega arith)) in
-      subst (λ (t : State). Stacks m workRest t (put work at w i) (suc under) over) (sym (under-push (record { weight = w; index = i }) s l))
+      rw (under-push entry s l, add-one under)
       (record {
-        under-are = stack-put 0 under work at w i place in-work fit ∙ ap (λ (es : List Entry). record { weight = w; index = i } ∷ es) (g .under-are);
+        under-are = stack-put 0 under work at w i place in-work fit ∙ ap (λ (es : List Entry). entry ∷ es) (g .under-are);
         over-are = stack-same (2 * m) over work (put work at w i) out ∙ g .over-are;
         under-sound = sound-put 0 under work at w i place in-work fit m low (g .under-sound);
         over-sound = sound-same m (2 * m) over work (put work at w i) out (g .over-sound);
         together = omega arith;
         room = rw length-put (g .room);
-        rest = drop-set-lt (4 * m) (set work at (toBits binary32 w)) (at + 1) i (omega arith) ∙ drop-set-lt (4 * m) work at (toBits binary32 w) (omega arith) ∙ g .rest;
+        rest = drop-put (4 * m) work at w i (omega arith) ∙ g .rest;
       })
-
-  pub stacks-over : (at : ℕ) → 2 * m + 2 * over ≡ at → lt w one ≡ false
-      → Stacks m workRest (push (record { weight = w; index = i }) s) (put work at w i) under (suc over)
-  stacks-over at place l =
+  stacks-push false l =
+      let at = 2 * m + 2 * over in
       let in-work : at + 1 < length work = omega (arith, g .room) in
       let out : Same 0 under work (put work at w i) = put-same 0 under work at w i (inr (omega arith)) in
-      subst (λ (t : State). Stacks m workRest t (put work at w i) under (suc over)) (sym (over-push (record { weight = w; index = i }) s l))
+      rw (over-push entry s l, add-one over)
       (record {
         under-are = stack-same 0 under work (put work at w i) out ∙ g .under-are;
-        over-are = stack-put (2 * m) over work at w i place in-work fit ∙ ap (λ (es : List Entry). record { weight = w; index = i } ∷ es) (g .over-are);
+        over-are = stack-put (2 * m) over work at w i refl in-work fit ∙ ap (λ (es : List Entry). entry ∷ es) (g .over-are);
         under-sound = sound-same m 0 under work (put work at w i) out (g .under-sound);
-        over-sound = sound-put (2 * m) over work at w i place in-work fit m low (g .over-sound);
+        over-sound = sound-put (2 * m) over work at w i refl in-work fit m low (g .over-sound);
         together = omega arith;
         room = rw length-put (g .room);
-        rest = drop-set-lt (4 * m) (set work at (toBits binary32 w)) (at + 1) i (omega arith) ∙ drop-set-lt (4 * m) work at (toBits binary32 w) (omega arith) ∙ g .rest;
+        rest = drop-put (4 * m) work at w i (omega arith) ∙ g .rest;
       })
 
 stacks-none : (m : ℕ) (work : List ℕ) (bs : List Bin) → 4 * m ≤ length work → Stacks m (drop (4 * m) work) (record { bins = bs; under = []; over = [] }) work 0 0
@@ -256,9 +264,9 @@ stacks-none m work bs h =
     }
 
 -- the top of each stack taken
-popped : {m : ℕ} {workRest : List ℕ} {s : State} {work : List ℕ} (a b : ℕ) (bs : List Bin) → Stacks m workRest s work (suc a) (suc b)
-    → Stacks m workRest (record { bins = bs; under = stackAt 0 work a; over = stackAt (2 * m) work b }) work a b
-popped a b bs g =
+popped : {m : ℕ} {workRest : List ℕ} {s : State} {work : List ℕ} (un ov : ℕ) (bs : List Bin) → Stacks m workRest s work un ov
+    → Stacks m workRest (record { bins = bs; under = stackAt 0 work (un - 1); over = stackAt (2 * m) work (ov - 1) }) work (un - 1) (ov - 1)
+popped un ov bs g =
     record {
       under-are = refl;
       over-are = refl;
@@ -269,7 +277,21 @@ popped a b bs g =
       rest = g .rest;
     }
 
+stack-top : (base : ℕ) (work : List ℕ) (n : ℕ) → 0 < n → stackAt base work n ≡ entryAt base work (n - 1) ∷ stackAt base work (n - 1)
+unfolding stackAt
+stack-top base work zero h = absurd (omega arith)
+stack-top base work (suc n) h =
+    let e : suc n - 1 ≡ n = omega arith in
+    rw e
+
 -- ---- a turn
+
+-- where the tops of the stacks stand
+abbrev pub underTop : ℕ → ℕ
+underTop un = 2 * (un - 1)
+
+abbrev pub overTop : ℕ → ℕ → ℕ
+overTop m ov = 2 * m + 2 * (ov - 1)
 
 -- what the over bin has left
 abbrev pub left : List ℕ → ℕ → ℕ → Float
@@ -279,92 +301,59 @@ left work u o = single (getD work u 0) ⊕ single (getD work o 0) ⊖ one
 abbrev pub settled : List ℕ → List ℕ → ℕ → ℕ → List ℕ
 settled bins work u o = set (set bins (3 * getD work (u + 1) 0) (getD work u 0)) (3 * getD work (u + 1) 0 + 2) (getD work (o + 1) 0)
 
-module _ {m : ℕ} {binsRest workRest : List ℕ} {s : State} {bins work : List ℕ} (a b : ℕ) (g : Game m binsRest workRest s bins work (suc a) (suc b)) where
+module _ {m : ℕ} {binsRest workRest : List ℕ} {s : State} {bins work : List ℕ} (un ov : ℕ) (g : Game m binsRest workRest s bins work un ov)
+    (u : 0 < un) (o : 0 < ov) where
+  index : ℕ
+  index = getD work (underTop un + 1) 0
+
+  weight : Float
+  weight = single (getD work (underTop un) 0)
+
+  other : ℕ
+  other = getD work (overTop m ov + 1) 0
+
   bs : List Bin
-  bs = update (s .bins) (getD work (2 * a + 1) 0) (settle (single (getD work (2 * a) 0)) (getD work (2 * m + 2 * b + 1) 0))
+  unfolding index weight other
+  bs = update (s .bins) index (settle weight other)
 
-  turned-is : turn s ≡ push (record { weight = left work (2 * a) (2 * m + 2 * b); index = getD work (2 * m + 2 * b + 1) 0 })
-      (record { bins = bs; under = stackAt 0 work a; over = stackAt (2 * m) work b })
-  unfolding bs turned stackAt
-  turned-is = rw (← g .stacks .under-are, ← g .stacks .over-are, zero-add)
+  turned-is : turn s ≡ push (record { weight = left work (underTop un) (overTop m ov); index = getD work (overTop m ov + 1) 0 })
+      (record { bins = bs; under = stackAt 0 work (un - 1); over = stackAt (2 * m) work (ov - 1) })
+  unfolding bs turned
+  turned-is = rw (← g .stacks .under-are, ← g .stacks .over-are, stack-top 0 work un u, stack-top (2 * m) work ov o, zero-add)
 
-  low-index : getD work (2 * a + 1) 0 < m
-  low-index = rw zero-add at (g .stacks .under-sound a (omega arith) .0)
+  low-index : getD work (underTop un + 1) 0 < m
+  low-index = rw zero-add at (g .stacks .under-sound (un - 1) (omega arith) .0)
 
-  low-over : getD work (2 * m + 2 * b + 1) 0 < m
-  low-over = g .stacks .over-sound b (omega arith) .0
-
-  own-word : toBits binary32 (single (getD work (2 * a) 0)) ≡ getD work (2 * a) 0
-  own-word = rw zero-add at (g .stacks .under-sound a (omega arith) .1)
-
-  settled-is : settled bins work (2 * a) (2 * m + 2 * b) ≡ binWords bs ++ binsRest
+  settled-is : settled bins work (underTop un) (overTop m ov) ≡ binWords bs ++ binsRest
   unfolding bs
   settled-is =
-      rw (g .bins-are)
-      (rw own-word at (settle-words (s .bins) (getD work (2 * a + 1) 0) (single (getD work (2 * a) 0)) (getD work (2 * m + 2 * b + 1) 0) binsRest
-      (rw (g .count) low-index)))
+      let own-word : toBits binary32 weight ≡ getD work (underTop un) 0 = rw zero-add at (g .stacks .under-sound (un - 1) (omega arith) .1) in
+      rw (g .bins-are) (rw own-word at (settle-words (s .bins) index weight other binsRest (rw (g .count) low-index)))
 
   count-is : length bs ≡ m
   unfolding bs
-  count-is = length-update (s .bins) (getD work (2 * a + 1) 0) (settle (single (getD work (2 * a) 0)) (getD work (2 * m + 2 * b + 1) 0)) ∙ g .count
+  count-is = length-update (s .bins) index (settle weight other) ∙ g .count
 
-  under-turn : lt (left work (2 * a) (2 * m + 2 * b)) one ≡ true
-      → Game m binsRest workRest (turn s) (settled bins work (2 * a) (2 * m + 2 * b))
-      (put work (2 * a) (left work (2 * a) (2 * m + 2 * b)) (getD work (2 * m + 2 * b + 1) 0)) (suc a) b
-  under-turn l =
-      let w = left work (2 * a) (2 * m + 2 * b) in
-      let i = getD work (2 * m + 2 * b + 1) 0 in
-      let next : State = record { bins = bs; under = stackAt 0 work a; over = stackAt (2 * m) work b } in
-      let e : Entry = record { weight = w; index = i } in
-      let is : push e next ≡ record { bins = bs; under = e ∷ stackAt 0 work a; over = stackAt (2 * m) work b } = under-push e next l in
+  pub settle-in : 3 * getD work (underTop un + 1) 0 + 2 < length bins
+  settle-in = rw (g .bins-are, length-append, length-binWords, g .count) (omega (arith, low-index))
+
+  pub turn-next : (below : Bool) → lt (left work (underTop un) (overTop m ov)) one ≡ below
+      → Game m binsRest workRest (turn s) (settled bins work (underTop un) (overTop m ov))
+      (put work (top m (un - 1) (ov - 1) below) (left work (underTop un) (overTop m ov)) (getD work (overTop m ov + 1) 0))
+      (cond below un (un - 1)) (cond below (ov - 1) ov)
+  turn-next below l =
+      let next : State = record { bins = bs; under = stackAt 0 work (un - 1); over = stackAt (2 * m) work (ov - 1) } in
+      let e : Entry = record { weight = left work (underTop un) (overTop m ov); index = getD work (overTop m ov + 1) 0 } in
+      let back-under : un - 1 + 1 ≡ un = omega arith in
+      let back-over : ov - 1 + 1 ≡ ov = omega arith in
       rw turned-is
       (record {
-        bins-are = settled-is ∙ ap (λ (t : State). binWords (t .bins) ++ binsRest) (sym is);
-        count = ap (λ (t : State). length (t .bins)) is ∙ count-is;
-        stacks = stacks-under (popped a b bs (g .stacks)) w i (sub-fits binary32 _ one) low-over (omega (arith, g .stacks .together)) (2 * a) refl l;
+        bins-are = settled-is ∙ ap (λ (l : List Bin). binWords l ++ binsRest) (sym (push-bins e next));
+        count = ap (λ (l : List Bin). length l) (push-bins e next) ∙ count-is;
+        stacks =
+            rw (back-under, back-over) at (stacks-push (popped un ov bs (g .stacks)) (e .weight) (e .index) (sub-fits binary32 _ one)
+            (g .stacks .over-sound (ov - 1) (omega arith) .0) (omega (arith, g .stacks .together)) below l);
       })
-
-  over-turn : lt (left work (2 * a) (2 * m + 2 * b)) one ≡ false
-      → Game m binsRest workRest (turn s) (settled bins work (2 * a) (2 * m + 2 * b))
-      (put work (2 * m + 2 * b) (left work (2 * a) (2 * m + 2 * b)) (getD work (2 * m + 2 * b + 1) 0)) a (suc b)
-  over-turn l =
-      let w = left work (2 * a) (2 * m + 2 * b) in
-      let i = getD work (2 * m + 2 * b + 1) 0 in
-      let next : State = record { bins = bs; under = stackAt 0 work a; over = stackAt (2 * m) work b } in
-      let e : Entry = record { weight = w; index = i } in
-      let is : push e next ≡ record { bins = bs; under = stackAt 0 work a; over = e ∷ stackAt (2 * m) work b } = over-push e next l in
-      rw turned-is
-      (record {
-        bins-are = settled-is ∙ ap (λ (t : State). binWords (t .bins) ++ binsRest) (sym is);
-        count = ap (λ (t : State). length (t .bins)) is ∙ count-is;
-        stacks = stacks-over (popped a b bs (g .stacks)) w i (sub-fits binary32 _ one) low-over (omega (arith, g .stacks .together)) (2 * m + 2 * b) refl l;
-      })
-
--- the same by the heights
-module _ {m : ℕ} {binsRest workRest : List ℕ} {s : State} {bins work : List ℕ} (nu no : ℕ) (g : Game m binsRest workRest s bins work nu no)
-    (u : 0 < nu) (o : 0 < no) where
-  pub settle-in : 3 * getD work (2 * (nu - 1) + 1) 0 + 2 < length bins
-  settle-in =
-      let low : getD work (2 * (nu - 1) + 1) 0 < m = rw zero-add at (g .stacks .under-sound (nu - 1) (omega arith) .0) in
-      rw (g .bins-are, length-append, length-binWords, g .count) (omega arith)
-
-  pub turn-under : lt (left work (2 * (nu - 1)) (2 * m + 2 * (no - 1))) one ≡ true
-      → Game m binsRest workRest (turn s) (settled bins work (2 * (nu - 1)) (2 * m + 2 * (no - 1)))
-      (put work (2 * (nu - 1)) (left work (2 * (nu - 1)) (2 * m + 2 * (no - 1))) (getD work (2 * m + 2 * (no - 1) + 1) 0)) nu (no - 1)
-  turn-under l =
-      let e : suc (nu - 1) ≡ nu = omega arith in
-      let f : suc (no - 1) ≡ no = omega arith in
-      let g′ : Game m binsRest workRest s bins work (suc (nu - 1)) (suc (no - 1)) = rw (e, f) g in
-      rw e at (under-turn (nu - 1) (no - 1) g′ l)
-
-  pub turn-over : lt (left work (2 * (nu - 1)) (2 * m + 2 * (no - 1))) one ≡ false
-      → Game m binsRest workRest (turn s) (settled bins work (2 * (nu - 1)) (2 * m + 2 * (no - 1)))
-      (put work (2 * m + 2 * (no - 1)) (left work (2 * (nu - 1)) (2 * m + 2 * (no - 1))) (getD work (2 * m + 2 * (no - 1) + 1) 0)) (nu - 1) no
-  turn-over l =
-      let e : suc (nu - 1) ≡ nu = omega arith in
-      let f : suc (no - 1) ≡ no = omega arith in
-      let g′ : Game m binsRest workRest s bins work (suc (nu - 1)) (suc (no - 1)) = rw (e, f) g in
-      rw f at (over-turn (nu - 1) (no - 1) g′ l)
 
 -- a game on its way to its last state: as many turns are left as bins, at least
 pub record Reached (m : ℕ) (binsRest workRest : List ℕ) (last : State) (bins work : List ℕ) (under over : ℕ) : Type 0 where
@@ -374,44 +363,83 @@ pub record Reached (m : ℕ) (binsRest workRest : List ℕ) (last : State) (bins
   pub then : turns to-go state ≡ last
   pub game : Game m binsRest workRest state bins work under over
 
-pub reached-none : {m : ℕ} {binsRest workRest : List ℕ} {s : State} {bins work : List ℕ} {nu no : ℕ} → Game m binsRest workRest s bins work nu no
-    → Reached m binsRest workRest (turns m s) bins work nu no
-reached-none {m} {s = s} g = record { state = s; to-go = m; enough = g .stacks .together; then = refl; game = g }
-
-pub reached-next : {m : ℕ} {binsRest workRest : List ℕ} {last : State} {bins work bins′ work′ : List ℕ} {nu no nu′ no′ : ℕ}
-    (r : Reached m binsRest workRest last bins work nu no) → nu′ + no′ < nu + no → Game m binsRest workRest (turn (r .state)) bins′ work′ nu′ no′
-    → Reached m binsRest workRest last bins′ work′ nu′ no′
+reached-next : {m : ℕ} {binsRest workRest : List ℕ} {last : State} {bins work bins′ work′ : List ℕ} {un ov un′ ov′ : ℕ}
+    (r : Reached m binsRest workRest last bins work un ov) → un′ + ov′ < un + ov → Game m binsRest workRest (turn (r .state)) bins′ work′ un′ ov′
+    → Reached m binsRest workRest last bins′ work′ un′ ov′
 unfolding turns
-reached-next {m} {binsRest} {workRest} {last} {bins} {work} {bins′} {work′} {nu} {no} {nu′} {no′} r less g = go (r .to-go) (r .enough) (r .then)
+reached-next {m} {binsRest} {workRest} {last} {bins} {work} {bins′} {work′} {un} {ov} {un′} {ov′} r less g = go (r .to-go) (r .enough) (r .then)
   where
-    go : (k : ℕ) → nu + no ≤ k → turns k (r .state) ≡ last → Reached m binsRest workRest last bins′ work′ nu′ no′
+    go : (k : ℕ) → un + ov ≤ k → turns k (r .state) ≡ last → Reached m binsRest workRest last bins′ work′ un′ ov′
     go zero h t = absurd (omega arith)
     go (suc k) h t = record { state = turn (r .state); to-go = k; enough = omega arith; then = t; game = g }
 
-pub reached-last : {m : ℕ} {binsRest workRest : List ℕ} {last : State} {bins work : List ℕ} {nu no : ℕ} → Reached m binsRest workRest last bins work nu no
-    → (nu ≡ 0) ⊎ (no ≡ 0) → Game m binsRest workRest last bins work nu no
+reached-last : {m : ℕ} {binsRest workRest : List ℕ} {last : State} {bins work : List ℕ} {un ov : ℕ} → Reached m binsRest workRest last bins work un ov
+    → (un ≡ 0) ⊎ (ov ≡ 0) → Game m binsRest workRest last bins work un ov
 unfolding stackAt
-reached-last {m} {binsRest} {workRest} {last} {bins} {work} {nu} {no} r h =
-    subst (λ (t : State). Game m binsRest workRest t bins work nu no) (sym (turns-stay (r .to-go) (r .state) (⊎-elim under over h)) ∙ r .then) (r .game)
+reached-last {m} {binsRest} {workRest} {last} {bins} {work} {un} {ov} r h =
+    subst (λ (t : State). Game m binsRest workRest t bins work un ov) (sym (turns-stay (r .to-go) (r .state) (⊎-elim under over h)) ∙ r .then) (r .game)
   where
-    under : nu ≡ 0 → (r .state .under ≡ []) ⊎ (r .state .over ≡ [])
+    under : un ≡ 0 → (r .state .under ≡ []) ⊎ (r .state .over ≡ [])
     under e = inl (sym (r .game .stacks .under-are) ∙ rw e)
 
-    over : no ≡ 0 → (r .state .under ≡ []) ⊎ (r .state .over ≡ [])
+    over : ov ≡ 0 → (r .state .under ≡ []) ⊎ (r .state .over ≡ [])
     over e = inr (sym (r .game .stacks .over-are) ∙ rw e)
+
+-- the turns' loop: whatever the game was where it began, it is on its way
+pub record Going (m : ℕ) (bins₀ work₀ : List ℕ) (under over : ℕ) (bins work : List ℕ) (un ov : ℕ) : Type 0 where
+  pub together : un + ov ≤ m
+  pub room : 4 * m ≤ length work
+  pub same-bins : length bins ≡ length bins₀
+  pub same-work : length work ≡ length work₀
+  pub on : (binsRest workRest : List ℕ) (s : State) → Game m binsRest workRest s bins₀ work₀ under over → Reached m binsRest workRest (turns m s) bins work un ov
+
+pub going-none : {m : ℕ} {bins work : List ℕ} {under over : ℕ} → Playing m bins work under over → Going m bins work under over bins work under over
+going-none {m} (binsRest, workRest, s, g) =
+    record {
+      together = g .stacks .together;
+      room = g .stacks .room;
+      same-bins = refl;
+      same-work = refl;
+      on = λ binsRest workRest s g. record { state = s; to-go = m; enough = g .stacks .together; then = refl; game = g };
+    }
+
+module _ {m : ℕ} {bins₀ work₀ : List ℕ} {under over : ℕ} {bins work : List ℕ} {un ov : ℕ} (g : Going m bins₀ work₀ under over bins work un ov) where
+  pub going-in : Playing m bins₀ work₀ under over → 0 < un → 0 < ov → 3 * getD work (underTop un + 1) 0 + 2 < length bins
+  going-in (binsRest, workRest, s, p) u o = settle-in un ov (g .on binsRest workRest s p .game) u o
+
+  pub going-next : 0 < un → 0 < ov → (below : Bool) → lt (left work (underTop un) (overTop m ov)) one ≡ below
+      → Going m bins₀ work₀ under over (settled bins work (underTop un) (overTop m ov))
+      (put work (top m (un - 1) (ov - 1) below) (left work (underTop un) (overTop m ov)) (getD work (overTop m ov + 1) 0))
+      (cond below un (un - 1)) (cond below (ov - 1) ov)
+  going-next u o below l =
+      record {
+        together = omega (arith, less below, g .together);
+        room = simp length-set (g .room);
+        same-bins = simp length-set (g .same-bins);
+        same-work = simp length-set (g .same-work);
+        on = λ binsRest workRest s p.
+            let r = g .on binsRest workRest s p in
+            reached-next r (less below) (turn-next un ov (r .game) u o below l);
+      }
+    where
+      less : (b : Bool) → cond b un (un - 1) + cond b (ov - 1) ov < un + ov
+      less true = omega arith
+      less false = omega arith
+
+  pub going-last : (un ≡ 0) ⊎ (ov ≡ 0) → Played m bins₀ work₀ under over bins work un ov
+  going-last h = λ binsRest workRest s p. reached-last (g .on binsRest workRest s p) h
 
 -- ---- the start
 
-abbrev startWith : Float → List Float → State
-startWith sum ws =
-    pushAll (ofInt binary32 (pos (length ws))) 0 (map (bin sum) ws) (record { bins = map (bin sum) ws; under = []; over = [] })
+abbrev startWith : ℕ → Float → List Float → State
+startWith m sum ws = pushAll (ofInt binary32 (pos m)) 0 (map (bin sum) ws) (record { bins = map (bin sum) ws; under = []; over = [] })
 
 -- a weight's share, and what it is pushed with
 abbrev pub share : List Float → Float → ℕ → Float
 share ws sum i = getD ws i zerof ⊘ sum
 
-abbrev pub hat : List Float → Float → ℕ → Float
-hat ws sum i = share ws sum i ⊗ ofInt binary32 (pos (length ws))
+abbrev pub hat : ℕ → List Float → Float → ℕ → Float
+hat m ws sum i = share ws sum i ⊗ ofInt binary32 (pos m)
 
 -- a bin's words at the start
 abbrev pub fresh : List Float → Float → ℕ → List ℕ
@@ -422,87 +450,82 @@ unfolding toBits ofBits
 zero-word = refl
 
 -- the first i bins written and pushed
-pub record Starting (ws : List Float) (sum : Float) (bins₀ work₀ bins work : List ℕ) (under over i : ℕ) : Type 0 where
+pub record Starting (m : ℕ) (ws : List Float) (sum : Float) (bins₀ work₀ bins work : List ℕ) (under over i : ℕ) : Type 0 where
+  pub len : length ws ≡ m
+  pub few : m ≤ 4096
+  pub bins-room : 3 * m ≤ length bins₀
   pub all : under + over ≡ i
-  pub some : i ≤ length ws
+  pub some : i ≤ m
   pub bins-are : Copied (binWords (map (bin sum) ws)) bins₀ (3 * i) bins
   pub same : length work ≡ length work₀
   pub state : State
-  pub stacks : Stacks (length ws) (drop (4 * length ws) work₀) state work under over
-  pub then : pushAll (ofInt binary32 (pos (length ws))) i (drop i (map (bin sum) ws)) state ≡ startWith sum ws
+  pub stacks : Stacks m (drop (4 * m) work₀) state work under over
+  pub then : pushAll (ofInt binary32 (pos m)) i (drop i (map (bin sum) ws)) state ≡ startWith m sum ws
 
-pub starting-none : (ws : List Float) (sum : Float) (bins work : List ℕ) → 4 * length ws ≤ length work → Starting ws sum bins work bins work 0 0 0
-starting-none ws sum bins work h =
+pub starting-none : {m : ℕ} (ws : List Float) (sum : Float) {bins work : List ℕ} → length ws ≡ m → Room m bins work → Starting m ws sum bins work bins work 0 0 0
+starting-none {m} ws sum {bins} {work} len r =
     record {
+      len = len;
+      few = r .few;
+      bins-room = r .bins-room;
       all = refl;
       some = omega arith;
       bins-are = copied-none;
       same = refl;
       state = record { bins = map (bin sum) ws; under = []; over = [] };
-      stacks = stacks-none (length ws) work (map (bin sum) ws) h;
+      stacks = stacks-none m work (map (bin sum) ws) (r .work-room);
       then = refl;
     }
 
-module _ {ws : List Float} {sum : Float} {bins₀ work₀ bins work : List ℕ} {under over i : ℕ} (g : Starting ws sum bins₀ work₀ bins work under over i)
-    (h : i < length ws) (room : 3 * length ws ≤ length bins₀) where
+module _ {m : ℕ} {ws : List Float} {sum : Float} {bins₀ work₀ bins work : List ℕ} {under over i : ℕ} (g : Starting m ws sum bins₀ work₀ bins work under over i)
+    (h : i < m) where
   next-bin : drop i (map (bin sum) ws) ≡ record { q = zerof; p = share ws sum i; alias = none } ∷ drop (i + 1) (map (bin sum) ws)
   next-bin =
-      drop-cons (map (bin sum) ws) i (bin sum zerof) (rw length-map h)
+      drop-cons (map (bin sum) ws) i (bin sum zerof) (rw (length-map, g .len) h)
       ∙ rw (add-one, List·getD-map (bin sum) ws i zerof)
 
-  fresh-is : take 3 (drop (3 * i) (binWords (map (bin sum) ws))) ≡ fresh ws sum i
-  unfolding binWords
-  fresh-is = rw (drop-binWords, next-bin, zero-word)
-
   next-copied : Copied (binWords (map (bin sum) ws)) bins₀ (3 * (i + 1)) (sets bins (3 * i) (fresh ws sum i))
+  unfolding binWords
   next-copied =
       let e : 3 * i + 3 ≡ 3 * (i + 1) = omega arith in
-      let fit : 3 * i + 3 ≤ length (binWords (map (bin sum) ws)) = rw (length-binWords, length-map) (omega arith) in
-      rw e at (copied-run (fresh ws sum i) (g .bins-are) fresh-is fit (omega arith))
+      let is : take 3 (drop (3 * i) (binWords (map (bin sum) ws))) ≡ fresh ws sum i = rw (drop-binWords, next-bin, zero-word) in
+      let fit : 3 * i + 3 ≤ length (binWords (map (bin sum) ws)) = rw (length-binWords, length-map, g .len) (omega arith) in
+      rw e at (copied-run (fresh ws sum i) (g .bins-are) is fit (omega (arith, g .bins-room)))
 
-  next-pushed : pushAll (ofInt binary32 (pos (length ws))) (i + 1) (drop (i + 1) (map (bin sum) ws)) (push (record { weight = hat ws sum i; index = i }) (g .state))
-      ≡ startWith sum ws
+  pub starting-next : (below : Bool) → lt (hat m ws sum i) one ≡ below
+      → Starting m ws sum bins₀ work₀ (sets bins (3 * i) (fresh ws sum i)) (put work (top m under over below) (hat m ws sum i) i)
+      (cond below (under + 1) under) (cond below over (over + 1)) (i + 1)
   unfolding pushAll
-  next-pushed = rw add-one (rw (next-bin, add-one) at (g .then))
-
-  pub starting-under : lt (hat ws sum i) one ≡ true
-      → Starting ws sum bins₀ work₀ (sets bins (3 * i) (fresh ws sum i)) (put work (2 * under) (hat ws sum i) i) (under + 1) over (i + 1)
-  starting-under l =
+  starting-next below l =
       record {
-        all = omega (arith, g .all);
+        len = g .len;
+        few = g .few;
+        bins-room = g .bins-room;
+        all = more below;
         some = omega arith;
         bins-are = next-copied;
-        same = length-put work (2 * under) (hat ws sum i) i ∙ g .same;
-        state = push (record { weight = hat ws sum i; index = i }) (g .state);
-        stacks = rw (add-one under) (stacks-under (g .stacks) (hat ws sum i) i (mul-fits binary32 _ _) h (omega (arith, g .all)) (2 * under) refl l);
-        then = next-pushed;
+        same = simp length-set (g .same);
+        state = push (record { weight = hat m ws sum i; index = i }) (g .state);
+        stacks = stacks-push (g .stacks) (hat m ws sum i) i (mul-fits binary32 _ _) h (omega (arith, g .all)) below l;
+        then = rw (add-one i) (rw (next-bin, add-one) at (g .then));
       }
+    where
+      more : (b : Bool) → cond b (under + 1) under + cond b over (over + 1) ≡ i + 1
+      more true = omega (arith, g .all)
+      more false = omega (arith, g .all)
 
-  pub starting-over : lt (hat ws sum i) one ≡ false
-      → Starting ws sum bins₀ work₀ (sets bins (3 * i) (fresh ws sum i)) (put work (2 * length ws + 2 * over) (hat ws sum i) i) under (over + 1) (i + 1)
-  starting-over l =
-      record {
-        all = omega (arith, g .all);
-        some = omega arith;
-        bins-are = next-copied;
-        same = length-put work (2 * length ws + 2 * over) (hat ws sum i) i ∙ g .same;
-        state = push (record { weight = hat ws sum i; index = i }) (g .state);
-        stacks = rw (add-one over) (stacks-over (g .stacks) (hat ws sum i) i (mul-fits binary32 _ _) h (omega (arith, g .all)) (2 * length ws + 2 * over) refl l);
-        then = next-pushed;
-      }
-
-pub starting-all : {ws : List Float} {sum : Float} {bins₀ work₀ bins work : List ℕ} {under over i : ℕ} → Starting ws sum bins₀ work₀ bins work under over i
-    → length ws ≤ i → sum ≡ total ws → Started ws bins₀ work₀ bins work under over
+pub starting-all : {m : ℕ} {ws : List Float} {sum : Float} {bins₀ work₀ bins work : List ℕ} {under over i : ℕ} → Starting m ws sum bins₀ work₀ bins work under over i
+    → m ≤ i → sum ≡ total ws → Started m ws bins₀ work₀ bins work under over
 unfolding start pushAll
-starting-all {ws} {sum} {bins₀} {work₀} {bins} {work} {under} {over} {i} g h t =
-    let e : i ≡ length ws = omega (arith, g .some) in
-    let none-left : drop i (map (bin sum) ws) ≡ [] = drop-of-length-le (map (bin sum) ws) {i = i} (rw length-map h) in
+starting-all {m} {ws} {sum} {bins₀} {work₀} {bins} {work} {under} {over} {i} g h t =
+    let e : i ≡ m = omega (arith, g .some) in
+    let none-left : drop i (map (bin sum) ws) ≡ [] = drop-of-length-le (map (bin sum) ws) {i = i} (rw (length-map, g .len) h) in
     let all-words : take (3 * i) (binWords (map (bin sum) ws)) ≡ binWords (map (bin sum) ws) =
-    take-all (3 * i) (binWords (map (bin sum) ws)) (rw (length-binWords, length-map) (omega arith)) in
-    let is : g .state ≡ start ws = rw (none-left, t) at (g .then) in
+    take-all (3 * i) (binWords (map (bin sum) ws)) (rw (length-binWords, length-map, g .len) (omega arith)) in
+    let is : g .state ≡ start ws = rw (none-left, t, ← g .len) at (g .then) in
     record {
       bins-are = rw (start-bins, ← t, ← e) (rw all-words at (g .bins-are .is));
-      count = rw start-bins (length-map ws (bin (total ws)));
+      count = rw start-bins (length-map ws (bin (total ws)) ∙ g .len);
       stacks = rw is at (g .stacks);
     }
 
@@ -519,36 +542,33 @@ whole-next bs binsRest bins work base k e h =
 pub left-in : (bins work : List ℕ) (base n k : ℕ) → Left bins work base n → k < n → 3 * getD work (base + 2 * k + 1) 0 < length bins
 left-in bins work base n k (bs, rest, e, sound, room) h = rw (e, length-append, length-binWords) (omega (arith, sound k h .0))
 
-module _ {m : ℕ} {binsRest workRest : List ℕ} {s : State} {bins work : List ℕ} {nu no : ℕ} (g : Game m binsRest workRest s bins work nu no) where
-  pub left-under : Left bins work 0 nu
+module _ {m : ℕ} {binsRest workRest : List ℕ} {s : State} {bins work : List ℕ} {un ov : ℕ} (g : Game m binsRest workRest s bins work un ov) where
+  pub left-under : Left bins work 0 un
   left-under = (s .bins, binsRest, g .bins-are, rw (g .count) (g .stacks .under-sound), omega (arith, g .stacks .room, g .stacks .together))
 
-  pub wholed-under : {bins′ : List ℕ} → Wholed bins work 0 nu bins′ → bins′ ≡ binWords (leftover (s .under) (s .bins)) ++ binsRest
+  pub wholed-under : {bins′ : List ℕ} → Wholed bins work 0 un bins′ → bins′ ≡ binWords (leftover (s .under) (s .bins)) ++ binsRest
   wholed-under w = rw (← g .stacks .under-are) (w (s .bins) binsRest (g .bins-are) (rw (g .count) (g .stacks .under-sound)))
 
   over-count : length (leftover (s .under) (s .bins)) ≡ m
   over-count = length-leftover (s .under) (s .bins) ∙ g .count
 
-  pub left-over : {bins′ : List ℕ} → bins′ ≡ binWords (leftover (s .under) (s .bins)) ++ binsRest → Left bins′ work (2 * m) no
+  pub left-over : {bins′ : List ℕ} → bins′ ≡ binWords (leftover (s .under) (s .bins)) ++ binsRest → Left bins′ work (2 * m) ov
   left-over e =
       (leftover (s .under) (s .bins), binsRest, e, rw over-count (g .stacks .over-sound), omega (arith, g .stacks .room, g .stacks .together))
 
-  pub wholed-over : {bins′ bins″ : List ℕ} → bins′ ≡ binWords (leftover (s .under) (s .bins)) ++ binsRest → Wholed bins′ work (2 * m) no bins″
+  pub wholed-over : {bins′ bins″ : List ℕ} → bins′ ≡ binWords (leftover (s .under) (s .bins)) ++ binsRest → Wholed bins′ work (2 * m) ov bins″
       → bins″ ≡ binWords (finish s) ++ binsRest
   wholed-over e w = rw (← g .stacks .over-are) (w (leftover (s .under) (s .bins)) binsRest e (rw over-count (g .stacks .over-sound)))
 
 -- ---- from the start to the end
 
-module _ (ws : List Float) (bins₀ work₀ : List ℕ) {bins work : List ℕ} {nu no : ℕ} (m : ℕ) (len : length ws ≡ m) (s : Started ws bins₀ work₀ bins work nu no) where
-  started : Game m (drop (3 * m) bins₀) (drop (4 * m) work₀) (start ws) bins work nu no
-  started = rw len at s
+module _ (ws : List Float) (bins₀ work₀ : List ℕ) {bins work : List ℕ} {un ov : ℕ} (m : ℕ) (s : Started m ws bins₀ work₀ bins work un ov) where
+  pub playing : Playing m bins work un ov
+  playing = (drop (3 * m) bins₀, drop (4 * m) work₀, start ws, s)
 
-  pub playing : Playing m bins work nu no
-  playing = (drop (3 * m) bins₀, drop (4 * m) work₀, start ws, started)
-
-  pub game-over : {bins′ work′ : List ℕ} {nu′ no′ : ℕ} → Played m bins work nu no bins′ work′ nu′ no′
-      → Game m (drop (3 * m) bins₀) (drop (4 * m) work₀) (turns m (start ws)) bins′ work′ nu′ no′
-  game-over p = p (drop (3 * m) bins₀) (drop (4 * m) work₀) (start ws) started
+  pub game-over : {bins′ work′ : List ℕ} {un′ ov′ : ℕ} → Played m bins work un ov bins′ work′ un′ ov′
+      → Game m (drop (3 * m) bins₀) (drop (4 * m) work₀) (turns m (start ws)) bins′ work′ un′ ov′
+  game-over p = p (drop (3 * m) bins₀) (drop (4 * m) work₀) (start ws) s
 
 pub played-is : (ws : List Float) (m : ℕ) → length ws ≡ m → finish (turns m (start ws)) ≡ played ws
 unfolding played

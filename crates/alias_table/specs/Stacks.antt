@@ -42,6 +42,10 @@ stackAt base work (suc n) = entryAt base work n ∷ stackAt base work n
 abbrev pub put : List ℕ → ℕ → Float → ℕ → List ℕ
 put work at weight index = set (set work at (toBits binary32 weight)) (at + 1) index
 
+-- where the next entry goes: on `under` where it is below one, else on `over`
+abbrev pub top : ℕ → ℕ → ℕ → Bool → ℕ
+top m under over below = cond below (2 * under) (2 * m + 2 * over)
+
 -- each entry's place is one of m, and its word is that of its weight
 abbrev pub Sound : ℕ → ℕ → List ℕ → ℕ → Type 0
 Sound m base work n =
@@ -70,9 +74,8 @@ pub record Room (m : ℕ) (bins work : List ℕ) : Type 0 where
   pub bins-room : 3 * m ≤ length bins
   pub work-room : 4 * m ≤ length work
 
-abbrev pub Started : List Float → List ℕ → List ℕ → List ℕ → List ℕ → ℕ → ℕ → Type 0
-Started ws bins₀ work₀ bins work under over =
-    Game (length ws) (drop (3 * length ws) bins₀) (drop (4 * length ws) work₀) (start ws) bins work under over
+abbrev pub Started : ℕ → List Float → List ℕ → List ℕ → List ℕ → List ℕ → ℕ → ℕ → Type 0
+Started m ws bins₀ work₀ bins work under over = Game m (drop (3 * m) bins₀) (drop (4 * m) work₀) (start ws) bins work under over
 
 abbrev pub Playing : ℕ → List ℕ → List ℕ → ℕ → ℕ → Type 0
 Playing m bins work under over = (binsRest : List ℕ) × (workRest : List ℕ) × (s : State) × Game m binsRest workRest s bins work under over

@@ -4,14 +4,14 @@ ghost use mathlib.Core.Path.{_≡_};
 ghost use mathlib.Core.Bool.{cond};
 ghost use mathlib.Core.List.{List, [], _∷_, map, _++_};
 ghost use Prim.Native.Nat.{_+_, _*_, _≤_, _<_};
-ghost use lib.Ieee.{binary32, binary64, toBits};
+ghost use lib.Ieee.{binary32, binary64, toBits, lt};
 ghost use lib.ListN.{length, getD, set, replicate, drop};
 ghost use lib.Seq.{sets};
 ghost use Rattle.ieee.specs.Single.{_⊕_, _⊖_, single, zero as zerof, one};
 ghost use Rattle.ieee.specs.Narrow.{narrow as narrowed};
 ghost use Rattle.words.specs.Tray.{tray};
 ghost use Rattle.alias_table.specs.AliasTable.{Bin, sumFrom, total as totalOf, buildPowerAliasTable, binWords, count, tabled};
-ghost use Rattle.alias_table.specs.Stacks.{sumsOf, weighted, played, put, Room, Started, Playing, Played, Left, Wholed};
+ghost use Rattle.alias_table.specs.Stacks.{sumsOf, weighted, played, put, top, Room, Started, Playing, Played, Left, Wholed};
 use floats::narrow::narrow;
 use floats::narrow::widen;
 use words::fill::zero_words;
@@ -142,7 +142,7 @@ fn build(weights: &[u32], flat: bool, sum: f32, bins: &mut [u32], work: &mut [u3
 fn start(weights: &[u32], flat: bool, sum: f32, bins: &mut [u32], work: &mut [u32]) -> Heights
     requires { ⌜ Room (length (now weights)) (now bins) (now work) ⌝ }
     requires { ⌜ sum ≡ totalOf (weighted flat (now weights)) ⌝ }
-    ensures { λ r. ⌜ Started (weighted flat (now (weights .entry))) (now (bins .entry)) (now (work .entry)) (now (bins .exit)) (now (work .exit)) (r .under) (r .over) ⌝ }
+    ensures { λ r. ⌜ Started (length (now (weights .entry))) (weighted flat (now (weights .entry))) (now (bins .entry)) (now (work .entry)) (now (bins .exit)) (now (work .exit)) (r .under) (r .over) ⌝ }
 {
     let m = weights.len();
     let count = m as f32;
@@ -152,15 +152,12 @@ fn start(weights: &[u32], flat: bool, sum: f32, bins: &mut [u32], work: &mut [u3
     while i < m {
         let p = weight_at(weights, flat, i) / sum;
         put_bin(bins, 3 * i, p);
-        let p_hat = p * count;
-        if p_hat < 1.0 {
-            put_entry(work, 2 * under, p_hat, i as u32);
+        let below = push(m, work, under, over, p * count, i as u32);
+        i += 1;
+        if below {
             under += 1;
-            i += 1;
         } else {
-            put_entry(work, 2 * m + 2 * over, p_hat, i as u32);
             over += 1;
-            i += 1;
         }
     }
     Heights { under, over }
@@ -174,6 +171,21 @@ fn put_bin(bins: &mut [u32], at: usize, p: f32)
     bins[at] = 0;
     bins[at + 1] = word_of_f32(p);
     bins[at + 2] = 0xffff_ffff;
+}
+
+// An entry on top of its stack: below one on `under`, else on `over`. Whether it is below one.
+fn push(m: usize, work: &mut [u32], under: usize, over: usize, weight: f32, index: u32) -> bool
+    requires { ⌜ (2 * under + 1 < length (now work)) × (2 * m + 2 * over + 1 < length (now work)) ⌝ }
+    ensures { λ r. ⌜ r ≡ lt weight one ⌝ }
+    ensures { λ _. ⌜ now (work .exit) ≡ put (now (work .entry)) (top m under over (lt weight one)) weight index ⌝ }
+{
+    if weight < 1.0 {
+        put_entry(work, 2 * under, weight, index);
+        true
+    } else {
+        put_entry(work, 2 * m + 2 * over, weight, index);
+        false
+    }
 }
 
 // A stack's entry at a place.
@@ -202,11 +214,9 @@ fn play(m: usize, bins: &mut [u32], work: &mut [u32], under: usize, over: usize)
         let over_index = work[o + 1];
         let excess = joint(under_word, work[o]);
         settle(bins, work[u + 1], under_word, over_index);
-        if excess < 1.0 {
-            put_entry(work, u, excess, over_index);
+        if push(m, work, nu - 1, no - 1, excess, over_index) {
             no -= 1;
         } else {
-            put_entry(work, o, excess, over_index);
             nu -= 1;
         }
     }

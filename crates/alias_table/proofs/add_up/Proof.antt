@@ -36,8 +36,10 @@ f32-of-word-requires c κs = search needs
 returns : tie.Need-returns Inv-loop μ-loop
 unfolding ofBits
 returns c =
-    sums-stop (now (c .before .before .before .before .before .before .args .weights)) (c .before .before .before .before .loop .i) (c .before .before .before .before .loop .single) (c .before .before .before .before .loop .double) (c .before .f32-of-word .result) (omega arith) (c .before .f32-of-word .ensures) (c .before .before .before .before .loop .inv .1)
-    (bad-below (c .before .f32-of-word .result) (c .if1 .taken))
+    let read = c .before in
+    let loop = read .before .before .before .loop in
+    sums-stop (now (read .before .before .before .before .before .args .weights)) (loop .i) (loop .single) (loop .double) (read .f32-of-word .result)
+    (omega arith) (read .f32-of-word .ensures) (loop .inv .1) (bad-below (read .f32-of-word .result) (c .if1 .taken))
 
 widen-requires : tie.Need-widen-requires Inv-loop μ-loop
 widen-requires c κs = search needs
@@ -50,21 +52,27 @@ loop-less c = search needs
 
 loop-again : tie.Need-loop-again Inv-loop μ-loop
 unfolding ofBits div
-loop-again c = (
-  omega arith,
-  rw (c .widen .ensures)
-      (sums-next (now (c .before .before .before .before .before .before .before .before .args .weights)) (c .before .before .before .before .before .before .loop .i) (c .before .before .before .before .before .before .loop .single) (c .before .before .before .before .before .before .loop .double) (c .before .before .before .f32-of-word .result) (omega arith) (c .before .before .before .f32-of-word .ensures) (c .before .before .before .before .before .before .loop .inv .1)
-      (c .before .before .if1 .left) (c .before .if2 .taken)),
-)
+loop-again c =
+    let read = c .before .before .before in
+    let loop = read .before .before .before .loop in (
+      omega arith,
+      rw (c .widen .ensures) (sums-next (now (read .before .before .before .before .before .args .weights)) (loop .i) (loop .single) (loop .double) (read .f32-of-word .result)
+          (omega arith) (read .f32-of-word .ensures) (loop .inv .1)
+          (c .before .before .if1 .left) (c .before .if2 .taken)),
+    )
 
 returns-2 : tie.Need-returns-2 Inv-loop μ-loop
 unfolding ofBits div
 returns-2 c =
-    sums-stop (now (c .before .before .before .before .before .before .before .args .weights)) (c .before .before .before .before .before .loop .i) (c .before .before .before .before .before .loop .single) (c .before .before .before .before .before .loop .double) (c .before .before .f32-of-word .result) (omega arith) (c .before .before .f32-of-word .ensures) (c .before .before .before .before .before .loop .inv .1)
-    (bad-above (c .before .before .f32-of-word .result) (c .if2 .left))
+    let read = c .before .before in
+    let loop = read .before .before .before .loop in
+    sums-stop (now (read .before .before .before .before .before .args .weights)) (loop .i) (loop .single) (loop .double) (read .f32-of-word .result)
+    (omega arith) (read .f32-of-word .ensures) (loop .inv .1) (bad-above (read .f32-of-word .result) (c .if2 .left))
 
 returns-3 : tie.Need-returns-3 Inv-loop μ-loop
-returns-3 c = sums-last (now (c .before .before .before .args .weights)) (c .before .loop .i) (c .before .loop .single) (c .before .loop .double) (omega arith) (c .before .loop .inv .1)
+returns-3 c =
+    let loop = c .before .loop in
+    sums-last (now (c .before .before .before .args .weights)) (loop .i) (loop .single) (loop .double) (omega arith) (loop .inv .1)
 
 pub add-up-spec : {M : Type 1} → statement M
 add-up-spec =

@@ -1,7 +1,7 @@
 -- `alias_table::build` meets its contract: its steps are the game's. Assumes nothing.
 use borrow.Author.Needs.{needs}
-use mathlib.Core.Path.{_≡_, sym, _∙_}
 use Prim.Native.Nat.{_*_}
+use mathlib.Core.Path.{_∙_}
 use denote.Ref.{now}
 use lib.ListN.{length}
 use Rattle.alias_table.specs.Stacks.{weighted}
@@ -15,27 +15,32 @@ start-requires c κs = search needs
 
 play-requires : tie.Need-play-requires
 play-requires c κs =
-    let words = now (c .before .before .before .before .before .before .before .before .before .before .before .before .args .weights) in
-    let ws = weighted (c .before .before .before .before .before .before .before .before .before .before .before .before .args .flat) words in
-    let len = weighted-length (c .before .before .before .before .before .before .before .before .before .before .before .before .args .flat) words in
-    playing ws (now (c .before .before .before .before .before .before .before .before .before .before .before .before .args .bins)) (now (c .before .before .before .before .before .before .before .before .before .before .before .before .args .work)) (length words) len (c .before .before .before .before .before .before .start .ensures)
+    let started = c .before .before .before .before .before .before in
+    let args = started .before .before .before .before .before .before .args in
+    let words = now (args .weights) in
+    let ws = weighted (args .flat) words in
+    playing ws (now (args .bins)) (now (args .work)) (length words) (started .start .ensures)
 
 make-whole-requires : tie.Need-make-whole-requires
 make-whole-requires c κs =
-    let words = now (c .before .before .before .before .before .before .before .before .before .before .before .before .before .before .before .before .before .before .before .args .weights) in
-    let ws = weighted (c .before .before .before .before .before .before .before .before .before .before .before .before .before .before .before .before .before .before .before .args .flat) words in
-    let len = weighted-length (c .before .before .before .before .before .before .before .before .before .before .before .before .before .before .before .before .before .before .before .args .flat) words in
-    left-under (game-over ws (now (c .before .before .before .before .before .before .before .before .before .before .before .before .before .before .before .before .before .before .before .args .bins)) (now (c .before .before .before .before .before .before .before .before .before .before .before .before .before .before .before .before .before .before .before .args .work)) (length words) len (c .before .before .before .before .before .before .before .before .before .before .before .before .before .start .ensures) (c .before .before .before .before .before .before .play .ensures))
+    let won = c .before .before .before .before .before .before in
+    let started = won .before .before .before .before .before .before .before in
+    let args = started .before .before .before .before .before .before .args in
+    let words = now (args .weights) in
+    let ws = weighted (args .flat) words in
+    left-under (game-over ws (now (args .bins)) (now (args .work)) (length words) (started .start .ensures) (won .play .ensures))
 
 mul-make-whole : tie.Need-mul-make-whole
 mul-make-whole c = search needs
 
 make-whole-requires-2 : tie.Need-make-whole-requires-2
 make-whole-requires-2 c κs =
-    let words = now (c .before .before .before .before .before .before .before .before .before .before .before .before .before .before .before .before .before .before .before .before .before .before .before .before .args .weights) in
-    let ws = weighted (c .before .before .before .before .before .before .before .before .before .before .before .before .before .before .before .before .before .before .before .before .before .before .before .before .args .flat) words in
-    let len = weighted-length (c .before .before .before .before .before .before .before .before .before .before .before .before .before .before .before .before .before .before .before .before .before .before .before .before .args .flat) words in
-    let g = game-over ws (now (c .before .before .before .before .before .before .before .before .before .before .before .before .before .before .before .before .before .before .before .before .before .before .before .before .args .bins)) (now (c .before .before .before .before .before .before .before .before .before .before .before .before .before .before .before .before .before .before .before .before .before .before .before .before .args .work)) (length words) len (c .before .before .before .before .before .before .before .before .before .before .before .before .before .before .before .before .before .before .start .ensures) (c .before .before .before .before .before .before .before .before .before .before .before .play .ensures) in
+    let won = c .before .before .before .before .before .before .before .before .before .before .before in
+    let started = won .before .before .before .before .before .before .before in
+    let args = started .before .before .before .before .before .before .args in
+    let words = now (args .weights) in
+    let ws = weighted (args .flat) words in
+    let g = game-over ws (now (args .bins)) (now (args .work)) (length words) (started .start .ensures) (won .play .ensures) in
     left-over g (wholed-under g (c .before .before .before .before .make-whole .ensures))
 
 mul-zero-words : tie.Need-mul-zero-words
@@ -52,12 +57,14 @@ same-length-2 c = search needs
 
 returns : tie.Need-returns
 returns c =
-    let words = now (c .before .before .before .before .before .before .before .before .before .before .before .before .before .before .before .before .before .before .before .before .before .before .before .before .before .before .before .before .before .before .before .args .weights) in
-    let ws = weighted (c .before .before .before .before .before .before .before .before .before .before .before .before .before .before .before .before .before .before .before .before .before .before .before .before .before .before .before .before .before .before .before .args .flat) words in
-    let len = weighted-length (c .before .before .before .before .before .before .before .before .before .before .before .before .before .before .before .before .before .before .before .before .before .before .before .before .before .before .before .before .before .before .before .args .flat) words in
-    let g = game-over ws (now (c .before .before .before .before .before .before .before .before .before .before .before .before .before .before .before .before .before .before .before .before .before .before .before .before .before .before .before .before .before .before .before .args .bins)) (now (c .before .before .before .before .before .before .before .before .before .before .before .before .before .before .before .before .before .before .before .before .before .before .before .before .before .before .before .before .before .before .before .args .work)) (length words) len (c .before .before .before .before .before .before .before .before .before .before .before .before .before .before .before .before .before .before .before .before .before .before .before .before .before .start .ensures) (c .before .before .before .before .before .before .before .before .before .before .before .before .before .before .before .before .before .before .play .ensures) in
+    let won = c .before .before .before .before .before .before .before .before .before .before .before .before .before .before .before .before .before .before in
+    let started = won .before .before .before .before .before .before .before in
+    let args = started .before .before .before .before .before .before .args in
+    let words = now (args .weights) in
+    let ws = weighted (args .flat) words in
+    let g = game-over ws (now (args .bins)) (now (args .work)) (length words) (started .start .ensures) (won .play .ensures) in
     let under = wholed-under g (c .before .before .before .before .before .before .before .before .before .before .before .make-whole .ensures) in (
-      rw (← played-is ws (length words) len) (wholed-over g under (c .before .before .before .before .before .before .make-whole2 .ensures)),
+      rw (← played-is ws (length words) (weighted-length (args .flat) words)) (wholed-over g under (c .before .before .before .before .before .before .make-whole2 .ensures)),
       c .before .before .zero-words .ensures ∙ zeroed _ _ (4 * length words) (g .stacks .room) (g .stacks .rest),
     )
 

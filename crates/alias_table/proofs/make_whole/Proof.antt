@@ -1,8 +1,8 @@
 -- `alias_table::make_whole` meets its contract: the bins of the entries passed are whole. Assumes nothing.
-use Prim.Native.Nat.{_-_, _≤_}
-use mathlib.Core.Path.{_≡_, refl, _∙_}
+use Prim.Native.Nat.{_+_, _*_, _-_, _≤_, _<_}
+use mathlib.Core.Path.{_≡_, refl}
 use denote.Ref.{now}
-use lib.ListN.{length, length-set}
+use lib.ListN.{length, getD, length-set}
 use Rattle.alias_table.specs.AliasTable.{leftover}
 use Rattle.alias_table.specs.Stacks.{stackAt, Wholed}
 use Rattle.alias_table.specs.StackLaws.{whole-next, left-in}
@@ -36,17 +36,25 @@ mul-at-2 c = omega arith
 shared-slice-read-at : tie.Need-shared-slice-read-at Inv-loop μ-loop
 shared-slice-read-at c = omega arith
 
+-- the place of a bin that is left over
+in-bins : (c : tie.After-shared-slice-known Inv-loop μ-loop)
+    → 3 * getD (now (c .before .before .before .args .work)) (c .before .before .before .args .base + 2 * c .before .before .loop .k + 1) 0
+    < length (now (c .before .before .before .args .bins))
+in-bins c =
+    let args = c .before .before .before .args in
+    left-in (now (args .bins)) (now (args .work)) (args .base) (args .n) (c .before .before .loop .k) (c .before .before .before .pre) (omega arith)
+
 cast-at : tie.Need-cast-at Inv-loop μ-loop
-cast-at c = omega (arith, left-in (now (c .before .before .before .args .bins)) (now (c .before .before .before .args .work)) (c .before .before .before .args .base) (c .before .before .before .args .n) (c .before .before .loop .k) (c .before .before .before .pre) (omega arith))
+cast-at c = omega (arith, in-bins c)
 
 mul-at-3 : tie.Need-mul-at-3 Inv-loop μ-loop
-mul-at-3 c = omega (arith, left-in (now (c .before .before .before .args .bins)) (now (c .before .before .before .args .work)) (c .before .before .before .args .base) (c .before .before .before .args .n) (c .before .before .loop .k) (c .before .before .before .pre) (omega arith))
+mul-at-3 c = omega (arith, in-bins c)
 
 mul-bins : tie.Need-mul-bins Inv-loop μ-loop
-mul-bins c = omega (arith, left-in (now (c .before .before .before .args .bins)) (now (c .before .before .before .args .work)) (c .before .before .before .args .base) (c .before .before .before .args .n) (c .before .before .loop .k) (c .before .before .before .pre) (omega arith))
+mul-bins c = omega (arith, in-bins c)
 
 slice-write-bins : tie.Need-slice-write-bins Inv-loop μ-loop
-slice-write-bins c = omega (arith, left-in (now (c .before .before .before .args .bins)) (now (c .before .before .before .args .work)) (c .before .before .before .args .base) (c .before .before .before .args .n) (c .before .before .loop .k) (c .before .before .before .pre) (omega arith))
+slice-write-bins c = omega (arith, in-bins c)
 
 add-k : tie.Need-add-k Inv-loop μ-loop
 add-k c = omega arith

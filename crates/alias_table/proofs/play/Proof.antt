@@ -1,27 +1,22 @@
 -- `alias_table::play` meets its contract: turns go on to the last state, while neither stack is empty. Assumes nothing.
-use Prim.Native.Nat.{ℕ, _+_, _*_, _-_, _≤_}
-use mathlib.Core.Path.{_≡_, refl, sym, _∙_}
-use mathlib.Core.List.{List}
+use Prim.Native.Nat.{_+_}
+use mathlib.Core.Path.{sym, _∙_}
+use mathlib.Core.Bool.{true, false}
 use mathlib.Core.Logic.{inl, inr}
-use denote.Ref.{now}
-use lib.ListN.{length}
-use Rattle.alias_table.specs.AliasTable.{State, turns}
-use Rattle.alias_table.specs.Stacks.{Game}
-use Rattle.alias_table.specs.StackLaws.{Reached, reached-none, reached-next, reached-last, settle-in, turn-under, turn-over}
+use Rattle.alias_table.specs.StackLaws.{Going, going-none, going-in, going-next, going-last}
 use native.Mathlib.Omega.{arith}
 use Rattle.alias_table.proofs.play.Statement.{statement}
 use Rattle.alias_table.proofs.play.Tie as tie
 
 abbrev Inv-loop : tie.InvT-loop
 Inv-loop m bins₀ work₀ under over nu₀ no₀ bins work nu no' =
-    (nu + no' ≤ m) × (4 * m ≤ length work) × (length bins ≡ length bins₀) × (length work ≡ length work₀)
-    × ((binsRest workRest : List ℕ) (s : State) → Game m binsRest workRest s bins₀ work₀ under over → Reached m binsRest workRest (turns m s) bins work nu no')
+    Going m bins₀ work₀ under over bins work nu no'
 
 abbrev μ-loop : tie.MeasureT-loop
 μ-loop m bins₀ work₀ under over nu₀ no₀ bins work nu no' = nu + no'
 
 loop-holds : tie.Need-loop-holds Inv-loop μ-loop
-loop-holds c = (omega (arith, c .before .before .pre .3 .stacks), omega (arith, c .before .before .pre .3 .stacks), refl, refl, λ binsRest workRest s g. reached-none g)
+loop-holds c = going-none (c .before .before .pre)
 
 sub-u : tie.Need-sub-u Inv-loop μ-loop
 sub-u c = omega arith
@@ -75,10 +70,16 @@ slice-read-settle : tie.Need-slice-read-settle Inv-loop μ-loop
 slice-read-settle c = omega arith
 
 settle-requires : tie.Need-settle-requires Inv-loop μ-loop
-settle-requires c κs = settle-in (c .before .before .before .before .before .before .before .before .loop .nu) (c .before .before .before .before .before .before .before .before .loop .no) (c .before .before .before .before .before .before .before .before .loop .inv .4 (c .before .before .before .before .before .before .before .before .before .before .before .pre .0) (c .before .before .before .before .before .before .before .before .before .before .before .pre .1) (c .before .before .before .before .before .before .before .before .before .before .before .pre .2) (c .before .before .before .before .before .before .before .before .before .before .before .pre .3) .game) (omega arith) (omega arith)
+settle-requires c κs = going-in (c .before .before .before .before .before .before .before .before .loop .inv) (c .before .before .before .before .before .before .before .before .before .before .before .pre) (omega arith) (omega arith)
 
-put-entry-requires : tie.Need-put-entry-requires Inv-loop μ-loop
-put-entry-requires c κs = omega arith
+sub-push : tie.Need-sub-push Inv-loop μ-loop
+sub-push c = omega arith
+
+sub-push-2 : tie.Need-sub-push-2 Inv-loop μ-loop
+sub-push-2 c = omega arith
+
+push-requires : tie.Need-push-requires Inv-loop μ-loop
+push-requires c κs = omega arith
 
 sub-no : tie.Need-sub-no Inv-loop μ-loop
 sub-no c = omega arith
@@ -88,20 +89,11 @@ loop-less c = omega arith
 
 loop-again : tie.Need-loop-again Inv-loop μ-loop
 loop-again c =
-    let inv = c .before .before .before .before .before .before .before .before .before .before .before .before .before .before .before .before .loop .inv in (
-      omega arith,
-      omega arith,
-      omega arith,
-      omega arith,
-      λ binsRest workRest s g.
-          let r = inv .4 binsRest workRest s g in
-          rw (c .before .before .put-entry .ensures, c .before .before .before .before .before .before .before .settle .ensures, c .before .before .before .before .before .before .before .before .before .before .joint .ensures)
-          (reached-next r (omega arith) (turn-under (c .before .before .before .before .before .before .before .before .before .before .before .before .before .before .before .before .loop .nu) (c .before .before .before .before .before .before .before .before .before .before .before .before .before .before .before .before .loop .no) (r .game) (omega arith) (omega arith)
-          (rw (c .before .before .before .before .before .before .before .before .before .before .joint .ensures) at (c .before .before .before .before .if2 .taken)))),
-    )
-
-put-entry-requires-2 : tie.Need-put-entry-requires-2 Inv-loop μ-loop
-put-entry-requires-2 c κs = omega arith
+    let pushed = c .before .before .before in
+    let sum = pushed .before .before .before .before .before .before .before in
+    let l = rw (sum .joint .ensures) at (sym (pushed .push .ensures .0) ∙ c .if2 .taken) in
+    rw (pushed .push .ensures .1, c .before .before .before .before .before .before .before .settle .ensures, sum .joint .ensures, l)
+    (going-next (sum .before .before .before .before .before .before .loop .inv) (omega arith) (omega arith) true l)
 
 sub-nu : tie.Need-sub-nu Inv-loop μ-loop
 sub-nu c = omega arith
@@ -111,17 +103,11 @@ loop-less-2 c = omega arith
 
 loop-again-2 : tie.Need-loop-again-2 Inv-loop μ-loop
 loop-again-2 c =
-    let inv = c .before .before .before .before .before .before .before .before .before .before .before .before .before .before .before .before .loop .inv in (
-      omega arith,
-      omega arith,
-      omega arith,
-      omega arith,
-      λ binsRest workRest s g.
-          let r = inv .4 binsRest workRest s g in
-          rw (c .before .before .put-entry2 .ensures, c .before .before .before .before .before .before .before .settle .ensures, c .before .before .before .before .before .before .before .before .before .before .joint .ensures)
-          (reached-next r (omega arith) (turn-over (c .before .before .before .before .before .before .before .before .before .before .before .before .before .before .before .before .loop .nu) (c .before .before .before .before .before .before .before .before .before .before .before .before .before .before .before .before .loop .no) (r .game) (omega arith) (omega arith)
-          (rw (c .before .before .before .before .before .before .before .before .before .before .joint .ensures) at (c .before .before .before .before .if2 .left)))),
-    )
+    let pushed = c .before .before .before in
+    let sum = pushed .before .before .before .before .before .before .before in
+    let l = rw (sum .joint .ensures) at (sym (pushed .push .ensures .0) ∙ c .if2 .left) in
+    rw (pushed .push .ensures .1, c .before .before .before .before .before .before .before .settle .ensures, sum .joint .ensures, l)
+    (going-next (sum .before .before .before .before .before .before .loop .inv) (omega arith) (omega arith) false l)
 
 same-length : tie.Need-same-length Inv-loop μ-loop
 same-length c = omega arith
@@ -130,7 +116,7 @@ same-length-2 : tie.Need-same-length-2 Inv-loop μ-loop
 same-length-2 c = omega arith
 
 returns : tie.Need-returns Inv-loop μ-loop
-returns c = λ binsRest workRest s g. reached-last (c .before .loop .inv .4 binsRest workRest s g) (inl (omega arith))
+returns c = going-last (c .before .loop .inv) (inl (omega arith))
 
 same-length-3 : tie.Need-same-length-3 Inv-loop μ-loop
 same-length-3 c = omega arith
@@ -139,7 +125,7 @@ same-length-4 : tie.Need-same-length-4 Inv-loop μ-loop
 same-length-4 c = omega arith
 
 returns-2 : tie.Need-returns-2 Inv-loop μ-loop
-returns-2 c = λ binsRest workRest s g. reached-last (c .before .before .loop .inv .4 binsRest workRest s g) (inr (c .if1 .taken))
+returns-2 c = going-last (c .before .before .loop .inv) (inr (c .if1 .taken))
 
 pub play-spec : {M : Type 1} → statement M
 play-spec =
@@ -166,11 +152,12 @@ play-spec =
     mul-settle
     slice-read-settle
     settle-requires
-    put-entry-requires
+    sub-push
+    sub-push-2
+    push-requires
     sub-no
     loop-less
     loop-again
-    put-entry-requires-2
     sub-nu
     loop-less-2
     loop-again-2
