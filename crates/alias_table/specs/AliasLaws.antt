@@ -1,7 +1,7 @@
 -- Laws of the alias table's definition, beyond the Rust: the game ends, every alias is a place or none, every bin is settled once, and an under bin's q is its
 -- weight as it was computed. Assumes nothing.
 use Prim.Native.Nat.{ℕ, zero, suc, _+_, _-_, _≤_, _<_}
-use mathlib.Core.Path.{_≡_, refl, sym, ap, subst, _∙_}
+use mathlib.Core.Path.{_≡_, refl, sym, ap, _∙_}
 use mathlib.Core.Bool.{Bool, true, false, cond}
 use mathlib.Core.List.{List, [], _∷_, _++_, map}
 use mathlib.Core.Logic.{_⊎_, inl, inr, ⊎-elim}
@@ -15,6 +15,36 @@ use lib.Ieee.{Float, binary32, ofInt, eq, lt}
 use lib.ListN.{length, getD, replicate, length-map, length-replicate, List·getD-map}
 use Rattle.ieee.specs.Single.{_⊕_, _⊖_, _⊗_, _⊘_, zero as zerof, one}
 use Rattle.alias_table.specs.AliasTable.{Bin, Entry, State, none, sumFrom, filledIn, total, bin, push, pushAll, start, update, settle, whole, turned, turn, turns, leftover, finish, table}
+
+-- ---- pushing
+
+abbrev onUnder : Entry → State → State
+onUnder e s = record { bins = s .bins; under = e ∷ s .under; over = s .over }
+
+abbrev onOver : Entry → State → State
+onOver e s = record { bins = s .bins; under = s .under; over = e ∷ s .over }
+
+pub under-push : (e : Entry) (s : State) → lt (e .weight) one ≡ true → push e s ≡ record { bins = s .bins; under = e ∷ s .under; over = s .over }
+unfolding push
+under-push e s h = rw h
+
+pub over-push : (e : Entry) (s : State) → lt (e .weight) one ≡ false → push e s ≡ record { bins = s .bins; under = s .under; over = e ∷ s .over }
+unfolding push
+over-push e s h = rw h
+
+push-either : (e : Entry) (s : State) → (push e s ≡ onUnder e s) ⊎ (push e s ≡ onOver e s)
+push-either e s = go (lt (e .weight) one) refl
+  where
+    go : (b : Bool) → lt (e .weight) one ≡ b → (push e s ≡ onUnder e s) ⊎ (push e s ≡ onOver e s)
+    go true h = inl (under-push e s h)
+    go false h = inr (over-push e s h)
+
+pub push-bins : (e : Entry) (s : State) → push e s .bins ≡ s .bins
+push-bins e s = ⊎-elim (λ p. rw p) (λ p. rw p) (push-either e s)
+
+-- a bin's entry
+abbrev entryOf : Float → ℕ → Bin → Entry
+entryOf count i b = record { weight = b .p ⊗ count; index = i }
 
 -- ---- the game ends
 
@@ -36,19 +66,14 @@ turns-stay (suc n) s h = rw (over-stays s h) (turns-stay n s h)
 
 -- a turn takes one out
 height-push : (e : Entry) (s : State) → length (push e s .under) + length (push e s .over) ≡ suc (length (s .under) + length (s .over))
-unfolding push
-height-push e s = go (lt (e .weight) one)
-  where
-    go : (b : Bool) → (let t = cond {A = State} b (record { bins = s .bins; under = e ∷ s .under; over = s .over }) (record { bins = s .bins; under = s .under; over = e ∷ s .over }) in length (t .under) + length (t .over)) ≡ suc (length (s .under) + length (s .over))
-    go true = omega arith
-    go false = omega arith
+height-push e s = ⊎-elim (λ p. rw p (omega arith)) (λ p. rw p (omega arith)) (push-either e s)
 
 height-pushAll : (count : Float) (i : ℕ) (bs : List Bin) (s : State)
     → length (pushAll count i bs s .under) + length (pushAll count i bs s .over) ≡ length bs + (length (s .under) + length (s .over))
 unfolding pushAll
 height-pushAll count i [] s = omega arith
 height-pushAll count i (b ∷ bs) s =
-    let e : Entry = record { weight = b .p ⊗ count; index = i } in
+    let e = entryOf count i b in
     omega (arith, height-pushAll count (suc i) bs (push e s), height-push e s)
 
 height-start : (ws : List Float) → length (start ws .under) + length (start ws .over) ≡ length ws
@@ -75,19 +100,11 @@ ends-after ws n h = ends-from n (start ws .bins) (start ws .under) (start ws .ov
 
 -- ---- how many bins
 
-pub push-bins : (e : Entry) (s : State) → push e s .bins ≡ s .bins
-unfolding push
-push-bins e s = go (lt (e .weight) one)
-  where
-    go : (b : Bool) → cond {A = State} b (record { bins = s .bins; under = e ∷ s .under; over = s .over }) (record { bins = s .bins; under = s .under; over = e ∷ s .over }) .bins ≡ s .bins
-    go true = refl
-    go false = refl
-
 pub pushAll-bins : (count : Float) (i : ℕ) (bs : List Bin) (s : State) → pushAll count i bs s .bins ≡ s .bins
 unfolding pushAll
 pushAll-bins count i [] s = refl
 pushAll-bins count i (b ∷ bs) s =
-    pushAll-bins count (suc i) bs (push (record { weight = b .p ⊗ count; index = i }) s) ∙ push-bins (record { weight = b .p ⊗ count; index = i }) s
+    pushAll-bins count (suc i) bs (push (entryOf count i b) s) ∙ push-bins (entryOf count i b) s
 
 pub start-bins : (ws : List Float) → start ws .bins ≡ map (bin (total ws)) ws
 unfolding start
@@ -203,12 +220,11 @@ abbrev heldIn : ℕ → State → ℕ
 heldIn i s = held i (s .under) (s .over)
 
 held-push : (i : ℕ) (e : Entry) (s : State) → heldIn i (push e s) ≡ hit i (e .index) + heldIn i s
-unfolding push held
-held-push i e s = go (lt (e .weight) one)
-  where
-    go : (b : Bool) → heldIn i (cond {A = State} b (record { bins = s .bins; under = e ∷ s .under; over = s .over }) (record { bins = s .bins; under = s .under; over = e ∷ s .over })) ≡ hit i (e .index) + heldIn i s
-    go true = omega (arith, occurrences-cons i (e .index) (places (s .under)))
-    go false = omega (arith, occurrences-cons i (e .index) (places (s .over)))
+unfolding held
+held-push i e s =
+    ⊎-elim (λ p. rw p (omega (arith, occurrences-cons i (e .index) (places (s .under)))))
+    (λ p. rw p (omega (arith, occurrences-cons i (e .index) (places (s .over)))))
+    (push-either e s)
 
 held-turned : (i : ℕ) (bs : List Bin) (us os : List Entry) → heldIn i (turned bs us os) + occurrences i (settledBy us os) ≡ held i us os
 unfolding turned settledBy held
@@ -241,7 +257,7 @@ held-outside : (i : ℕ) (count : Float) (j : ℕ) (bs : List Bin) (s : State) �
 unfolding pushAll
 held-outside i count j [] s h = refl
 held-outside i count j (b ∷ bs) s h =
-    let e : Entry = record { weight = b .p ⊗ count; index = j } in
+    let e = entryOf count j b in
     held-outside i count (suc j) bs (push e s) (⊎-elim (λ l. inl (omega arith)) (λ l. inr (omega arith)) h)
     ∙ held-push i e s
     ∙ ap (λ (n : ℕ). n + heldIn i s) (hit-other i j (λ p. ⊎-elim (λ l. omega arith) (λ l. omega arith) h))
@@ -252,15 +268,15 @@ held-inside : (i : ℕ) (count : Float) (j : ℕ) (bs : List Bin) (s : State) �
 unfolding pushAll
 held-inside i count j [] s h k = absurd (omega arith)
 held-inside i count j (b ∷ bs) s h k =
-    go (decLe i j) (λ l. held-inside i count (suc j) bs (push (record { weight = b .p ⊗ count; index = j }) s) l (omega arith))
+    go (decLe i j) (λ l. held-inside i count (suc j) bs (push (entryOf count j b) s) l (omega arith))
   where
-    go : Dec (i ≤ j) → (j < i → heldIn i (pushAll count (suc j) bs (push (record { weight = b .p ⊗ count; index = j }) s)) ≡ suc (heldIn i (push (record { weight = b .p ⊗ count; index = j }) s))) → heldIn i (pushAll count (suc j) bs (push (record { weight = b .p ⊗ count; index = j }) s)) ≡ suc (heldIn i s)
+    go : Dec (i ≤ j) → (j < i → heldIn i (pushAll count (suc j) bs (push (entryOf count j b) s)) ≡ suc (heldIn i (push (entryOf count j b) s))) → heldIn i (pushAll count (suc j) bs (push (entryOf count j b) s)) ≡ suc (heldIn i s)
     go (yes l) more =
-        held-outside i count (suc j) bs (push (record { weight = b .p ⊗ count; index = j }) s) (inl (omega arith))
-        ∙ omega (arith, held-push i (record { weight = b .p ⊗ count; index = j }) s, hit-same i j (omega arith))
+        held-outside i count (suc j) bs (push (entryOf count j b) s) (inl (omega arith))
+        ∙ omega (arith, held-push i (entryOf count j b) s, hit-same i j (omega arith))
     go (no n) more =
         more (lt-of-not-le n)
-        ∙ omega (arith, held-push i (record { weight = b .p ⊗ count; index = j }) s, hit-other i j (λ p. omega (arith, lt-of-not-le n)))
+        ∙ omega (arith, held-push i (entryOf count j b) s, hit-other i j (λ p. omega (arith, lt-of-not-le n)))
 
 module _ (ws : List Float) (i : ℕ) where
   held-none : heldIn i (record { bins = map (bin (total ws)) ws; under = []; over = [] }) ≡ 0

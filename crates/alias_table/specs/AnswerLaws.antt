@@ -3,19 +3,17 @@ use Prim.Native.Nat.{ℕ, _-_, _*_, _≤_, _<_}
 use mathlib.Core.Path.{_≡_, refl, sym, ap, subst, _∙_}
 use mathlib.Core.Bool.{Bool, true, false, cond}
 use mathlib.Core.List.{List, [], _++_, map}
-use mathlib.Core.Logic.{_⊎_, inl, inr}
 use native.Mathlib.Omega.{arith}
 use borrow.Author.Tests.{le-leb, lt-leb, lt-ltb, le-ltb}
-use lib.Dec.{leb}
 use lib.Ieee.{Float, binary32, binary64, eq}
 use lib.ListN.{length, drop, replicate, length-map}
 use Rattle.ieee.specs.Narrow.{narrow}
 use Rattle.ieee.specs.Single.{single, zero as zerof, one}
-use Rattle.words.specs.Answers.{Answer, given, refused}
+use Rattle.words.specs.Answers.{given, refused}
 use Rattle.words.specs.Fill.{filled}
 use Rattle.words.specs.Tray.{tray}
 use Rattle.words.specs.TrayLaws.{tray-full}
-use Rattle.alias_table.specs.AliasTable.{Bin, anyBad, sumFrom, filledIn, total, start, turns, finish, table, buildPowerAliasTable, binWords}
+use Rattle.alias_table.specs.AliasTable.{Bin, anyBad, sumFrom, filledIn, total, table, buildPowerAliasTable, binWords}
 use Rattle.alias_table.specs.AliasLaws.{table-length}
 use Rattle.alias_table.specs.Stacks.{sumsFrom, sumsOf, weighted, played}
 use Rattle.alias_table.specs.StackLaws.{weighted-length, length-binWords, zeroed}

@@ -1,27 +1,27 @@
 -- Laws of the game in words (Stacks.antt): what each store does to the bins and to the stacks. Assumes nothing.
-use Prim.Native.Nat.{ℕ, zero, suc, _+_, _-_, _*_, _≤_, _<_, zero-le}
+use Prim.Native.Nat.{ℕ, zero, suc, _+_, _-_, _*_, _≤_, _<_}
 use mathlib.Core.Path.{_≡_, refl, sym, ap, subst, _∙_}
 use mathlib.Core.Bool.{Bool, true, false, cond, not, _||_}
 use mathlib.Core.List.{List, [], _∷_, _++_, map}
 use mathlib.Core.Logic.{_⊎_, inl, inr, ⊎-elim}
-use native.Mathlib.Nat.{zero-add, le-refl, add-zero}
+use native.Mathlib.Nat.{zero-add}
 use native.Mathlib.Numerals.{add-one}
 use native.Mathlib.Decide.{decLt}
 use native.Mathlib.Omega.{arith}
 use lib.Dec.{T}
 use lib.IntN.{pos}
-use lib.Ieee.{Float, nan, inf, fin, binary32, binary64, ofBits, toBits, ofInt, fits, add, div, lt}
+use lib.Ieee.{Float, nan, inf, fin, binary32, binary64, ofBits, toBits, ofInt, fits, add, lt}
 use lib.Ieee.Bits.{ofBits-toBits}
 use lib.Ieee.Fits.{mul-fits, sub-fits}
 use lib.Ieee.Scale.{finite}
-use lib.ListN.{length, getD, set, take, drop, replicate, length-set, length-map, length-append, length-drop, length-replicate, getD-replicate, List·getD-map, drop-of-length-le}
+use lib.ListN.{length, getD, set, take, drop, replicate, length-set, length-map, length-append, length-replicate, getD-replicate, List·getD-map, drop-of-length-le}
 use lib.Seq.{sets, drop-cons, drop-set-lt, getD-set-same, getD-set-other, take-all}
 use Rattle.ieee.specs.Single.{_⊕_, _⊖_, _⊗_, _⊘_, single, zero as zerof, one}
 use Rattle.words.specs.Fill.{filled}
 use Rattle.words.specs.FillLaws.{filled-within}
 use Rattle.words.specs.Stores.{Copied, copied-none, copied-run}
 use Rattle.alias_table.specs.AliasTable.{Bin, Entry, State, none, bad, anyBad, sumFrom, total, bin, push, pushAll, start, update, settle, whole, turned, turn, turns, leftover, finish, binWords}
-use Rattle.alias_table.specs.AliasLaws.{turns-stay, push-bins, start-bins, length-update, length-leftover}
+use Rattle.alias_table.specs.AliasLaws.{turns-stay, under-push, over-push, push-bins, start-bins, length-update, length-leftover}
 use Rattle.alias_table.specs.Stacks.{sumsFrom, weighted, entryAt, stackAt, put, top, Sound, Stacks, Game, Room, Started, Playing, Played, Left, Wholed, played}
 use Rattle.alias_table.specs.declared.Sums.{Sums}
 use Rattle.alias_table.specs.declared.Sums.the-variants.{Of, Bad}
@@ -198,14 +198,6 @@ module _ (base n : ℕ) (work : List ℕ) (at : ℕ) (w : Float) (i : ℕ) (plac
           rw (e, put-weight work at w i h, put-index work at w i h, ofBits-toBits binary32 w fit) (l, refl)
 
 -- ---- pushing and popping
-
-under-push : (e : Entry) (s : State) → lt (e .weight) one ≡ true → push e s ≡ record { bins = s .bins; under = e ∷ s .under; over = s .over }
-unfolding push
-under-push e s h = rw h
-
-over-push : (e : Entry) (s : State) → lt (e .weight) one ≡ false → push e s ≡ record { bins = s .bins; under = s .under; over = e ∷ s .over }
-unfolding push
-over-push e s h = rw h
 
 drop-put : (n : ℕ) (work : List ℕ) (at : ℕ) (w : Float) (i : ℕ) → at + 1 < n → drop n (put work at w i) ≡ drop n work
 drop-put n work at w i h =

@@ -3,7 +3,7 @@
 ghost use mathlib.Core.Path.{_≡_};
 ghost use mathlib.Core.Bool.{cond};
 ghost use mathlib.Core.List.{List, [], _∷_, map, _++_};
-ghost use Prim.Native.Nat.{_+_, _*_, _≤_, _<_};
+ghost use Prim.Native.Nat.{_+_, _*_, _<_};
 ghost use lib.Ieee.{binary32, binary64, toBits, lt};
 ghost use lib.ListN.{length, getD, set, replicate, drop};
 ghost use lib.Seq.{sets};

@@ -1,7 +1,7 @@
 -- `alias_table::add_up` meets its contract: the sums of the weights passed go on to the sums of all. Assumes nothing.
 use borrow.Author.Needs.{needs}
 use Prim.Native.Nat.{_-_, _≤_}
-use mathlib.Core.Path.{_≡_, refl, sym}
+use mathlib.Core.Path.{_≡_, refl}
 use mathlib.Core.List.{map}
 use denote.Ref.{now}
 use lib.Ieee.{ofBits, div}

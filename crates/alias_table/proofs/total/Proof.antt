@@ -1,6 +1,5 @@
 -- `alias_table::total` meets its contract: the sum is narrowed. Assumes nothing.
 use borrow.Author.Needs.{needs}
-use lib.Ieee.{binary64}
 use Rattle.alias_table.proofs.total.Statement.{statement}
 use Rattle.alias_table.proofs.total.Tie as tie
 
