@@ -270,7 +270,8 @@ held-inside i count j [] s h k = absurd (omega arith)
 held-inside i count j (b ∷ bs) s h k =
     go (decLe i j) (λ l. held-inside i count (suc j) bs (push (entryOf count j b) s) l (omega arith))
   where
-    go : Dec (i ≤ j) → (j < i → heldIn i (pushAll count (suc j) bs (push (entryOf count j b) s)) ≡ suc (heldIn i (push (entryOf count j b) s))) → heldIn i (pushAll count (suc j) bs (push (entryOf count j b) s)) ≡ suc (heldIn i s)
+    go : Dec (i ≤ j) → (j < i → heldIn i (pushAll count (suc j) bs (push (entryOf count j b) s)) ≡ suc (heldIn i (push (entryOf count j b) s)))
+        → heldIn i (pushAll count (suc j) bs (push (entryOf count j b) s)) ≡ suc (heldIn i s)
     go (yes l) more =
         held-outside i count (suc j) bs (push (entryOf count j b) s) (inl (omega arith))
         ∙ omega (arith, held-push i (entryOf count j b) s, hit-same i j (omega arith))

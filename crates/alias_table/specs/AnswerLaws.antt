@@ -98,7 +98,8 @@ pub total-is : (words : List ℕ) (s d : Float) → Of s d ≡ sumsOf (map singl
 unfolding total weighted
 total-is words s d e = go (eq s zerof)
   where
-    go : (b : Bool) → narrow (cond b (sumFrom binary64 zerof (replicate (length words) one)) d) ≡ narrow (sumFrom binary64 zerof (cond b (replicate (length words) one) (map single words)))
+    go : (b : Bool) → narrow (cond b (sumFrom binary64 zerof (replicate (length words) one)) d)
+        ≡ narrow (sumFrom binary64 zerof (cond b (replicate (length words) one) (map single words)))
     go true = refl
     go false = ap narrow (sym (sums-are (map single words) s d e .double-sum))
 

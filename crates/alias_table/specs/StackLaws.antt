@@ -22,7 +22,7 @@ use Rattle.words.specs.FillLaws.{filled-within}
 use Rattle.words.specs.Stores.{Copied, copied-none, copied-run}
 use Rattle.alias_table.specs.AliasTable.{Bin, Entry, State, none, bad, anyBad, sumFrom, total, bin, push, pushAll, start, update, settle, whole, turned, turn, turns, leftover, finish, binWords}
 use Rattle.alias_table.specs.AliasLaws.{turns-stay, under-push, over-push, push-bins, start-bins, length-update, length-leftover}
-use Rattle.alias_table.specs.Stacks.{sumsFrom, weighted, entryAt, stackAt, put, top, Sound, Stacks, Game, Room, Started, Playing, Played, Left, Wholed, played}
+use Rattle.alias_table.specs.Stacks.{sumsFrom, weighted, entryAt, stackAt, put, top, SoundAt, Sound, Stacks, Game, Room, Started, Playing, Played, Left, Wholed, played}
 use Rattle.alias_table.specs.declared.Sums.{Sums}
 use Rattle.alias_table.specs.declared.Sums.the-variants.{Of, Bad}
 
@@ -186,12 +186,13 @@ module _ (base n : ℕ) (work : List ℕ) (at : ℕ) (w : Float) (i : ℕ) (plac
   stack-put : stackAt base (put work at w i) (suc n) ≡ record { weight = w; index = i } ∷ stackAt base work n
   unfolding stackAt
   stack-put =
-      rw (place, put-weight work at w i h, put-index work at w i h, ofBits-toBits binary32 w fit, stack-same base n work (put work at w i) (put-same base n work at w i (inr (omega arith))))
+      let below = stack-same base n work (put work at w i) (put-same base n work at w i (inr (omega arith))) in
+      rw (place, put-weight work at w i h, put-index work at w i h, ofBits-toBits binary32 w fit, below)
 
   sound-put : (m : ℕ) → i < m → Sound m base work n → Sound m base (put work at w i) (suc n)
   sound-put m l s k b = go (decLt k n)
     where
-      go : Dec (k < n) → (getD (put work at w i) (base + 2 * k + 1) 0 < m) × (toBits binary32 (single (getD (put work at w i) (base + 2 * k) 0)) ≡ getD (put work at w i) (base + 2 * k) 0)
+      go : Dec (k < n) → SoundAt m base (put work at w i) k
       go (yes y) = sound-same m base n work (put work at w i) (put-same base n work at w i (inr (omega arith))) s k y
       go (no z) =
           let e : base + 2 * k ≡ at = omega arith in

@@ -46,10 +46,13 @@ put work at weight index = set (set work at (toBits binary32 weight)) (at + 1) i
 abbrev pub top : ℕ → ℕ → ℕ → Bool → ℕ
 top m under over below = cond below (2 * under) (2 * m + 2 * over)
 
--- each entry's place is one of m, and its word is that of its weight
+-- an entry's place is one of m, and its word is that of its weight
+abbrev pub SoundAt : ℕ → ℕ → List ℕ → ℕ → Type 0
+SoundAt m base work k =
+    (getD work (base + 2 * k + 1) 0 < m) × (toBits binary32 (single (getD work (base + 2 * k) 0)) ≡ getD work (base + 2 * k) 0)
+
 abbrev pub Sound : ℕ → ℕ → List ℕ → ℕ → Type 0
-Sound m base work n =
-    (k : ℕ) → k < n → (getD work (base + 2 * k + 1) 0 < m) × (toBits binary32 (single (getD work (base + 2 * k) 0)) ≡ getD work (base + 2 * k) 0)
+Sound m base work n = (k : ℕ) → k < n → SoundAt m base work k
 
 -- The stacks of a state as they stand in the work: `under` from word 0 on, `over` from word 2m on; after 4m words `workRest`.
 pub record Stacks (m : ℕ) (workRest : List ℕ) (s : State) (work : List ℕ) (under over : ℕ) : Type 0 where

@@ -44,7 +44,9 @@ make-whole-requires-2 c κs =
     left-over g (wholed-under g (c .before .before .before .before .make-whole .ensures))
 
 mul-zero-words : tie.Need-mul-zero-words
-mul-zero-words c = omega (arith, c .before .before .before .before .before .before .before .before .before .before .before .before .before .before .before .before .before .before .before .before .before .before .before .before .before .before .before .before .pre .0)
+mul-zero-words c =
+    let won = c .before .before .before .before .before .before .before .before .before .before .before .before .before .before .before in
+    omega (arith, won .before .before .before .before .before .before .before .before .before .before .before .before .before .pre .0)
 
 zero-words-requires : tie.Need-zero-words-requires
 zero-words-requires c κs = search needs

@@ -107,7 +107,8 @@ returns-5 c =
     let tested = told .before .before .before in
     let args = tested .before .before .before .before .before .before .args in
     let words = now (args .weights) in
-    rw (answer-bad words (length (now (args .bins))) (length (now (args .work))) (tested .before .before .if1 .left) (tested .before .if2 .left) (tested .if3 .left) (sym (told .enum-told .given .1) ∙ told .before .before .add-up .ensures)) (
+    let bad = sym (told .enum-told .given .1) ∙ told .before .before .add-up .ensures in
+    rw (answer-bad words (length (now (args .bins))) (length (now (args .work))) (tested .before .before .if1 .left) (tested .before .if2 .left) (tested .if3 .left) bad) (
       refl,
       (
         c .before .before .before .before .before .before .zero-words .ensures ∙ tray-zeroed binWords (now (args .bins)) (3 * length words) (tested .before .if2 .left),

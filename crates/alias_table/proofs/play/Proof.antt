@@ -70,7 +70,9 @@ slice-read-settle : tie.Need-slice-read-settle Inv-loop μ-loop
 slice-read-settle c = omega arith
 
 settle-requires : tie.Need-settle-requires Inv-loop μ-loop
-settle-requires c κs = going-in (c .before .before .before .before .before .before .before .before .loop .inv) (c .before .before .before .before .before .before .before .before .before .before .before .pre) (omega arith) (omega arith)
+settle-requires c κs =
+    let loop = c .before .before .before .before .before .before .before .before in
+    going-in (loop .loop .inv) (loop .before .before .before .pre) (omega arith) (omega arith)
 
 sub-push : tie.Need-sub-push Inv-loop μ-loop
 sub-push c = omega arith

@@ -18,10 +18,14 @@ f32-of-word-requires c κs = search needs
 
 returns : tie.Need-returns
 unfolding ofBits
-returns c = rw (c .if1 .taken) (sym (weighted-one (now (c .before .before .args .weights)) (c .before .before .args .i) (c .before .before .pre)))
+returns c =
+    let args = c .before .before .args in
+    rw (c .if1 .taken) (sym (weighted-one (now (args .weights)) (args .i) (c .before .before .pre)))
 
 returns-2 : tie.Need-returns-2
-returns-2 c = rw (c .before .before .if1 .left, c .f32-of-word .ensures) (sym (weighted-own (now (c .before .before .before .before .args .weights)) (c .before .before .before .before .args .i)))
+returns-2 c =
+    let args = c .before .before .before .before .args in
+    rw (c .before .before .if1 .left, c .f32-of-word .ensures) (sym (weighted-own (now (args .weights)) (args .i)))
 
 pub weight-at-spec : {M : Type 1} → statement M
 weight-at-spec =
