@@ -1,1 +1,5 @@
 pub mod AliasTable
+pub mod AliasLaws
+pub mod Stacks
+pub mod StackLaws
+pub mod AnswerLaws

@@ -1,12 +1,15 @@
 -- The cases that document 01 marks for proof ("Light report and cases"), as one statement. Each is seen by computing the definitions. Assumes nothing.
 use Prim.Native.Nat.{ℕ}
 use mathlib.Core.Path.{_≡_, refl}
+use mathlib.Core.List.{[], _∷_, map}
 use lib.Ieee.{Float, binary32, ofBits, toBits, ofInt, span, climb, size, odd, units, round, neg, sum, add, sub, mul, div, lt, eq, le}
 use Rattle.ieee.specs.Choose.{fabs}
 use Rattle.ieee.specs.Narrow.{narrow}
+use Rattle.ieee.specs.Single.{single}
 use Rattle.ieee.specs.Sqrt.{root, isqrt, rootOf, sqrt}
 use Rattle.trig.specs.Series.{turns, seriesStep, series, arcStep, arc}
 use Rattle.trig.specs.Trig.{cos, acos, asin, twiceArc}
+use Rattle.alias_table.specs.AliasTable.{anyBad, sumFrom, filledIn, total, push, pushAll, start, update, turned, turns as gameTurns, leftover, table, binWords}
 
 -- a function's answer as a word, of an argument as a word
 abbrev pub word : (Float → Float) → ℕ → ℕ
@@ -21,7 +24,10 @@ pub record Marked : Type 0 where
   -- arcs of -1 and of 1
   pub acos-of-minus-one : word acos 0xbf800000 ≡ 0x40490fdb
   pub asin-of-one : word asin 0x3f800000 ≡ 0x3fc90fdb
+  -- weights 1, 3: q 0.5 alias 1; q 1 and no alias
+  pub alias-of-one-three : binWords (table (map single (0x3f800000 ∷ 0x40400000 ∷ [])))
+      ≡ 0x3f000000 ∷ 0x3e800000 ∷ 1 ∷ 0x3f800000 ∷ 0x3f400000 ∷ 0xffffffff ∷ []
 
 pub marked : Marked
-unfolding root isqrt rootOf sqrt ofBits toBits ofInt span climb size odd units round neg sum add sub mul div lt eq le fabs narrow turns seriesStep series arcStep arc cos acos asin twiceArc
-marked = record { root-of-two = refl; root-of-smallest = refl; cos-of-half-pi = refl; acos-of-minus-one = refl; asin-of-one = refl }
+unfolding root isqrt rootOf sqrt ofBits toBits ofInt span climb size odd units round neg sum add sub mul div lt eq le fabs narrow turns seriesStep series arcStep arc cos acos asin twiceArc anyBad sumFrom filledIn total push pushAll start update turned gameTurns leftover table binWords
+marked = record { root-of-two = refl; root-of-smallest = refl; cos-of-half-pi = refl; acos-of-minus-one = refl; asin-of-one = refl; alias-of-one-three = refl }

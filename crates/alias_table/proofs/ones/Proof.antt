@@ -1,0 +1,40 @@
+-- `alias_table::ones` meets its contract: the sum of the ones passed goes on to the sum of all. Assumes nothing.
+use Prim.Native.Nat.{_-_}
+use mathlib.Core.Path.{_≡_}
+use lib.Ieee.{binary64, ofBits}
+use lib.ListN.{replicate}
+use Rattle.ieee.specs.Single.{zero as zerof, one}
+use Rattle.alias_table.specs.AliasTable.{sumFrom}
+use Rattle.alias_table.specs.StackLaws.{ones-next, ones-last}
+use native.Mathlib.Omega.{arith}
+use Rattle.alias_table.proofs.ones.Statement.{statement}
+use Rattle.alias_table.proofs.ones.Tie as tie
+
+abbrev Inv-loop : tie.InvT-loop
+Inv-loop m s₀ i₀ s i =
+    sumFrom binary64 s (replicate (m - i) one) ≡ sumFrom binary64 zerof (replicate m one)
+
+abbrev μ-loop : tie.MeasureT-loop
+μ-loop m s₀ i₀ s i = m - i
+
+loop-holds : tie.Need-loop-holds Inv-loop μ-loop
+unfolding ofBits
+loop-holds c =
+    let e : c .args .m - 0 ≡ c .args .m = omega arith in
+    rw e
+
+add-i : tie.Need-add-i Inv-loop μ-loop
+add-i c = omega arith
+
+loop-less : tie.Need-loop-less Inv-loop μ-loop
+loop-less c = omega arith
+
+loop-again : tie.Need-loop-again Inv-loop μ-loop
+unfolding ofBits
+loop-again c = ones-next (c .before .before .args .m) (c .before .loop .i) (c .before .loop .s) (c .before .loop .inv) (omega arith)
+
+returns : tie.Need-returns Inv-loop μ-loop
+returns c = ones-last (c .before .before .args .m) (c .before .loop .i) (c .before .loop .s) (c .before .loop .inv) (omega arith)
+
+pub ones-spec : {M : Type 1} → statement M
+ones-spec = tie.close (tie.spec Inv-loop μ-loop loop-holds add-i loop-less loop-again returns)

@@ -1,0 +1,108 @@
+-- `alias_table::start` meets its contract: the bins passed are written and pushed. Assumes nothing.
+use Prim.Native.Nat.{_-_, _^_}
+use mathlib.Core.Path.{sym, _∙_}
+use mathlib.Core.Bool.{true, false}
+use borrow.Author.Tests.{le-leb}
+use denote.Ref.{now}
+use lib.Ieee.{inFloat}
+use lib.ListN.{length}
+use Rattle.alias_table.specs.Stacks.{weighted}
+use Rattle.alias_table.specs.StackLaws.{Starting, starting-none, starting-next, starting-all, weighted-length}
+use native.Mathlib.Omega.{arith}
+use Rattle.alias_table.proofs.start.Statement.{statement}
+use Rattle.alias_table.proofs.start.Tie as tie
+
+abbrev Inv-loop : tie.InvT-loop
+Inv-loop weights flat sum bins₀ work₀ m count under₀ over₀ i₀ bins work under over i =
+    Starting m (weighted flat weights) sum bins₀ work₀ bins work under over i
+
+abbrev μ-loop : tie.MeasureT-loop
+μ-loop weights flat sum bins₀ work₀ m count under₀ over₀ i₀ bins work under over i = m - i
+
+int-to-float-count : tie.Need-int-to-float-count Inv-loop μ-loop
+unfolding inFloat
+int-to-float-count c = rw (le-leb (length (now (c .before .before .before .before .args .weights))) (2 ^ 24) (omega (arith, c .before .before .before .before .pre))) tt
+
+loop-holds : tie.Need-loop-holds Inv-loop μ-loop
+loop-holds c =
+    let args = c .before .before .before .before .args in
+    starting-none (weighted (args .flat) (now (args .weights))) (args .sum) (weighted-length (args .flat) (now (args .weights))) (c .before .before .before .before .pre .0)
+
+weight-at-requires : tie.Need-weight-at-requires Inv-loop μ-loop
+weight-at-requires c κs = omega arith
+
+mul-put-bin : tie.Need-mul-put-bin Inv-loop μ-loop
+mul-put-bin c = omega arith
+
+put-bin-requires : tie.Need-put-bin-requires Inv-loop μ-loop
+put-bin-requires c κs = omega arith
+
+cast-push : tie.Need-cast-push Inv-loop μ-loop
+cast-push c = omega arith
+
+push-requires : tie.Need-push-requires Inv-loop μ-loop
+push-requires c κs = omega arith
+
+add-i : tie.Need-add-i Inv-loop μ-loop
+add-i c = omega arith
+
+add-under : tie.Need-add-under Inv-loop μ-loop
+add-under c = omega arith
+
+loop-less : tie.Need-loop-less Inv-loop μ-loop
+loop-less c = omega arith
+
+loop-again : tie.Need-loop-again Inv-loop μ-loop
+loop-again c =
+    let pushed = c .before .before .before in
+    let weight = pushed .before .before .before .before .before .before in
+    let l = rw (weight .weight-at .ensures) at (sym (pushed .push .ensures .0) ∙ c .if1 .taken) in
+    rw (pushed .push .ensures .1, c .before .before .before .before .before .before .before .put-bin .ensures, weight .weight-at .ensures, l)
+    (starting-next (weight .before .before .loop .inv) (omega arith) true l)
+
+add-over : tie.Need-add-over Inv-loop μ-loop
+add-over c = omega arith
+
+loop-less-2 : tie.Need-loop-less-2 Inv-loop μ-loop
+loop-less-2 c = omega arith
+
+loop-again-2 : tie.Need-loop-again-2 Inv-loop μ-loop
+loop-again-2 c =
+    let pushed = c .before .before .before in
+    let weight = pushed .before .before .before .before .before .before in
+    let l = rw (weight .weight-at .ensures) at (sym (pushed .push .ensures .0) ∙ c .if1 .left) in
+    rw (pushed .push .ensures .1, c .before .before .before .before .before .before .before .put-bin .ensures, weight .weight-at .ensures, l)
+    (starting-next (weight .before .before .loop .inv) (omega arith) false l)
+
+same-length : tie.Need-same-length Inv-loop μ-loop
+same-length c = omega arith
+
+same-length-2 : tie.Need-same-length-2 Inv-loop μ-loop
+same-length-2 c = omega arith
+
+returns : tie.Need-returns Inv-loop μ-loop
+returns c = starting-all (c .before .loop .inv) (omega arith) (c .before .before .before .before .before .before .pre .1)
+
+pub start-spec : {M : Type 1} → statement M
+start-spec =
+    tie.close
+    (tie.spec
+    Inv-loop
+    μ-loop
+    int-to-float-count
+    loop-holds
+    weight-at-requires
+    mul-put-bin
+    put-bin-requires
+    cast-push
+    push-requires
+    add-i
+    add-under
+    loop-less
+    loop-again
+    add-over
+    loop-less-2
+    loop-again-2
+    same-length
+    same-length-2
+    returns)

@@ -1,0 +1,33 @@
+-- `alias_table::weight_at` meets its contract: a weight is one, or its word's value. Assumes nothing.
+use borrow.Author.Needs.{needs}
+use mathlib.Core.Path.{sym}
+use lib.Ieee.{ofBits}
+use denote.Ref.{now}
+use Rattle.alias_table.specs.StackLaws.{weighted-one, weighted-own}
+use Rattle.alias_table.proofs.weight_at.Statement.{statement}
+use Rattle.alias_table.proofs.weight_at.Tie as tie
+
+mul-f32-of-word : tie.Need-mul-f32-of-word
+mul-f32-of-word c = search needs
+
+shared-slice-read-f32-of-word : tie.Need-shared-slice-read-f32-of-word
+shared-slice-read-f32-of-word c = search needs
+
+f32-of-word-requires : tie.Need-f32-of-word-requires
+f32-of-word-requires c κs = search needs
+
+returns : tie.Need-returns
+unfolding ofBits
+returns c =
+    let args = c .before .before .args in
+    rw (c .if1 .taken) (sym (weighted-one (now (args .weights)) (args .i) (c .before .before .pre)))
+
+returns-2 : tie.Need-returns-2
+returns-2 c =
+    let args = c .before .before .before .before .args in
+    rw (c .before .before .if1 .left, c .f32-of-word .ensures) (sym (weighted-own (now (args .weights)) (args .i)))
+
+pub weight-at-spec : {M : Type 1} → statement M
+weight-at-spec =
+    tie.close
+    (tie.spec mul-f32-of-word shared-slice-read-f32-of-word f32-of-word-requires returns returns-2)
