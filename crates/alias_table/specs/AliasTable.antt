@@ -140,11 +140,6 @@ unfoldable pub binWords : List Bin → List ℕ
 binWords [] = []
 binWords (b ∷ bs) = toBits binary32 (b .q) ∷ toBits binary32 (b .p) ∷ b .alias ∷ binWords bs
 
--- how many bins
-abbrev pub count : Answer (List Bin) → Answer ℕ
-count (given bs) = given (length bs)
-count (refused n) = refused n
-
 abbrev pub tabled : AliasTable → Answer ℕ
 tabled (Bins n) = given n
 tabled (Refused r) = refused (number r)
