@@ -187,3 +187,15 @@ build-tray ws room rs read m n h before =
     let e : getD ws 0 0 ≡ m = sym size ∙ n in
     let bounds : boundsFrom m ws 1 ≡ allBounds ws rs = boundsFrom-all m ws 1 rs (subst (λ (k : ℕ). lampsFrom k ws 1 ≡ given rs) e lamps) in
     rw (build-walked ws room rs read m n h, e, bounds) (late-tray m (allBounds ws rs) before (late-all ws rs) (λ bs eb. allBounds-length ws rs bs eb ∙ n))
+
+-- an accepted list has no more than 4,096 lamps
+pub built : (ws : List ℕ) (room : ℕ) (bs : List LightBounds) → buildLightBounds ws room ≡ given bs → length bs ≤ 4096
+unfolding buildLightBounds
+built ws room bs e =
+    let (rs, read, e′) = then-given (lampList ws) (λ rs. cond (leb (blockWords (length rs)) room) (allBounds ws rs) (refused 3)) bs e in
+    let (uncrowded, lamps, size) = list-read ws rs read in
+    omega (arith, within-limit ws uncrowded, size, length-of (leb (blockWords (length rs)) room) rs e′)
+  where
+    length-of : (b : Bool) (rs : List Reading) → cond b (allBounds ws rs) (refused 3) ≡ given bs → length bs ≡ length rs
+    length-of true rs e = allBounds-length ws rs bs e
+    length-of false rs e = absurd (not-both e refl)

@@ -7,3 +7,4 @@ pub mod Build
 pub mod Walk
 pub mod WalkLaws
 pub mod BuildLaws
+pub mod ListLaws
