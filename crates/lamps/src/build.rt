@@ -116,13 +116,13 @@ fn write_block(list: &[u32], m: usize, block: &mut [u32]) -> Counted
     ensures { λ _. ⌜ now (block .exit) ≡ lateTray m (boundsFrom m (now (list .entry)) 1) (now (block .entry)) ⌝ }
 {
     block[0] = m as u32;
-    let mut i: usize = 0;
+    let mut place: usize = 0;
     let mut at: usize = 1;
-    while i < m {
+    while place < m {
         match next_bounds(list, at) {
             Next::Bounds(record, next) => {
-                block[1 + 14 * i] = i as u32;
-                write_record(block, 2 + 14 * i, record);
+                block[1 + 14 * place] = place as u32;
+                write_record(block, 2 + 14 * place, record);
                 at = next.at;
             }
             Next::Refused(why) => {
@@ -130,7 +130,7 @@ fn write_block(list: &[u32], m: usize, block: &mut [u32]) -> Counted
                 return Counted::Refused(why);
             }
         }
-        i += 1;
+        place += 1;
     }
     Counted::Lamps(m)
 }

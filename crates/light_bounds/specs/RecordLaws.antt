@@ -1,18 +1,22 @@
 -- Laws of records as words: what `recordAt` and `writtenAt` are when the place holds thirteen words and when it does not. Assumes nothing.
 use Prim.Native.Nat.{ℕ, suc, _+_, _≤_, _<_}
 use mathlib.Core.Path.{_≡_, refl, _∙_}
-use mathlib.Core.Bool.{true, false}
+use mathlib.Core.Bool.{Bool, true, false}
 use mathlib.Core.List.{List}
+use lib.Dec.{T}
+use lib.Ieee.{Float, binary32, toBits, fits}
+use lib.Ieee.Bits.{ofBits-toBits}
 use lib.ListN.{length, getD, List·getD-eq-default}
 use lib.Seq.{sets}
 use native.Mathlib.Numerals.{unary-clauses}
 use native.Mathlib.Omega.{arith}
 use borrow.Author.Tests.{le-leb, lt-leb}
 use Rattle.light_bounds.specs.declared.light_bounds.LightBounds.{LightBounds}
+use Rattle.light_bounds.specs.declared.vecmath.Vec3.{Vec3}
 use Rattle.light_bounds.specs.declared.record_words.Found.the-variants.{Record, UnknownSide, Past}
-use Rattle.ieee.specs.Single.{zero}
+use Rattle.ieee.specs.Single.{zero, single}
 use Rattle.light_bounds.specs.Vectors.{vec}
-use Rattle.light_bounds.specs.RecordWords.{recordAt, readRecord, vecAt, writtenAt, putVec, putRest, putRecord, recordList, sideKnown}
+use Rattle.light_bounds.specs.RecordWords.{recordAt, readRecord, vecAt, writtenAt, putVec, putRest, putRecord, recordList, sideKnown, sideOf, sideWord}
 
 pub vecAt-past : (ws : List ℕ) (at : ℕ) → length ws ≤ at → vecAt ws at ≡ vec zero zero zero
 unfolding vecAt
@@ -51,3 +55,35 @@ put-sets ws at r =
 
 pub writtenAt-sets : (ws : List ℕ) (at : ℕ) (r : LightBounds) → at + 13 ≤ length ws → writtenAt ws at r ≡ sets ws at (recordList r)
 writtenAt-sets ws at r h = writtenAt-in ws at r h ∙ put-sets ws at r
+
+-- ---- a record of floats of the format, read back from its words
+
+abbrev pub VecFits : Vec3 → Type 0
+VecFits v = T (fits binary32 (v .x)) × T (fits binary32 (v .y)) × T (fits binary32 (v .z))
+
+pub record RecordFits (r : LightBounds) : Type 0 where
+  pub min : VecFits (r .bounds .min)
+  pub max : VecFits (r .bounds .max)
+  pub direction : VecFits (r .direction)
+  pub phi : T (fits binary32 (r .phi))
+  pub cos-o : T (fits binary32 (r .«cos_theta_o»))
+  pub cos-e : T (fits binary32 (r .«cos_theta_e»))
+
+side-back : (side : Bool) → sideOf (sideWord side) ≡ side
+side-back true = refl
+side-back false = refl
+
+pub reread : (r : LightBounds) → RecordFits r → readRecord (recordList r) 0 ≡ r
+unfolding vecAt recordList
+reread r h =
+    let back : (x : Float) → T (fits binary32 x) → single (toBits binary32 x) ≡ x = ofBits-toBits binary32 in
+    let vector : (v : Vec3) → VecFits v → vec (single (toBits binary32 (v .x))) (single (toBits binary32 (v .y))) (single (toBits binary32 (v .z))) ≡ v =
+        λ v k. λ j. record { x = back (v .x) (k .0) j; y = back (v .y) (k .1) j; z = back (v .z) (k .2) j } in
+    λ j. record {
+      bounds = record { min = vector (r .bounds .min) (h .min) j; max = vector (r .bounds .max) (h .max) j };
+      direction = vector (r .direction) (h .direction) j;
+      phi = back (r .phi) (h .phi) j;
+      «cos_theta_o» = back (r .«cos_theta_o») (h .cos-o) j;
+      «cos_theta_e» = back (r .«cos_theta_e») (h .cos-e) j;
+      «two_sided» = side-back (r .«two_sided») j;
+    }

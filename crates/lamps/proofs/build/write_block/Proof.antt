@@ -1,4 +1,4 @@
--- `lamps::build::write_block` meets its contract. The loop's invariant: the bounds of the lamps before `i` are taken, and written behind the count.
+-- `lamps::build::write_block` meets its contract. The loop's invariant: the bounds of the lamps before `place` are taken, and written behind the count.
 -- Assumes nothing.
 use Prim.Native.Nat.{_-_}
 use mathlib.Core.List.{List}
@@ -26,10 +26,10 @@ use Rattle.lamps.proofs.build.write_block.Statement.{statement}
 use Rattle.lamps.proofs.build.write_block.Tie as tie
 
 abbrev Inv-loop : tie.InvT-loop
-Inv-loop list m block₀ i₀ at₀ block i at = (done : List LightBounds) × BoundsTaken list m i at done × Packed m done block₀ block
+Inv-loop list m block₀ place₀ at₀ block place at = (done : List LightBounds) × BoundsTaken list m place at done × Packed m done block₀ block
 
 abbrev μ-loop : tie.MeasureT-loop
-μ-loop list m block₀ i₀ at₀ block i at = m - i
+μ-loop list m block₀ place₀ at₀ block place at = m - place
 
 cast-block : tie.Need-cast-block Inv-loop μ-loop
 cast-block c = omega (arith, c .before .before .pre .0, c .before .before .pre .1)
@@ -91,8 +91,8 @@ returns c =
     rw (walked-refused (nextBounds (now (c .before .before .before .before .before .before .before .before .before .before .before .before .args .list))) (λ (p : Passed). p .bounds) (λ (p : Passed). p .past) (λ (end : ℕ). given []) (c .before .before .before .before .before .before .before .before .before .loop .inv .1) (omega arith) (sym (c .before .before .before .before .before .before .before .next-bounds .ensures) ∙ ap atCursor (c .before .before .before .before .before .why .given .1)))
     (refl, c .before .before .zero-words .ensures ∙ zeroed (packed-counted (now (c .before .before .before .before .before .before .before .before .before .before .before .before .args .block)) (c .before .before .before .before .before .before .before .before .before .loop .inv .2)) (omega (arith, c .before .before .before .before .before .before .before .before .before .before .before .before .pre .0, c .before .before .before .before .before .before .before .before .before .before .before .before .pre .1, c .before .before .before .before .before .before .before .before .before .loop .inv .1 .size, c .before .before .before .before .before .before .before .before .before .loop .inv .1 .within, length-set (now (c .before .before .before .before .before .before .before .before .before .before .before .before .args .block)) 0 (c .before .before .before .before .before .before .before .before .before .before .before .before .args .m))) (c .before .before .before .before .before .before .before .before .before .before .before .before .pre .0))
 
-add-i : tie.Need-add-i Inv-loop μ-loop
-add-i c = omega (arith, c .before .before .before .before .before .before .before .before .before .before .before .before .pre .0, c .before .before .before .before .before .before .before .before .before .before .before .before .pre .1, c .before .before .before .before .before .before .before .before .before .loop .inv .2 .same, length-set (now (c .before .before .before .before .before .before .before .before .before .before .before .before .args .block)) 0 (c .before .before .before .before .before .before .before .before .before .before .before .before .args .m))
+add-place : tie.Need-add-place Inv-loop μ-loop
+add-place c = omega (arith, c .before .before .before .before .before .before .before .before .before .before .before .before .pre .0, c .before .before .before .before .before .before .before .before .before .before .before .before .pre .1, c .before .before .before .before .before .before .before .before .before .loop .inv .2 .same, length-set (now (c .before .before .before .before .before .before .before .before .before .before .before .before .args .block)) 0 (c .before .before .before .before .before .before .before .before .before .before .before .before .args .m))
 
 loop-less : tie.Need-loop-less Inv-loop μ-loop
 loop-less c = omega arith
@@ -102,7 +102,7 @@ loop-again c =
     let b = c .before .before .before .before .before .«record» .given .0 .0 in (
       c .before .before .before .before .before .before .before .before .before .loop .inv .0 ++ b ∷ [],
       walked-one (nextBounds (now (c .before .before .before .before .before .before .before .before .before .before .before .before .args .list))) (λ (p : Passed). p .bounds) (λ (p : Passed). p .past) (λ (end : ℕ). given []) (record { bounds = b; past = c .before .before .before .before .before .«record» .given .0 .1 .0 .at }) (c .before .before .before .before .before .before .before .before .before .loop .inv .1) (omega arith) (sym (c .before .before .before .before .before .before .before .next-bounds .ensures) ∙ ap atCursor (c .before .before .before .before .before .«record» .given .1)),
-      rw (c .before .before .write-record .ensures) (packed-one (c .before .before .before .before .before .before .before .before .before .loop .i) b (c .before .before .before .before .before .before .before .before .before .loop .inv .2) (c .before .before .before .before .before .before .before .before .before .loop .inv .1 .size) (omega (arith, c .before .before .before .before .before .before .before .before .before .before .before .before .pre .0, c .before .before .before .before .before .before .before .before .before .before .before .before .pre .1, c .before .before .before .before .before .before .before .before .before .loop .inv .1 .size, c .before .before .before .before .before .before .before .before .before .loop .inv .1 .within, length-set (now (c .before .before .before .before .before .before .before .before .before .before .before .before .args .block)) 0 (c .before .before .before .before .before .before .before .before .before .before .before .before .args .m)))),
+      rw (c .before .before .write-record .ensures) (packed-one (c .before .before .before .before .before .before .before .before .before .loop .place) b (c .before .before .before .before .before .before .before .before .before .loop .inv .2) (c .before .before .before .before .before .before .before .before .before .loop .inv .1 .size) (omega (arith, c .before .before .before .before .before .before .before .before .before .before .before .before .pre .0, c .before .before .before .before .before .before .before .before .before .before .before .before .pre .1, c .before .before .before .before .before .before .before .before .before .loop .inv .1 .size, c .before .before .before .before .before .before .before .before .before .loop .inv .1 .within, length-set (now (c .before .before .before .before .before .before .before .before .before .before .before .before .args .block)) 0 (c .before .before .before .before .before .before .before .before .before .before .before .before .args .m)))),
     )
 
 same-length-2 : tie.Need-same-length-2 Inv-loop μ-loop
@@ -139,7 +139,7 @@ write-block-spec =
     zero-words-requires
     same-length
     returns
-    add-i
+    add-place
     loop-less
     loop-again
     same-length-2
