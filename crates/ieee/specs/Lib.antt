@@ -17,3 +17,5 @@ pub mod NearestLaws
 pub mod SqrtNearest
 pub mod WholeNumbers
 pub mod OrderLaws
+pub mod ChooseOrder
+pub mod OperationOrder

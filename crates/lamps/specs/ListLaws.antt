@@ -48,8 +48,7 @@ pub accepted-list : (ws : List ℕ) (room : ℕ) (rs : List Reading) (bs : List 
     → (buildLightBounds ws room ≡ given bs) × (length bs ≡ getD ws 0 0)
 unfolding buildLightBounds _then_
 accepted-list ws room rs bs read h enough =
-    let (uncrowded, lamps, size) = list-read ws rs read in
-    (
+    let (uncrowded, lamps, size) = list-read ws rs read in (
       rw (read, le-leb (blockWords (length rs)) room (omega (arith, size, enough))) (accepted-all ws rs bs h),
       accepted-length ws rs bs h ∙ size,
     )
@@ -69,11 +68,10 @@ record-at k (b ∷ bs) zero d h = let e : k + 0 ≡ k = omega arith in (packedFr
 record-at k (b ∷ bs) (suc i) d h =
     let (rest, is) = record-at (suc k) bs i d (omega arith) in
     let e : 14 * suc i ≡ 14 + 14 * i = omega arith in
-    let e′ : suc k + i ≡ k + suc i = omega arith in
-    (
+    let e′ : suc k + i ≡ k + suc i = omega arith in (
       rest,
       rw e (sym (drop-drop (14 * i) 14 (k ∷ recordList b ++ packedFrom (suc k) bs)) ∙ ap (drop (14 * i)) (drop-record b k (packedFrom (suc k) bs)))
-      ∙ is ∙ ap (λ (j : ℕ). j ∷ recordList (getD bs i d) ++ rest) e′,
+          ∙ is ∙ ap (λ (j : ℕ). j ∷ recordList (getD bs i d) ++ rest) e′,
     )
 
 -- record i of a block: handle i, then the record's thirteen words
@@ -129,9 +127,14 @@ count-is bs = refl
 pub block-checked : (bs : List LightBounds) → length bs ≤ 4096 → blockCheck (packExhaustiveBounds bs) ≡ given (length bs)
 unfolding blockCheck
 block-checked bs h =
-    rw (count-is bs, le-ltb 4096 (length bs) h, le-ltb 0x10_0000 (length (packExhaustiveBounds bs)) (omega (arith, length-block bs)),
-        eq-eqb (length (packExhaustiveBounds bs)) (blockWords (length bs)) (length-block bs),
-        below-true (sideAt (packExhaustiveBounds bs)) (length bs) (side-is bs), below-true (handleAt (packExhaustiveBounds bs)) (length bs) (handle-is bs))
+    rw (
+      count-is bs,
+      le-ltb 4096 (length bs) h,
+      le-ltb 0x10_0000 (length (packExhaustiveBounds bs)) (omega (arith, length-block bs)),
+      eq-eqb (length (packExhaustiveBounds bs)) (blockWords (length bs)) (length-block bs),
+      below-true (sideAt (packExhaustiveBounds bs)) (length bs) (side-is bs),
+      below-true (handleAt (packExhaustiveBounds bs)) (length bs) (handle-is bs),
+    )
 
 pub accepted-block-checked : (ws : List ℕ) (room : ℕ) (bs : List LightBounds) → buildLightBounds ws room ≡ given bs
     → blockCheck (packExhaustiveBounds bs) ≡ given (length bs)
@@ -167,7 +170,7 @@ block-read bs i d h =
     let at = 2 + 14 * i in
     let stored = recordList (getD bs i d) ++ block-at bs i d h .0 in
     let words : (k : ℕ) → getD ws (at + k) 0 ≡ getD stored k 0 =
-        λ k. let e : handlePlace i + suc k ≡ at + k = omega arith in subst (λ (n : ℕ). getD ws n 0 ≡ getD stored k 0) e (word-at bs i (suc k) d h) in
+    λ k. let e : handlePlace i + suc k ≡ at + k = omega arith in subst (λ (n : ℕ). getD ws n 0 ≡ getD stored k 0) e (word-at bs i (suc k) d h) in
     let e : at + 12 ≡ sidePlace i = omega arith in
     let side : sideKnown (getD ws (at + 12) 0) ≡ true = subst (λ (n : ℕ). sideKnown (getD ws n 0) ≡ true) (sym e) (side-is bs i h) in
     recordAt-found ws at (omega (arith, length-block bs, h)) side ∙ ap Record (read-words ws stored at words ∙ behind-record (getD bs i d) (block-at bs i d h .0))

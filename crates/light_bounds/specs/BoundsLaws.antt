@@ -7,7 +7,9 @@ use lib.Ieee.{Float, nan, inf, fin, binary32, lt, le, eq, fits, isNan, ofBits}
 use lib.Ieee.Fits.{and-l, and-r}
 use lib.Ieee.Scale.{finite}
 use Rattle.ieee.specs.Choose.{fmin}
-use Rattle.ieee.specs.OrderLaws.{nonneg, fmax-nonneg, fmin-le, fmax-le, le→nonneg, lt→le, not-eq-of-lt, add-positive}
+use Rattle.ieee.specs.ChooseOrder.{fmax-nonneg, fmin-le, fmax-le}
+use Rattle.ieee.specs.OperationOrder.{add-positive}
+use Rattle.ieee.specs.OrderLaws.{nonneg, le→nonneg, lt→le, not-eq-of-lt}
 use Rattle.ieee.specs.Single.{_⊕_, _⊗_, _⊘_, zero}
 use Rattle.words.specs.Answers.{Answer, given, refused, _then_}
 use Rattle.light_bounds.specs.Boxes.{boxCheck, boxUnion, leastOf, greatestOf, inverted}

@@ -78,7 +78,7 @@ unfolding vecAt recordList
 reread r h =
     let back : (x : Float) → T (fits binary32 x) → single (toBits binary32 x) ≡ x = ofBits-toBits binary32 in
     let vector : (v : Vec3) → VecFits v → vec (single (toBits binary32 (v .x))) (single (toBits binary32 (v .y))) (single (toBits binary32 (v .z))) ≡ v =
-        λ v k. λ j. record { x = back (v .x) (k .0) j; y = back (v .y) (k .1) j; z = back (v .z) (k .2) j } in
+    λ v k. λ j. record { x = back (v .x) (k .0) j; y = back (v .y) (k .1) j; z = back (v .z) (k .2) j } in
     λ j. record {
       bounds = record { min = vector (r .bounds .min) (h .min) j; max = vector (r .bounds .max) (h .max) j };
       direction = vector (r .direction) (h .direction) j;

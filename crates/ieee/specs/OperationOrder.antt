@@ -1,0 +1,474 @@
+-- How sums, differences, products and quotients keep the order of floats, over the format but for the last lemma. Assumes nothing.
+use Prim.Native.Nat.{ℕ, zero, suc, _+_, _-_, _*_, _/_, _%_, _^_, _≤_, _<_, compare}
+use mathlib.Core.Path.{_≡_, refl, sym, _∙_, ap, subst}
+use mathlib.Core.Bool.{Bool, true, false, not, _||_, cond}
+use mathlib.Core.Logic.{_⊎_, inl, inr}
+use native.Mathlib.Nat.{mul-pos, mul-comm, mul-le-mul, mul-sub, mul-one, mul-assoc, eq-zero-or-pos, zero-mul, mul-le-mul-right}
+use native.Mathlib.Omega.{arith}
+use lib.Dec.{T, ltb, eqb, eqb→eq, ltb→lt, lt→ltb, nltb→le}
+use lib.IntN.{ℤ, pos, negsuc}
+use lib.Ieee.{Format, binary32, Float, nan, inf, fin, prec, emax, low, unlike, up, down, size, nearest, odd, units, round, sum, add, sub, mul, div, lt, le, fits, isNan, ofBits}
+use lib.Ieee.Fits.{eq→eqb, up-pos, down-pos, round-is}
+use lib.Ieee.Exact.{HasValue, round-exact}
+use lib.Ieee.Order.{le-of-values, round-mono}
+use lib.Ieee.Scale.{finite}
+use lib.Ieee.Positive.{num, den, den-pos, positive}
+use lib.Ieee.Digits.{back}
+use lib.Pow.{pow-pos, pow-add}
+use borrow.Author.Tests.{ne-eqb}
+use Rattle.ieee.specs.Choose.{fabs}
+use Rattle.ieee.specs.NearestLaws.{Held, held, held-units}
+use Rattle.ieee.specs.Patterns.{pow-le-inv}
+use Rattle.ieee.specs.OrderLaws.{gain, le-fin, le-left, le-refl, le-sizes, le-top, le-trans, le→nonneg, loss, lt-of-lt-of-le, lt→le, nonneg, nonneg-known, nonneg-up, or-right}
+
+-- ---- what an operation gives, up to the sign of a zero
+
+abs-odd : (d : ℕ) (s : Bool) (q k l : ℕ) → fabs (odd d s q k l) ≡ odd d false q k l
+unfolding odd fabs
+abs-odd d s zero k l = refl
+abs-odd d s (suc q) k l = refl
+
+abs-units : (f : Format) (s : Bool) (q k : ℕ) → fabs (units f s q k) ≡ units f false q k
+unfolding units fabs
+abs-units f s q k = go (ltb (q * 2 ^ k) (2 ^ (low f + suc (emax f))))
+  where
+    go : (b : Bool) → fabs (cond b (odd (suc (prec f)) s q k (low f)) (inf s)) ≡ cond b (odd (suc (prec f)) false q k (low f)) (inf false)
+    go true = abs-odd (suc (prec f)) s q k (low f)
+    go false = refl
+
+abs-round : (f : Format) (s : Bool) (n d : ℕ) → fabs (round f s n d) ≡ round f false n d
+abs-round f s n d =
+    let k = size (n * 2 ^ low f / d) - prec f in
+    let u = d * 2 ^ k in
+    ap fabs (round-is f s n d) ∙ abs-units f s (nearest (n * 2 ^ low f / u) (compare (n * 2 ^ low f % u * 2) u)) k ∙ sym (round-is f false n d)
+
+abs-nonneg : (x : Float) → T (not (isNan x)) → T (nonneg (fabs x))
+unfolding fabs isNan
+abs-nonneg nan h = h
+abs-nonneg (inf s) h = tt
+abs-nonneg (fin s m e) h = tt
+
+value-zero : (x : Float) (s : Bool) (c : ℕ) → 0 < c → HasValue x s 0 c → T (nonneg x)
+value-zero nan s c C h = absurd h
+value-zero (inf t) s c C h = absurd h
+value-zero (fin t m e) s c C h =
+    let z : m ≡ 0 = elim (eq-zero-or-pos m) [ inl z ↦ z | inr p ↦ absurd (omega (arith, mul-pos (mul-pos p (up-pos e)) C, h .1)) ] in
+    or-right (not t) (eqb m 0) (eq→eqb z)
+
+round-nonneg : (f : Format) (s : Bool) (n d : ℕ) → 0 < d → (T s → n ≡ 0) → T (nonneg (round f s n d))
+round-nonneg f true n d D h = subst (λ (z : ℕ). T (nonneg (round f true z d))) (sym (h tt)) (value-zero (round f true 0 d) true d D (round-exact f true 0 d 0 0 D (pow-pos (prec f)) (pow-pos (low f + suc (emax f))) (simp zero-mul)))
+round-nonneg f false n d D h = subst (λ (z : Float). T (nonneg z)) (abs-round f false n d) (abs-nonneg (round f false n d) known)
+  where
+    known : T (not (isNan (round f false n d)))
+    known = le-left (round f false n d) (round f false n d) (round-mono f n d n d D D (omega arith))
+
+-- x is not below zero, and in size it is n / d rounded
+abbrev Rounds : Format → Float → ℕ → ℕ → Type 0
+Rounds f x n d = T (nonneg x) × (fabs x ≡ round f false n d)
+
+rounds : (f : Format) (s : Bool) (n d n' : ℕ) → 0 < d → n ≡ n' → (T s → n ≡ 0) → Rounds f (round f s n d) n' d
+rounds f s n d n' D e h = (round-nonneg f s n d D h, abs-round f s n d ∙ ap (λ (z : ℕ). round f false z d) e)
+
+abs-le : (x : Float) → T (nonneg x) → T (le x (fabs x)) × T (le (fabs x) x)
+unfolding fabs
+abs-le nan h = absurd h
+abs-le (inf true) h = absurd h
+abs-le (inf false) h = (unfold le in tt, unfold le in tt)
+abs-le (fin true m e) h = let z : m * up e ≡ 0 = ap (λ (z : ℕ). z * up e) (eqb→eq m 0 h) ∙ zero-mul (up e) in (le-fin true m e false m e .1 (omega arith), le-fin false m e true m e .1 (omega (arith, ap (λ (k : ℕ). k * down e) z)))
+abs-le (fin false m e) h = (le-refl (fin false m e) (unfold isNan in tt), le-refl (fin false m e) (unfold isNan in tt))
+
+le-rounds : (f : Format) (x y : Float) (a b c d : ℕ) → 0 < b → 0 < d → Rounds f x a b → Rounds f y c d → a * d ≤ c * b → T (le x y)
+le-rounds f x y a b c d B D p q h =
+    le-trans x (fabs x) y (abs-le x (p .0) .0)
+    (le-trans (fabs x) (fabs y) y
+    (subst (λ (z : Float). T (le z (fabs y))) (sym (p .1)) (subst (λ (z : Float). T (le (round f false a b) z)) (sym (q .1)) (round-mono f a b c d B D h)))
+    (abs-le y (q .0) .1))
+
+-- ---- each operation on values that are finite and not below zero
+
+sum-rounds : (f : Format) (s : Bool) (a : ℕ) (t : Bool) (b c : ℕ) → 0 < c → loss s a + loss t b ≤ gain s a + gain t b → Rounds f (sum f s a t b c) (gain s a + gain t b - (loss s a + loss t b)) c
+unfolding sum
+sum-rounds f false a false b c C h = rounds f false (a + b) c (a + b - (0 + 0)) C (omega arith) (λ t. absurd t)
+sum-rounds f false a true b c C h = go (ltb a b) (ltb→lt a b)
+  where
+    go : (p : Bool) → (T p → a < b) → Rounds f (cond p (round f true (b - a) c) (round f false (a - b) c)) (a + 0 - (0 + b)) c
+    go true k = absurd (omega (arith, k tt))
+    go false k = rounds f false (a - b) c (a + 0 - (0 + b)) C (omega arith) (λ t. absurd t)
+sum-rounds f true a false b c C h = go (ltb a b) (nltb→le a b)
+  where
+    go : (p : Bool) → (T (not p) → b ≤ a) → Rounds f (cond p (round f false (b - a) c) (round f (ltb b a) (a - b) c)) (0 + b - (a + 0)) c
+    go true k = rounds f false (b - a) c (0 + b - (a + 0)) C (omega arith) (λ t. absurd t)
+    go false k = rounds f (ltb b a) (a - b) c (0 + b - (a + 0)) C (omega (arith, k tt)) (λ t. omega (arith, k tt))
+sum-rounds f true a true b c C h = rounds f true (a + b) c (0 + 0 - (a + b)) C (omega arith) (λ t. omega arith)
+
+-- such a value's size counts as a gain, whatever its sign
+own : (s : Bool) (m : ℕ) (e : ℤ) (k : ℕ) → T (nonneg (fin s m e)) → (gain s (m * up e * k) ≡ m * up e * k) × (loss s (m * up e * k) ≡ 0)
+own true m e k h = let z : m * up e * k ≡ 0 = ap (λ (z : ℕ). z * up e * k) (eqb→eq m 0 h) ∙ ap (λ (z : ℕ). z * k) (zero-mul (up e)) ∙ zero-mul k in (sym z, z)
+own false m e k h = (refl, refl)
+
+turned : (t : Bool) (b : ℕ) → (gain (not t) b ≡ loss t b) × (loss (not t) b ≡ gain t b)
+turned true b = (refl, refl)
+turned false b = (refl, refl)
+
+cross : (x y : Float) → T (nonneg x) → T (nonneg y) → T (finite x) → T (finite y) → T (le x y) → num x * den y ≤ num y * den x
+unfolding le
+cross nan y p q a b h = absurd a
+cross (inf s) y p q a b h = absurd a
+cross (fin s m e) nan p q a b h = absurd b
+cross (fin s m e) (inf t) p q a b h = absurd b
+cross (fin s m e) (fin t n d) p q a b h = omega (arith, le-sizes s (m * up e * down d) t (n * up d * down e) .0 h, own s m e (down d) p, own t n d (down e) q)
+
+add-rounds : (f : Format) (x y : Float) → T (nonneg x) → T (nonneg y) → T (finite x) → T (finite y) → Rounds f (add f x y) (num x * den y + num y * den x) (den x * den y)
+unfolding add
+add-rounds f nan y p q a b = absurd a
+add-rounds f (inf s) y p q a b = absurd a
+add-rounds f (fin s m e) nan p q a b = absurd b
+add-rounds f (fin s m e) (inf t) p q a b = absurd b
+add-rounds f (fin s m e) (fin t n d) p q a b =
+    let A = m * up e * down d in
+    let B = n * up d * down e in
+    let g = own s m e (down d) p in
+    let h = own t n d (down e) q in
+    subst (λ (z : ℕ). Rounds f (sum f s A t B (down e * down d)) z (down e * down d)) (omega (arith, g, h))
+    (sum-rounds f s A t B (down e * down d) (mul-pos (down-pos e) (down-pos d)) (omega (arith, g, h)))
+
+sub-rounds : (f : Format) (x y : Float) → T (nonneg x) → T (nonneg y) → T (finite x) → T (finite y) → T (le y x) → Rounds f (sub f x y) (num x * den y - num y * den x) (den x * den y)
+unfolding sub
+sub-rounds f nan y p q a b l = absurd a
+sub-rounds f (inf s) y p q a b l = absurd a
+sub-rounds f (fin s m e) nan p q a b l = absurd b
+sub-rounds f (fin s m e) (inf t) p q a b l = absurd b
+sub-rounds f (fin s m e) (fin t n d) p q a b l =
+    let A = m * up e * down d in
+    let B = n * up d * down e in
+    let g = own s m e (down d) p in
+    let h = own t n d (down e) q in
+    let i = turned t B in
+    let c : B ≤ A = cross (fin t n d) (fin s m e) q p b a l in
+    subst (λ (z : ℕ). Rounds f (sum f s A (not t) B (down e * down d)) z (down e * down d)) (omega (arith, g, h, i))
+    (sum-rounds f s A (not t) B (down e * down d) (mul-pos (down-pos e) (down-pos d)) (omega (arith, g, h, i)))
+
+-- a product or a quotient with a sign has a factor that is zero
+zero-size : (m : ℕ) (e : ℤ) (k : ℕ) → T (eqb m 0) → m * up e * k ≡ 0
+zero-size m e k h = ap (λ (z : ℕ). z * up e * k) (eqb→eq m 0 h) ∙ ap (λ (z : ℕ). z * k) (zero-mul (up e)) ∙ zero-mul k
+
+mul-rounds : (f : Format) (x y : Float) → T (nonneg x) → T (nonneg y) → T (finite x) → T (finite y) → Rounds f (mul f x y) (num x * num y) (den x * den y)
+unfolding mul
+mul-rounds f nan y p q a b = absurd a
+mul-rounds f (inf s) y p q a b = absurd a
+mul-rounds f (fin s m e) nan p q a b = absurd b
+mul-rounds f (fin s m e) (inf t) p q a b = absurd b
+mul-rounds f (fin s m e) (fin t n d) p q a b = rounds f (unlike s t) (m * up e * (n * up d)) (down e * down d) (m * up e * (n * up d)) (mul-pos (down-pos e) (down-pos d)) refl (none s t p q)
+  where
+    none : (s t : Bool) → T (nonneg (fin s m e)) → T (nonneg (fin t n d)) → T (unlike s t) → m * up e * (n * up d) ≡ 0
+    none true true p q u = absurd u
+    none true false p q u = zero-size m e (n * up d) p
+    none false true p q u = mul-comm (m * up e) (n * up d) ∙ zero-size n d (m * up e) q
+    none false false p q u = absurd u
+
+div-rounds : (f : Format) (x y : Float) → T (nonneg x) → T (finite x) → T (positive y) → Rounds f (div f x y) (num x * den y) (num y * den x)
+unfolding div
+div-rounds f nan y p a q = absurd a
+div-rounds f (inf s) y p a q = absurd a
+div-rounds f (fin s m e) nan p a q = absurd q
+div-rounds f (fin s m e) (inf t) p a q = absurd q
+div-rounds f (fin s m e) (fin true n d) p a q = absurd q
+div-rounds f (fin s m e) (fin false n d) p a q =
+    rw (ne-eqb n 0 (λ (z : n ≡ 0). omega (arith, ltb→lt 0 n q)))
+    (rounds f (unlike s false) (m * up e * down d) (n * up d * down e) (m * up e * down d) (mul-pos (mul-pos (ltb→lt 0 n q) (up-pos d)) (down-pos e)) refl (none s p))
+  where
+    none : (s : Bool) → T (nonneg (fin s m e)) → T (unlike s false) → m * up e * down d ≡ 0
+    none true p u = zero-size m e (down d) p
+    none false p u = absurd u
+
+-- ---- above zero
+
+pub lt→positive : (x : Float) → T (finite x) → T (lt (fin false 0 (pos 0)) x) → T (positive x)
+unfolding lt
+lt→positive nan a h = absurd a
+lt→positive (inf s) a h = absurd a
+lt→positive (fin true m e) a h = absurd h
+lt→positive (fin false m e) a h = lt→ltb 0 m (elim (eq-zero-or-pos m) [ inl z ↦ absurd (omega (arith, ltb→lt (0 * 1 * down e) (m * up e * 1) h, ap (λ (k : ℕ). k * up e) z)) | inr p ↦ p ])
+
+pub positive→lt : (x : Float) → T (positive x) → T (lt (fin false 0 (pos 0)) x)
+unfolding lt
+positive→lt nan h = h
+positive→lt (inf s) h = absurd h
+positive→lt (fin true m e) h = h
+positive→lt (fin false m e) h = lt→ltb (0 * 1 * down e) (m * up e * 1) (omega (arith, mul-pos (ltb→lt 0 m h) (up-pos e)))
+
+positive-nonneg : (x : Float) → T (positive x) → T (nonneg x)
+positive-nonneg x h = le→nonneg x (lt→le (fin false 0 (pos 0)) x (positive→lt x h))
+
+-- ---- sums, differences, products and quotients that are not below zero
+
+pub add-nonneg : (f : Format) (x y : Float) → T (nonneg x) → T (nonneg y) → T (nonneg (add f x y))
+unfolding add
+add-nonneg f nan y p q = absurd p
+add-nonneg f (inf true) y p q = absurd p
+add-nonneg f (inf false) nan p q = absurd q
+add-nonneg f (inf false) (inf true) p q = absurd q
+add-nonneg f (inf false) (inf false) p q = tt
+add-nonneg f (inf false) (fin t n d) p q = tt
+add-nonneg f (fin s m e) nan p q = absurd q
+add-nonneg f (fin s m e) (inf true) p q = absurd q
+add-nonneg f (fin s m e) (inf false) p q = tt
+add-nonneg f (fin s m e) (fin t n d) p q = add-rounds f (fin s m e) (fin t n d) p q tt tt .0
+
+-- what is at most a finite value is finite
+finite-under : (x y : Float) → T (nonneg x) → T (finite y) → T (le x y) → T (finite x)
+unfolding le
+finite-under nan y p b h = absurd p
+finite-under (inf true) y p b h = absurd p
+finite-under (inf false) nan p b h = absurd b
+finite-under (inf false) (inf t) p b h = absurd b
+finite-under (inf false) (fin t n d) p b h = absurd h
+finite-under (fin s m e) y p b h = tt
+
+-- the difference, for a y up to x
+pub sub-nonneg : (f : Format) (x y : Float) → T (nonneg y) → T (finite x) → T (le y x) → T (nonneg (sub f x y))
+sub-nonneg f x y q a l = sub-rounds f x y (nonneg-up y x q l) q a (finite-under y x q a l) l .0
+
+inf-or-nan : (b t : Bool) → T (not t || b) → (cond b nan (inf t) ≡ nan) ⊎ T (nonneg (cond b nan (inf t)))
+inf-or-nan true t h = inl refl
+inf-or-nan false true h = absurd h
+inf-or-nan false false h = inr tt
+
+-- 0 times an infinity is a NaN
+pub mul-nonneg : (f : Format) (x y : Float) → T (nonneg x) → T (nonneg y) → (mul f x y ≡ nan) ⊎ T (nonneg (mul f x y))
+unfolding mul
+mul-nonneg f nan y p q = absurd p
+mul-nonneg f (inf true) y p q = absurd p
+mul-nonneg f (inf false) nan p q = absurd q
+mul-nonneg f (inf false) (inf true) p q = absurd q
+mul-nonneg f (inf false) (inf false) p q = inr tt
+mul-nonneg f (inf false) (fin true n d) p q = inf-or-nan (eqb n 0) true q
+mul-nonneg f (inf false) (fin false n d) p q = inf-or-nan (eqb n 0) false tt
+mul-nonneg f (fin s m e) nan p q = absurd q
+mul-nonneg f (fin s m e) (inf true) p q = absurd q
+mul-nonneg f (fin true m e) (inf false) p q = inf-or-nan (eqb m 0) true p
+mul-nonneg f (fin false m e) (inf false) p q = inf-or-nan (eqb m 0) false tt
+mul-nonneg f (fin s m e) (fin t n d) p q = inr (mul-rounds f (fin s m e) (fin t n d) p q tt tt .0)
+
+-- An infinity over an infinity is a NaN. The divisor is above zero: over -0 a value above zero is minus infinity.
+pub div-nonneg : (f : Format) (x y : Float) → T (nonneg x) → T (lt (fin false 0 (pos 0)) y) → (div f x y ≡ nan) ⊎ T (nonneg (div f x y))
+unfolding div lt
+div-nonneg f nan y p q = absurd p
+div-nonneg f (inf true) y p q = absurd p
+div-nonneg f (inf false) nan p q = absurd q
+div-nonneg f (inf false) (inf t) p q = inl refl
+div-nonneg f (inf false) (fin true n d) p q = absurd q
+div-nonneg f (inf false) (fin false n d) p q = inr tt
+div-nonneg f (fin s m e) nan p q = absurd q
+div-nonneg f (fin s m e) (inf t) p q = inr (or-right (not (unlike s t)) (eqb 0 0) tt)
+div-nonneg f (fin s m e) (fin t n d) p q = inr (div-rounds f (fin s m e) (fin t n d) p tt (lt→positive (fin t n d) tt q) .0)
+
+-- ---- the operations keep the order
+
+module _ (f : Format) (u v w z : Float) (p : T (nonneg u)) (q : T (nonneg w)) (h : T (le u v)) (k : T (le w z)) where
+  nonneg-v : T (nonneg v)
+  nonneg-v = nonneg-up u v p h
+
+  nonneg-z : T (nonneg z)
+  nonneg-z = nonneg-up w z q k
+
+  add-finite : T (finite v) → T (finite z) → T (le (add f u w) (add f v z))
+  add-finite a b =
+      let c = finite-under u v p a h in
+      let d = finite-under w z q b k in
+      let x : num u * den v ≤ num v * den u = cross u v p nonneg-v c a h in
+      let y : num w * den z ≤ num z * den w = cross w z q nonneg-z d b k in
+      let x' : num u * den v * (den w * den z) ≤ num v * den u * (den w * den z) = mul-le-mul-right (den w * den z) x in
+      let y' : num w * den z * (den u * den v) ≤ num z * den w * (den u * den v) = mul-le-mul-right (den u * den v) y in
+      le-rounds f (add f u w) (add f v z) (num u * den w + num w * den u) (den u * den w) (num v * den z + num z * den v) (den v * den z)
+      (mul-pos (den-pos u) (den-pos w)) (mul-pos (den-pos v) (den-pos z)) (add-rounds f u w p q c d) (add-rounds f v z nonneg-v nonneg-z a b) (omega arith)
+
+  mul-finite : T (finite v) → T (finite z) → T (le (mul f u w) (mul f v z))
+  mul-finite a b =
+      let c = finite-under u v p a h in
+      let d = finite-under w z q b k in
+      le-rounds f (mul f u w) (mul f v z) (num u * num w) (den u * den w) (num v * num z) (den v * den z)
+      (mul-pos (den-pos u) (den-pos w)) (mul-pos (den-pos v) (den-pos z)) (mul-rounds f u w p q c d) (mul-rounds f v z nonneg-v nonneg-z a b)
+      (omega (arith, mul-le-mul (cross u v p nonneg-v c a h) (cross w z q nonneg-z d b k)))
+
+-- a value not below zero is infinite or finite
+split : (x : Float) → T (nonneg x) → (x ≡ inf false) ⊎ T (finite x)
+split nan h = absurd h
+split (inf true) h = absurd h
+split (inf false) h = inl refl
+split (fin s m e) h = inr tt
+
+add-inf-left : (f : Format) (y : Float) → T (nonneg y) → add f (inf false) y ≡ inf false
+unfolding add
+add-inf-left f nan h = absurd h
+add-inf-left f (inf true) h = absurd h
+add-inf-left f (inf false) h = refl
+add-inf-left f (fin t n d) h = refl
+
+add-inf-right : (f : Format) (x : Float) → T (nonneg x) → add f x (inf false) ≡ inf false
+unfolding add
+add-inf-right f nan h = absurd h
+add-inf-right f (inf true) h = absurd h
+add-inf-right f (inf false) h = refl
+add-inf-right f (fin s m e) h = refl
+
+-- u + w grows with both, infinities included
+pub add-mono : (f : Format) (u v w z : Float) → T (nonneg u) → T (nonneg w) → T (le u v) → T (le w z) → T (le (add f u w) (add f v z))
+add-mono f u v w z p q h k = go (split v (nonneg-up u v p h)) (split z (nonneg-up w z q k))
+  where
+    top : add f v z ≡ inf false → T (le (add f u w) (add f v z))
+    top e = subst (λ (y : Float). T (le (add f u w) y)) (sym e) (le-top (add f u w) (nonneg-known (add f u w) (add-nonneg f u w p q)))
+
+    go : (v ≡ inf false) ⊎ T (finite v) → (z ≡ inf false) ⊎ T (finite z) → T (le (add f u w) (add f v z))
+    go (inl e) c = top (ap (λ (y : Float). add f y z) e ∙ add-inf-left f z (nonneg-up w z q k))
+    go (inr a) (inl e) = top (ap (λ (y : Float). add f v y) e ∙ add-inf-right f v (nonneg-up u v p h))
+    go (inr a) (inr b) = add-finite f u v w z p q h k a b
+
+mul-inf-left : (f : Format) (y : Float) → T (nonneg y) → T (not (isNan (mul f (inf false) y))) → mul f (inf false) y ≡ inf false
+unfolding mul isNan
+mul-inf-left f nan h n = absurd h
+mul-inf-left f (inf true) h n = absurd h
+mul-inf-left f (inf false) h n = refl
+mul-inf-left f (fin t n d) h k = go t (eqb n 0) h k
+  where
+    go : (t b : Bool) → T (not t || b) → T (not (isNan (cond b nan (inf (unlike false t))))) → cond b nan (inf (unlike false t)) ≡ inf false
+    go t true h k = absurd k
+    go true false h k = absurd h
+    go false false h k = refl
+
+mul-inf-right : (f : Format) (x : Float) → T (nonneg x) → T (not (isNan (mul f x (inf false)))) → mul f x (inf false) ≡ inf false
+unfolding mul isNan
+mul-inf-right f nan h n = absurd h
+mul-inf-right f (inf true) h n = absurd h
+mul-inf-right f (inf false) h n = refl
+mul-inf-right f (fin s m e) h k = go s (eqb m 0) h k
+  where
+    go : (s b : Bool) → T (not s || b) → T (not (isNan (cond b nan (inf (unlike s false))))) → cond b nan (inf (unlike s false)) ≡ inf false
+    go s true h k = absurd k
+    go true false h k = absurd h
+    go false false h k = refl
+
+-- u * w grows with both, where neither product is 0 times an infinity
+pub mul-mono : (f : Format) (u v w z : Float) → T (nonneg u) → T (nonneg w) → T (le u v) → T (le w z) → T (not (isNan (mul f u w))) → T (not (isNan (mul f v z))) → T (le (mul f u w) (mul f v z))
+mul-mono f u v w z p q h k i j = go (split v (nonneg-up u v p h)) (split z (nonneg-up w z q k))
+  where
+    top : mul f v z ≡ inf false → T (le (mul f u w) (mul f v z))
+    top e = subst (λ (y : Float). T (le (mul f u w) y)) (sym e) (le-top (mul f u w) i)
+
+    go : (v ≡ inf false) ⊎ T (finite v) → (z ≡ inf false) ⊎ T (finite z) → T (le (mul f u w) (mul f v z))
+    go (inl e) c = top (ap (λ (y : Float). mul f y z) e ∙ mul-inf-left f z (nonneg-up w z q k) (subst (λ (y : Float). T (not (isNan (mul f y z)))) e j))
+    go (inr a) (inl e) = top (ap (λ (y : Float). mul f v y) e ∙ mul-inf-right f v (nonneg-up u v p h) (subst (λ (y : Float). T (not (isNan (mul f v y)))) e j))
+    go (inr a) (inr b) = mul-finite f u v w z p q h k a b
+
+-- u / s grows with u
+pub div-mono : (f : Format) (u v s : Float) → T (nonneg u) → T (finite v) → T (finite s) → T (lt (fin false 0 (pos 0)) s) → T (le u v) → T (le (div f u s) (div f v s))
+div-mono f u v s p a b l h =
+    let c = finite-under u v p a h in
+    let q = nonneg-up u v p h in
+    let g : T (positive s) = lt→positive s b l in
+    let S : 0 < num s = num-above s g in
+    let x : num u * den v * (num s * den s) ≤ num v * den u * (num s * den s) = mul-le-mul-right (num s * den s) (cross u v p q c a h) in
+    le-rounds f (div f u s) (div f v s) (num u * den s) (num s * den u) (num v * den s) (num s * den v) (mul-pos S (den-pos u)) (mul-pos S (den-pos v))
+    (div-rounds f u s p c g) (div-rounds f v s q a g) (omega arith)
+  where
+    num-above : (x : Float) → T (positive x) → 0 < num x
+    num-above nan h = absurd h
+    num-above (inf t) h = absurd h
+    num-above (fin true m e) h = absurd h
+    num-above (fin false m e) h = mul-pos (ltb→lt 0 m h) (up-pos e)
+
+sub-mul : (a b k : ℕ) → (a - b) * k ≡ a * k - b * k
+sub-mul a b k = mul-comm (a - b) k ∙ mul-sub k a b ∙ ap (λ (z : ℕ). z - k * b) (mul-comm k a) ∙ ap (λ (z : ℕ). a * k - z) (mul-comm k b)
+
+less : (a b c d : ℕ) → a ≤ c → b ≡ d → a - b ≤ c - d
+less a b c d h e = omega arith
+
+less-anti : (a b c d : ℕ) → a ≡ c → d ≤ b → a - b ≤ c - d
+less-anti a b c d e h = omega arith
+
+-- x - s grows with x
+pub sub-mono : (f : Format) (u v s : Float) → T (nonneg s) → T (finite v) → T (le s u) → T (le u v) → T (le (sub f u s) (sub f v s))
+sub-mono f u v s p a l h =
+    let q = nonneg-up s u p l in
+    let r = nonneg-up u v q h in
+    let b = finite-under u v q a h in
+    let c = finite-under s u p b l in
+    let x : num u * den v * (den s * den s) ≤ num v * den u * (den s * den s) = mul-le-mul-right (den s * den s) (cross u v q r b a h) in
+    le-rounds f (sub f u s) (sub f v s) (num u * den s - num s * den u) (den u * den s) (num v * den s - num s * den v) (den v * den s) (mul-pos (den-pos u) (den-pos s)) (mul-pos (den-pos v) (den-pos s))
+    (sub-rounds f u s q p b c l) (sub-rounds f v s r p a c (le-trans s u v l h))
+    (rw (sub-mul (num u * den s) (num s * den u) (den v * den s), sub-mul (num v * den s) (num s * den v) (den u * den s))
+    (less (num u * den s * (den v * den s)) (num s * den u * (den v * den s)) (num v * den s * (den u * den s)) (num s * den v * (den u * den s)) (omega arith) (omega arith)))
+
+-- and it shrinks as s grows, up to x
+pub sub-anti : (f : Format) (x s t : Float) → T (nonneg s) → T (finite x) → T (le s t) → T (le t x) → T (le (sub f x t) (sub f x s))
+sub-anti f x s t p a h l =
+    let q = nonneg-up s t p h in
+    let r = nonneg-up t x q l in
+    let b = finite-under t x q a l in
+    let c = finite-under s t p b h in
+    let y : num s * den t * (den x * den x) ≤ num t * den s * (den x * den x) = mul-le-mul-right (den x * den x) (cross s t p q c b h) in
+    le-rounds f (sub f x t) (sub f x s) (num x * den t - num t * den x) (den x * den t) (num x * den s - num s * den x) (den x * den s) (mul-pos (den-pos x) (den-pos t)) (mul-pos (den-pos x) (den-pos s))
+    (sub-rounds f x t r q a b l) (sub-rounds f x s r p a c (le-trans s t x h l))
+    (rw (sub-mul (num x * den t) (num t * den x) (den x * den s), sub-mul (num x * den s) (num s * den x) (den x * den t))
+    (less-anti (num x * den t * (den x * den s)) (num t * den x * (den x * den s)) (num x * den s * (den x * den t)) (num s * den x * (den x * den t)) (omega arith) (omega arith)))
+
+-- ---- a sum is at least each of its terms
+
+-- a value of the format is its own rounding
+self-round : (f : Format) (m : ℕ) (e : ℤ) → Held f m e → HasValue (round f false (m * up e) (down e)) false (m * up e) (down e)
+self-round f m (pos j) H =
+    let v : m * 2 ^ j * 2 ^ low f ≡ m * 2 ^ (j + low f) * 1 = mul-assoc m (2 ^ j) (2 ^ low f) ∙ ap (λ (z : ℕ). m * z) (sym (pow-add 2 j (low f))) ∙ sym (mul-one (m * 2 ^ (j + low f))) in
+    round-exact f false (m * 2 ^ j) 1 m (j + low f) (down-pos (pos j)) (H .digits) (held-units f m (pos j) (m * 2 ^ (j + low f)) H v) v
+self-round f m (negsuc j) H =
+    let i = low f - suc j in
+    let l : 2 ^ low f ≡ 2 ^ i * 2 ^ suc j = ap (λ (z : ℕ). 2 ^ z) (sym (back (low f) (suc j) (pow-le-inv (suc j) (low f) (H .places)))) ∙ pow-add 2 i (suc j) in
+    let v : m * 1 * 2 ^ low f ≡ m * 2 ^ i * 2 ^ suc j = ap (λ (z : ℕ). z * 2 ^ low f) (mul-one m) ∙ ap (λ (z : ℕ). m * z) l ∙ sym (mul-assoc m (2 ^ i) (2 ^ suc j)) in
+    round-exact f false (m * 1) (2 ^ suc j) m i (down-pos (negsuc j)) (H .digits) (held-units f m (negsuc j) (m * 2 ^ i) H v) v
+
+-- so what rounds a fraction that is at least x is at least x
+le-rounded : (f : Format) (x y : Float) (a b : ℕ) → T (fits f x) → T (nonneg x) → T (finite x) → 0 < b → Rounds f y a b → num x * b ≤ a * den x → T (le x y)
+le-rounded f nan y a b F p c B r h = absurd c
+le-rounded f (inf s) y a b F p c B r h = absurd c
+le-rounded f (fin s m e) y a b F p c B r h =
+    let x = fin s m e in
+    let o = round f false (m * up e) (down e) in
+    let P = down-pos e in
+    le-trans x (fin false m e) y (unfold fabs in abs-le x p .0)
+    (le-trans (fin false m e) o y (le-of-values (fin false m e) o (m * up e) (down e) (m * up e) (down e) P P (refl, refl) (self-round f m e (held f s m e F)) (omega arith))
+    (le-trans o (round f false a b) y (round-mono f (m * up e) (down e) a b P B h)
+    (subst (λ (z : Float). T (le z y)) (r .1) (abs-le y (r .0) .1))))
+
+pub add-left-le : (f : Format) (x y : Float) → T (fits f x) → T (nonneg x) → T (nonneg y) → T (le x (add f x y))
+add-left-le f x y F p q = go (split x p) (split y q)
+  where
+    top : add f x y ≡ inf false → T (le x (add f x y))
+    top e = subst (λ (z : Float). T (le x z)) (sym e) (le-top x (nonneg-known x p))
+
+    go : (x ≡ inf false) ⊎ T (finite x) → (y ≡ inf false) ⊎ T (finite y) → T (le x (add f x y))
+    go (inl e) c = top (ap (λ (z : Float). add f z y) e ∙ add-inf-left f y q)
+    go (inr a) (inl e) = top (ap (λ (z : Float). add f x z) e ∙ add-inf-right f x p)
+    go (inr a) (inr b) = le-rounded f x (add f x y) (num x * den y + num y * den x) (den x * den y) F p a (mul-pos (den-pos x) (den-pos y)) (add-rounds f x y p q a b) (omega arith)
+
+pub add-right-le : (f : Format) (x y : Float) → T (fits f y) → T (nonneg x) → T (nonneg y) → T (le y (add f x y))
+add-right-le f x y F p q = go (split x p) (split y q)
+  where
+    top : add f x y ≡ inf false → T (le y (add f x y))
+    top e = subst (λ (z : Float). T (le y z)) (sym e) (le-top y (nonneg-known y q))
+
+    go : (x ≡ inf false) ⊎ T (finite x) → (y ≡ inf false) ⊎ T (finite y) → T (le y (add f x y))
+    go (inl e) c = top (ap (λ (z : Float). add f z y) e ∙ add-inf-left f y q)
+    go (inr a) (inl e) = top (ap (λ (z : Float). add f x z) e ∙ add-inf-right f x p)
+    go (inr a) (inr b) = le-rounded f y (add f x y) (num x * den y + num y * den x) (den x * den y) F q b (mul-pos (den-pos x) (den-pos y)) (add-rounds f x y p q a b) (omega arith)
+
+-- a value of the format above zero, and one not below zero: their sum is above zero, and may be infinite
+pub add-positive : (f : Format) (x y : Float) → T (fits f x) → T (lt (fin false 0 (pos 0)) x) → T (nonneg y) → T (lt (fin false 0 (pos 0)) (add f x y))
+add-positive f x y F h q = lt-of-lt-of-le (fin false 0 (pos 0)) x (add f x y) h (add-left-le f x y F (le→nonneg x (lt→le (fin false 0 (pos 0)) x h)) q)
+
+-- ---- 1 - s for an s up to 1 - 2 ^ -23
+
+pub below-one : (s : Float) → T (nonneg s) → T (le s (ofBits binary32 0x3f7f_fffe)) → T (lt (fin false 0 (pos 0)) (sub binary32 (ofBits binary32 0x3f80_0000) s))
+unfolding ofBits
+below-one s p h =
+    let c = ofBits binary32 0x3f7f_fffe in
+    let o = ofBits binary32 0x3f80_0000 in
+    lt-of-lt-of-le (fin false 0 (pos 0)) (sub binary32 o c) (sub binary32 o s) (unfold lt sub in tt) (sub-anti binary32 o s c p tt h (unfold le in tt))
