@@ -1,6 +1,6 @@
 -- Which refusals a list can meet, and when: reading it gives 1, 2 or 4, which leave the lent block as it is; its lamps' figures give later ones. Then what
 -- `build_light_bounds` comes to in each case. Assumes nothing.
-use Prim.Native.Nat.{ℕ, zero, suc, _+_, _*_, _≤_, _<_}
+use Prim.Native.Nat.{ℕ, zero, suc, _+_, _≤_, _<_}
 use mathlib.Core.Path.{_≡_, refl, ap, subst, sym, _∙_}
 use mathlib.Core.Bool.{Bool, true, false, cond, _&&_, _||_, not}
 use mathlib.Core.List.{List, [], _∷_, _++_}
@@ -23,10 +23,10 @@ use Rattle.light_bounds.specs.declared.light_bounds.LightBounds.{LightBounds}
 use Rattle.light_bounds.specs.declared.vecmath.Vec3.{Vec3}
 use Rattle.lamps.specs.Block.{blockWords, packedFrom, packExhaustiveBounds}
 use Rattle.lamps.specs.BlockLaws.{length-packedFrom}
-use Rattle.lamps.specs.Build.{boundsOf, allBounds, buildLightBounds}
+use Rattle.lamps.specs.Build.{allBounds, buildLightBounds}
 use Rattle.lamps.specs.LampBounds.{at, triangleBounds, noArea, validateEmission, checked, pointBounds, spotRecord, spotBounds, facedRecord, triangleAt, triangleRecord, joinNext, unionFrom, groupBounds, lightBoundsForInput}
 use Rattle.lamps.specs.LampList.{lampAt, kindOf, groupEnd, lampsFrom, inPlace, crowded, lampList, trianglesOf}
-use Rattle.lamps.specs.Walk.{boundsFrom, lateTray, placedLamps}
+use Rattle.lamps.specs.Walk.{boundsFrom, lateTray}
 use Rattle.lamps.specs.WalkLaws.{lampsFrom-length, boundsFrom-all, allBounds-length}
 use Rattle.lamps.specs.declared.cursor.Lamp.{Lamp}
 use Rattle.lamps.specs.declared.cursor.Lamp.the-variants.{Point, Spot, AreaGroup}

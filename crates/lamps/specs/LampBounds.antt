@@ -1,6 +1,6 @@
 -- The bounds of one lamp: `light_bounds_for_input` of `light_bounds.rs`, step by step, its refusals in its order. Assumes nothing.
 use Prim.Native.Nat.{ℕ, zero, suc, _+_, _/_}
-use mathlib.Core.Bool.{Bool, true, false, cond, _&&_, _||_, not}
+use mathlib.Core.Bool.{Bool, false, cond, _&&_, _||_, not}
 use mathlib.Core.List.{List}
 use lib.Ieee.{Float, lt, le, eq}
 use lib.Ieee.Scale.{finite}

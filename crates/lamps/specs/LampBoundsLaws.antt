@@ -4,7 +4,7 @@ use mathlib.Core.Path.{_≡_, refl, sym}
 use mathlib.Core.Bool.{Bool}
 use mathlib.Core.List.{List}
 use native.Mathlib.Omega.{arith}
-use lib.Ieee.{Float, binary32, ofBits, toBits, ofInt, span, climb, size, odd, units, round, neg, sum, add, sub, mul, div, lt, eq, le}
+use lib.Ieee.{Float, ofBits, toBits, ofInt, span, climb, size, odd, units, round, neg, sum, add, sub, mul, div, lt, eq, le}
 use Rattle.ieee.specs.Choose.{fabs}
 use Rattle.ieee.specs.Narrow.{narrow}
 use Rattle.ieee.specs.Single.{single}

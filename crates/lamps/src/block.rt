@@ -1,7 +1,7 @@
 // The bounds block (specs/Block.antt): the layout of pbrt-r4's `pack_exhaustive_bounds`, read back. A count, then fourteen words a record: its handle and the record.
 ghost use mathlib.Core.Path.{_≡_};
 ghost use mathlib.Core.Bool.{cond, _&&_};
-ghost use Prim.Native.Nat.{_*_, _+_, _≤_};
+ghost use Prim.Native.Nat.{_*_, _+_};
 ghost use lib.Dec.{eqb};
 ghost use lib.ListN.{length};
 ghost use Rattle.words.specs.Answers.{given, refused};

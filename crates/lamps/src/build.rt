@@ -1,14 +1,12 @@
 // `build_light_bounds` of pbrt-r4's light_bounds.rs: a lamp list in, a bounds block out (specs/Build.antt).
 ghost use mathlib.Core.Path.{_≡_};
-ghost use mathlib.Core.Bool.{cond};
-ghost use mathlib.Core.List.{List};
 ghost use Prim.Native.Nat.{_≤_};
 ghost use lib.ListN.{length, getD};
-ghost use Rattle.words.specs.Answers.{given, refused, _then_, count};
+ghost use Rattle.words.specs.Answers.{count};
 ghost use Rattle.words.specs.Tray.{tray};
 ghost use Rattle.lamps.specs.Block.{counted, blockWords, packExhaustiveBounds};
 ghost use Rattle.lamps.specs.Build.{buildLightBounds};
-ghost use Rattle.lamps.specs.LampList.{lampList, lampsFrom, inPlace};
+ghost use Rattle.lamps.specs.LampList.{lampList};
 ghost use Rattle.lamps.specs.Walk.{atCursor, nextBounds, boundsFrom, lateTray, placedLamps};
 use super::block::Counted;
 use super::block::still_placed;

@@ -1,5 +1,4 @@
 -- The checks of boxes, vectors and records refuse by 5 to 10 alone: late refusals, which zero the trays. Assumes nothing.
-use Prim.Native.Nat.{ℕ}
 use mathlib.Core.Bool.{_&&_, _||_, not}
 use native.Mathlib.Omega.{arith}
 use lib.Ieee.{lt, eq}

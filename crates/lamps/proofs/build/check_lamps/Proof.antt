@@ -1,6 +1,6 @@
 -- `lamps::build::check_lamps` meets its contract. The loop's invariant: the lamps before `i` are read, and `placed` says whether their handles are their places.
 -- Assumes nothing.
-use Prim.Native.Nat.{ℕ, _-_}
+use Prim.Native.Nat.{ℕ, _-_, _+_}
 use mathlib.Core.Path.{_≡_, refl, ap, sym, _∙_}
 use mathlib.Core.Bool.{cond}
 use mathlib.Core.List.{List, [], _∷_, _++_}
@@ -10,14 +10,11 @@ use native.Mathlib.Omega.{arith}
 use lib.Dec.{eqb}
 use lib.ListN.{length}
 use Rattle.words.specs.Answers.{given, refused}
-use Rattle.lamps.specs.LampList.{lampAt, inPlace}
-use Rattle.lamps.specs.WalkLaws.{LampsRead, walked-none}
+use Rattle.lamps.specs.LampList.{lampAt, inPlace, step}
+use Rattle.lamps.specs.WalkLaws.{LampsRead, walked-none, walked-one, inPlace-snoc, placed-refused, placed-ragged, placed-all}
 use Rattle.lamps.specs.declared.cursor.Reading.{Reading}
-use Prim.Native.Nat.{_+_}
 use borrow.Author.Tests.{eq-eqb, ne-eqb}
 use Rattle.words.specs.Refusals.{number}
-use Rattle.lamps.specs.LampList.{step}
-use Rattle.lamps.specs.WalkLaws.{walked-one, inPlace-snoc, placed-refused, placed-ragged, placed-all}
 use Rattle.lamps.proofs.build.check_lamps.Statement.{statement}
 use Rattle.lamps.proofs.build.check_lamps.Tie as tie
 

@@ -1,27 +1,17 @@
 -- `lamps::build::write_block` meets its contract. The loop's invariant: the bounds of the lamps before `place` are taken, and written behind the count.
 -- Assumes nothing.
-use Prim.Native.Nat.{_-_}
-use mathlib.Core.List.{List}
-use Rattle.lamps.specs.BlockLaws.{Packed}
-use Rattle.lamps.specs.WalkLaws.{BoundsTaken}
+use Prim.Native.Nat.{_-_, ℕ}
+use mathlib.Core.List.{List, [], _∷_, _++_, append-nil}
+use Rattle.lamps.specs.BlockLaws.{Packed, packed-none, packed-one, packed-counted, zeroed, zeroed-length}
+use Rattle.lamps.specs.WalkLaws.{BoundsTaken, walked-none, walked-one, walked-refused, walked-all}
 use Rattle.light_bounds.specs.declared.light_bounds.LightBounds.{LightBounds}
-use Prim.Native.Nat.{ℕ}
 use mathlib.Core.Path.{_≡_, refl, ap, sym, _∙_}
-use mathlib.Core.List.{[], _∷_, _++_}
 use borrow.Author.Needs.{needs}
 use denote.Ref.{now}
 use native.Mathlib.Omega.{arith}
-use lib.ListN.{length-set}
+use lib.ListN.{length-set, length}
 use Rattle.words.specs.Answers.{given}
-use Rattle.lamps.specs.BlockLaws.{packed-none}
-use Rattle.lamps.specs.WalkLaws.{walked-none}
-use Rattle.lamps.specs.Walk.{Passed, nextBounds}
-use lib.ListN.{length}
-use mathlib.Core.List.{append-nil}
-use Rattle.lamps.specs.BlockLaws.{packed-one, packed-counted, zeroed}
-use Rattle.lamps.specs.WalkLaws.{walked-one, walked-refused, walked-all}
-use Rattle.lamps.specs.Walk.{atCursor, lateTray}
-use Rattle.lamps.specs.BlockLaws.{zeroed-length}
+use Rattle.lamps.specs.Walk.{Passed, nextBounds, atCursor, lateTray}
 use Rattle.lamps.proofs.build.write_block.Statement.{statement}
 use Rattle.lamps.proofs.build.write_block.Tie as tie
 
