@@ -52,7 +52,10 @@ still-placed-requires : tie.Need-still-placed-requires Inv-loop μ-loop
 still-placed-requires c κs = search needs
 
 returns : tie.Need-returns Inv-loop μ-loop
-returns c = rw (below-false (sideAt (now (c .before .before .before .before .before .before .args .block))) (c .before .before .before .before .before .before .args .m) (c .before .before .before .before .loop .i) (omega arith) (sym (c .before .is-side .ensures) ∙ c .if1 .left))
+returns c =
+    let args = c .before .before .before .before .before .before .args in
+    let loop = c .before .before .before .before .loop in
+    rw (below-false (sideAt (now (args .block))) (args .m) (loop .i) (omega arith) (sym (c .before .is-side .ensures) ∙ c .if1 .left))
 
 add-i : tie.Need-add-i Inv-loop μ-loop
 add-i c = omega arith
@@ -61,21 +64,27 @@ loop-less : tie.Need-loop-less Inv-loop μ-loop
 loop-less c = omega arith
 
 loop-again : tie.Need-loop-again Inv-loop μ-loop
-loop-again c = (
-  omega arith,
-  rw (below-next (sideAt (now (c .before .before .before .before .before .before .before .before .args .block))) (c .before .before .before .before .before .before .loop .i), c .before .before .before .before .before .before .loop .inv .1, ← c .before .before .before .is-side .ensures) (c .before .before .if1 .taken),
-  rw (c .still-placed .ensures, c .before .before .before .before .before .before .loop .inv .2, below-next (handleAt (now (c .before .before .before .before .before .before .before .before .args .block))) (c .before .before .before .before .before .before .loop .i)),
-)
+loop-again c =
+    let args = c .before .before .before .before .before .before .before .before .args in
+    let loop = c .before .before .before .before .before .before .loop in (
+      omega arith,
+      rw (below-next (sideAt (now (args .block))) (loop .i), loop .inv .1, ← c .before .before .before .is-side .ensures) (c .before .before .if1 .taken),
+      rw (c .still-placed .ensures, loop .inv .2, below-next (handleAt (now (args .block))) (loop .i)),
+    )
 
 returns-2 : tie.Need-returns-2 Inv-loop μ-loop
 returns-2 c =
-    let e : c .before .before .loop .i ≡ c .before .before .before .before .args .m = omega arith in
-    rw (subst (λ (k : ℕ). below (sideAt (now (c .before .before .before .before .args .block))) k ≡ true) e (c .before .before .loop .inv .1), subst (λ (k : ℕ). below (handleAt (now (c .before .before .before .before .args .block))) k ≡ true) e (sym (c .before .before .loop .inv .2) ∙ c .if2 .taken))
+    let loop = c .before .before .loop in
+    let args = c .before .before .before .before .args in
+    let e : loop .i ≡ args .m = omega arith in
+    rw (subst (λ (k : ℕ). below (sideAt (now (args .block))) k ≡ true) e (loop .inv .1), subst (λ (k : ℕ). below (handleAt (now (args .block))) k ≡ true) e (sym (loop .inv .2) ∙ c .if2 .taken))
 
 returns-3 : tie.Need-returns-3 Inv-loop μ-loop
 returns-3 c =
-    let e : c .before .before .loop .i ≡ c .before .before .before .before .args .m = omega arith in
-    rw (subst (λ (k : ℕ). below (sideAt (now (c .before .before .before .before .args .block))) k ≡ true) e (c .before .before .loop .inv .1), subst (λ (k : ℕ). below (handleAt (now (c .before .before .before .before .args .block))) k ≡ false) e (sym (c .before .before .loop .inv .2) ∙ c .if2 .left))
+    let loop = c .before .before .loop in
+    let args = c .before .before .before .before .args in
+    let e : loop .i ≡ args .m = omega arith in
+    rw (subst (λ (k : ℕ). below (sideAt (now (args .block))) k ≡ true) e (loop .inv .1), subst (λ (k : ℕ). below (handleAt (now (args .block))) k ≡ false) e (sym (loop .inv .2) ∙ c .if2 .left))
 
 pub check-records-spec : {M : Type 1} → statement M
 check-records-spec =

@@ -23,19 +23,26 @@ enum-known-m : tie.Need-enum-known-m
 enum-known-m c = search needs
 
 mul-if1 : tie.Need-mul-if1
-mul-if1 c = let (rs, read, n, is, limit) = list-counted (now (c .before .before .before .before .before .before .args .list)) (c .before .m .given .0 .0) (sym (c .before .before .before .check-list .ensures) ∙ ap counted (c .before .m .given .1)) in omega (arith, limit)
+mul-if1 c =
+    let args = c .before .before .before .before .before .before .args in
+    let (rs, read, n, is, limit) = list-counted (now (args .list)) (c .before .m .given .0 .0) (sym (c .before .before .before .check-list .ensures) ∙ ap counted (c .before .m .given .1)) in omega (arith, limit)
 
 add-if1 : tie.Need-add-if1
-add-if1 c = let (rs, read, n, is, limit) = list-counted (now (c .before .before .before .before .before .before .args .list)) (c .before .m .given .0 .0) (sym (c .before .before .before .check-list .ensures) ∙ ap counted (c .before .m .given .1)) in omega (arith, limit)
+add-if1 c =
+    let args = c .before .before .before .before .before .before .args in
+    let (rs, read, n, is, limit) = list-counted (now (args .list)) (c .before .m .given .0 .0) (sym (c .before .before .before .check-list .ensures) ∙ ap counted (c .before .m .given .1)) in omega (arith, limit)
 
 returns : tie.Need-returns
 unfolding tray
 returns c =
-    let (rs, read, n, is, limit) = list-counted (now (c .before .before .before .before .before .before .before .args .list)) (c .before .before .m .given .0 .0) (sym (c .before .before .before .before .check-list .ensures) ∙ ap counted (c .before .before .m .given .1)) in
-    rw (build-short (now (c .before .before .before .before .before .before .before .args .list)) (length (now (c .before .before .before .before .before .before .before .args .block))) rs read (omega (arith, n, c .if1 .taken))) (refl, refl)
+    let args = c .before .before .before .before .before .before .before .args in
+    let (rs, read, n, is, limit) = list-counted (now (args .list)) (c .before .before .m .given .0 .0) (sym (c .before .before .before .before .check-list .ensures) ∙ ap counted (c .before .before .m .given .1)) in
+    rw (build-short (now (args .list)) (length (now (args .block))) rs read (omega (arith, n, c .if1 .taken))) (refl, refl)
 
 write-block-requires : tie.Need-write-block-requires
-write-block-requires c κs = let (rs, read, n, is, limit) = list-counted (now (c .before .before .before .before .before .before .before .before .args .list)) (c .before .before .before .m .given .0 .0) (sym (c .before .before .before .before .before .check-list .ensures) ∙ ap counted (c .before .before .before .m .given .1)) in (omega arith, limit)
+write-block-requires c κs =
+    let args = c .before .before .before .before .before .before .before .before .args in
+    let (rs, read, n, is, limit) = list-counted (now (args .list)) (c .before .before .before .m .given .0 .0) (sym (c .before .before .before .before .before .check-list .ensures) ∙ ap counted (c .before .before .before .m .given .1)) in (omega arith, limit)
 
 enum-known-why : tie.Need-enum-known-why
 enum-known-why c = search needs
@@ -45,18 +52,20 @@ same-length c = search needs
 
 returns-2 : tie.Need-returns-2
 returns-2 c =
-    let (rs, read, n, is, limit) = list-counted (now (c .before .before .before .before .before .before .before .before .before .before .before .args .list)) (c .before .before .before .before .before .before .m .given .0 .0) (sym (c .before .before .before .before .before .before .before .before .check-list .ensures) ∙ ap counted (c .before .before .before .before .before .before .m .given .1)) in
+    let args = c .before .before .before .before .before .before .before .before .before .before .before .args in
+    let (rs, read, n, is, limit) = list-counted (now (args .list)) (c .before .before .before .before .before .before .m .given .0 .0) (sym (c .before .before .before .before .before .before .before .before .check-list .ensures) ∙ ap counted (c .before .before .before .before .before .before .m .given .1)) in
     let m = c .before .before .before .before .before .before .m .given .0 .0 in
-    let room : blockWords m ≤ length (now (c .before .before .before .before .before .before .before .before .before .before .before .args .block)) = omega arith in (
-      c .before .before .write-block .ensures .0 ∙ ap count (sym (build-walked (now (c .before .before .before .before .before .before .before .before .before .before .before .args .list)) (length (now (c .before .before .before .before .before .before .before .before .before .before .before .args .block))) rs read m n room)),
-      c .before .before .write-block .ensures .1 ∙ build-tray (now (c .before .before .before .before .before .before .before .before .before .before .before .args .list)) (length (now (c .before .before .before .before .before .before .before .before .before .before .before .args .block))) rs read m n room (now (c .before .before .before .before .before .before .before .before .before .before .before .args .block)),
+    let room : blockWords m ≤ length (now (args .block)) = omega arith in (
+      c .before .before .write-block .ensures .0 ∙ ap count (sym (build-walked (now (args .list)) (length (now (args .block))) rs read m n room)),
+      c .before .before .write-block .ensures .1 ∙ build-tray (now (args .list)) (length (now (args .block))) rs read m n room (now (args .block)),
     )
 
 returns-3 : tie.Need-returns-3
 returns-3 c =
-    let unread = count-refused (lampList (now (c .before .before .before .before .before .before .args .list))) (number (c .before .why .given .0 .0)) (sym (c .before .before .before .check-list .ensures) ∙ ap counted (c .before .why .given .1)) in
-    rw (build-unread (now (c .before .before .before .before .before .before .args .list)) (length (now (c .before .before .before .before .before .before .args .block))) (number (c .before .why .given .0 .0)) unread)
-    (refl, sym (tray-early packExhaustiveBounds (blockWords (getD (now (c .before .before .before .before .before .before .args .list)) 0 0)) (now (c .before .before .before .before .before .before .args .block)) (number (c .before .why .given .0 .0)) (only-number (early-list (now (c .before .before .before .before .before .before .args .list))) unread)))
+    let args = c .before .before .before .before .before .before .args in
+    let unread = count-refused (lampList (now (args .list))) (number (c .before .why .given .0 .0)) (sym (c .before .before .before .check-list .ensures) ∙ ap counted (c .before .why .given .1)) in
+    rw (build-unread (now (args .list)) (length (now (args .block))) (number (c .before .why .given .0 .0)) unread)
+    (refl, sym (tray-early packExhaustiveBounds (blockWords (getD (now (args .list)) 0 0)) (now (args .block)) (number (c .before .why .given .0 .0)) (only-number (early-list (now (args .list))) unread)))
 
 pub build-light-bounds-spec : {M : Type 1} → statement M
 build-light-bounds-spec =

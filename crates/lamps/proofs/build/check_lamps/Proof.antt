@@ -26,7 +26,9 @@ abbrev μ-loop : tie.MeasureT-loop
 
 loop-holds : tie.Need-loop-holds Inv-loop μ-loop
 unfolding inPlace
-loop-holds c = ([], walked-none (lampAt (now (c .before .args .list))) (λ (r : Reading). r) (λ (r : Reading). r .next .at) (λ (end : ℕ). cond (eqb end (length (now (c .before .args .list)))) (given []) (refused 1)) (c .before .args .m) 1, refl)
+loop-holds c =
+    let args = c .before .args in
+    ([], walked-none (lampAt (now (args .list))) (λ (r : Reading). r) (λ (r : Reading). r .next .at) (λ (end : ℕ). cond (eqb end (length (now (args .list)))) (given []) (refused 1)) (args .m) 1, refl)
 
 next-requires : tie.Need-next-requires Inv-loop μ-loop
 next-requires c κs = search needs
@@ -44,7 +46,10 @@ enum-known-why : tie.Need-enum-known-why Inv-loop μ-loop
 enum-known-why c = search needs
 
 returns : tie.Need-returns Inv-loop μ-loop
-returns c = rw (placed-refused (now (c .before .before .before .before .before .before .before .args .list)) (c .before .before .before .before .before .loop .inv .1) (number (c .before .why .given .0 .0)) (omega arith) (sym (c .before .before .before .next .ensures) ∙ ap step (c .before .why .given .1)))
+returns c =
+    let args = c .before .before .before .before .before .before .before .args in
+    let loop = c .before .before .before .before .before .loop in
+    rw (placed-refused (now (args .list)) (loop .inv .1) (number (c .before .why .given .0 .0)) (omega arith) (sym (c .before .before .before .next .ensures) ∙ ap step (c .before .why .given .1)))
 
 add-i : tie.Need-add-i Inv-loop μ-loop
 add-i c = omega arith
@@ -54,20 +59,27 @@ loop-less c = omega arith
 
 loop-again : tie.Need-loop-again Inv-loop μ-loop
 loop-again c =
-    let done = c .before .before .before .before .before .before .before .before .loop .inv .0 in
+    let loop = c .before .before .before .before .before .before .before .before .loop in
+    let args = c .before .before .before .before .before .before .before .before .before .before .args in
+    let done = loop .inv .0 in
     let r = c .before .before .before .before .reading .given .0 .0 in
-    let z : 0 + length done ≡ c .before .before .before .before .before .before .before .before .loop .i = omega (arith, c .before .before .before .before .before .before .before .before .loop .inv .1 .size) in (
+    let z : 0 + length done ≡ loop .i = omega (arith, loop .inv .1 .size) in (
       done ++ r ∷ [],
-      walked-one (lampAt (now (c .before .before .before .before .before .before .before .before .before .before .args .list))) (λ (r : Reading). r) (λ (r : Reading). r .next .at) (λ (end : ℕ). cond (eqb end (length (now (c .before .before .before .before .before .before .before .before .before .before .args .list)))) (given []) (refused 1)) r (c .before .before .before .before .before .before .before .before .loop .inv .1) (omega arith) (sym (c .before .before .before .before .before .before .next .ensures) ∙ ap step (c .before .before .before .before .reading .given .1)),
-      c .still-placed .ensures ∙ rw (c .before .before .before .before .before .before .before .before .loop .inv .2, c .before .handle-of .ensures, inPlace-snoc 0 done r, z),
+      walked-one (lampAt (now (args .list))) (λ (r : Reading). r) (λ (r : Reading). r .next .at) (λ (end : ℕ). cond (eqb end (length (now (args .list)))) (given []) (refused 1)) r (loop .inv .1) (omega arith) (sym (c .before .before .before .before .before .before .next .ensures) ∙ ap step (c .before .before .before .before .reading .given .1)),
+      c .still-placed .ensures ∙ rw (loop .inv .2, c .before .handle-of .ensures, inPlace-snoc 0 done r, z),
     )
 
 returns-2 : tie.Need-returns-2 Inv-loop μ-loop
 returns-2 c =
-    rw (placed-all (now (c .before .before .before .before .before .args .list)) (c .before .before .before .loop .inv .1) (omega arith) (eq-eqb _ _ (c .before .if1 .taken)), ← c .before .before .before .loop .inv .2, c .if2 .taken) (ap given (omega (arith, c .before .before .before .loop .inv .1 .size, c .before .before .before .loop .inv .1 .within)))
+    let args = c .before .before .before .before .before .args in
+    let loop = c .before .before .before .loop in
+    rw (placed-all (now (args .list)) (loop .inv .1) (omega arith) (eq-eqb _ _ (c .before .if1 .taken)), ← loop .inv .2, c .if2 .taken) (ap given (omega (arith, loop .inv .1 .size, loop .inv .1 .within)))
 
 returns-3 : tie.Need-returns-3 Inv-loop μ-loop
-returns-3 c = rw (placed-all (now (c .before .before .before .before .before .args .list)) (c .before .before .before .loop .inv .1) (omega arith) (eq-eqb _ _ (c .before .if1 .taken)), ← c .before .before .before .loop .inv .2, c .if2 .left)
+returns-3 c =
+    let args = c .before .before .before .before .before .args in
+    let loop = c .before .before .before .loop in
+    rw (placed-all (now (args .list)) (loop .inv .1) (omega arith) (eq-eqb _ _ (c .before .if1 .taken)), ← loop .inv .2, c .if2 .left)
 
 returns-4 : tie.Need-returns-4 Inv-loop μ-loop
 returns-4 c = rw (placed-ragged (now (c .before .before .before .before .args .list)) (c .before .before .loop .inv .1) (omega arith) (ne-eqb _ _ (c .if1 .left)))

@@ -21,7 +21,9 @@ returns c = rw (lt-ltb 4096 (getD (now (c .before .before .before .args .list)) 
 
 returns-2 : tie.Need-returns-2
 unfolding lampList placedLamps
-returns-2 c = rw (le-ltb 4096 (getD (now (c .before .before .before .before .args .list)) 0 0) (omega (arith, c .before .before .word-or-zero .ensures)), lt-ltb 0x10_0000 (length (now (c .before .before .before .before .args .list))) (c .if2 .taken))
+returns-2 c =
+    let args = c .before .before .before .before .args in
+    rw (le-ltb 4096 (getD (now (args .list)) 0 0) (omega (arith, c .before .before .word-or-zero .ensures)), lt-ltb 0x10_0000 (length (now (args .list))) (c .if2 .taken))
 
 check-lamps-requires : tie.Need-check-lamps-requires
 check-lamps-requires c κs = search needs
@@ -29,7 +31,8 @@ check-lamps-requires c κs = search needs
 returns-3 : tie.Need-returns-3
 unfolding lampList placedLamps
 returns-3 c =
-    rw (le-ltb 4096 (getD (now (c .before .before .before .before .before .args .list)) 0 0) (omega (arith, c .before .before .before .word-or-zero .ensures)), le-ltb 0x10_0000 (length (now (c .before .before .before .before .before .args .list))) (c .before .if2 .left), ← c .before .before .before .word-or-zero .ensures) (c .check-lamps .ensures)
+    let args = c .before .before .before .before .before .args in
+    rw (le-ltb 4096 (getD (now (args .list)) 0 0) (omega (arith, c .before .before .before .word-or-zero .ensures)), le-ltb 0x10_0000 (length (now (args .list))) (c .before .if2 .left), ← c .before .before .before .word-or-zero .ensures) (c .check-lamps .ensures)
 
 pub check-list-spec : {M : Type 1} → statement M
 check-list-spec =

@@ -28,7 +28,10 @@ slice-write-block : tie.Need-slice-write-block Inv-loop μ-loop
 slice-write-block c = omega (arith, c .before .before .pre .0, c .before .before .pre .1)
 
 loop-holds : tie.Need-loop-holds Inv-loop μ-loop
-loop-holds c = ([], walked-none (nextBounds (now (c .before .before .args .list))) (λ (p : Passed). p .bounds) (λ (p : Passed). p .past) (λ (end : ℕ). given []) (c .before .before .args .m) 1, packed-none (c .before .before .args .m) (now (c .before .before .args .block)) (omega (arith, c .before .before .pre .0)))
+loop-holds c =
+    let args = c .before .before .args in
+    let pre = c .before .before .pre in
+    ([], walked-none (nextBounds (now (args .list))) (λ (p : Passed). p .bounds) (λ (p : Passed). p .past) (λ (end : ℕ). given []) (args .m) 1, packed-none (args .m) (now (args .block)) (omega (arith, pre .0)))
 
 next-bounds-requires : tie.Need-next-bounds-requires Inv-loop μ-loop
 next-bounds-requires c κs = search needs
@@ -37,25 +40,53 @@ enum-known-record : tie.Need-enum-known-record Inv-loop μ-loop
 enum-known-record c = search needs
 
 cast-block-2 : tie.Need-cast-block-2 Inv-loop μ-loop
-cast-block-2 c = omega (arith, c .before .before .before .before .before .before .before .before .pre .0, c .before .before .before .before .before .before .before .before .pre .1, c .before .before .before .before .before .loop .inv .2 .same, length-set (now (c .before .before .before .before .before .before .before .before .args .block)) 0 (c .before .before .before .before .before .before .before .before .args .m))
+cast-block-2 c =
+    let pre = c .before .before .before .before .before .before .before .before .pre in
+    let loop = c .before .before .before .before .before .loop in
+    let args = c .before .before .before .before .before .before .before .before .args in
+    omega (arith, pre .0, pre .1, loop .inv .2 .same, length-set (now (args .block)) 0 (args .m))
 
 mul-block : tie.Need-mul-block Inv-loop μ-loop
-mul-block c = omega (arith, c .before .before .before .before .before .before .before .before .pre .0, c .before .before .before .before .before .before .before .before .pre .1, c .before .before .before .before .before .loop .inv .2 .same, length-set (now (c .before .before .before .before .before .before .before .before .args .block)) 0 (c .before .before .before .before .before .before .before .before .args .m))
+mul-block c =
+    let pre = c .before .before .before .before .before .before .before .before .pre in
+    let loop = c .before .before .before .before .before .loop in
+    let args = c .before .before .before .before .before .before .before .before .args in
+    omega (arith, pre .0, pre .1, loop .inv .2 .same, length-set (now (args .block)) 0 (args .m))
 
 add-block : tie.Need-add-block Inv-loop μ-loop
-add-block c = omega (arith, c .before .before .before .before .before .before .before .before .pre .0, c .before .before .before .before .before .before .before .before .pre .1, c .before .before .before .before .before .loop .inv .2 .same, length-set (now (c .before .before .before .before .before .before .before .before .args .block)) 0 (c .before .before .before .before .before .before .before .before .args .m))
+add-block c =
+    let pre = c .before .before .before .before .before .before .before .before .pre in
+    let loop = c .before .before .before .before .before .loop in
+    let args = c .before .before .before .before .before .before .before .before .args in
+    omega (arith, pre .0, pre .1, loop .inv .2 .same, length-set (now (args .block)) 0 (args .m))
 
 mul-block-2 : tie.Need-mul-block-2 Inv-loop μ-loop
-mul-block-2 c = omega (arith, c .before .before .before .before .before .before .before .before .pre .0, c .before .before .before .before .before .before .before .before .pre .1, c .before .before .before .before .before .loop .inv .2 .same, length-set (now (c .before .before .before .before .before .before .before .before .args .block)) 0 (c .before .before .before .before .before .before .before .before .args .m))
+mul-block-2 c =
+    let pre = c .before .before .before .before .before .before .before .before .pre in
+    let loop = c .before .before .before .before .before .loop in
+    let args = c .before .before .before .before .before .before .before .before .args in
+    omega (arith, pre .0, pre .1, loop .inv .2 .same, length-set (now (args .block)) 0 (args .m))
 
 slice-write-block-2 : tie.Need-slice-write-block-2 Inv-loop μ-loop
-slice-write-block-2 c = omega (arith, c .before .before .before .before .before .before .before .before .pre .0, c .before .before .before .before .before .before .before .before .pre .1, c .before .before .before .before .before .loop .inv .2 .same, length-set (now (c .before .before .before .before .before .before .before .before .args .block)) 0 (c .before .before .before .before .before .before .before .before .args .m))
+slice-write-block-2 c =
+    let pre = c .before .before .before .before .before .before .before .before .pre in
+    let loop = c .before .before .before .before .before .loop in
+    let args = c .before .before .before .before .before .before .before .before .args in
+    omega (arith, pre .0, pre .1, loop .inv .2 .same, length-set (now (args .block)) 0 (args .m))
 
 mul-write-record : tie.Need-mul-write-record Inv-loop μ-loop
-mul-write-record c = omega (arith, c .before .before .before .before .before .before .before .before .before .pre .0, c .before .before .before .before .before .before .before .before .before .pre .1, c .before .before .before .before .before .before .loop .inv .2 .same, length-set (now (c .before .before .before .before .before .before .before .before .before .args .block)) 0 (c .before .before .before .before .before .before .before .before .before .args .m))
+mul-write-record c =
+    let pre = c .before .before .before .before .before .before .before .before .before .pre in
+    let loop = c .before .before .before .before .before .before .loop in
+    let args = c .before .before .before .before .before .before .before .before .before .args in
+    omega (arith, pre .0, pre .1, loop .inv .2 .same, length-set (now (args .block)) 0 (args .m))
 
 add-write-record : tie.Need-add-write-record Inv-loop μ-loop
-add-write-record c = omega (arith, c .before .before .before .before .before .before .before .before .before .pre .0, c .before .before .before .before .before .before .before .before .before .pre .1, c .before .before .before .before .before .before .loop .inv .2 .same, length-set (now (c .before .before .before .before .before .before .before .before .before .args .block)) 0 (c .before .before .before .before .before .before .before .before .before .args .m))
+add-write-record c =
+    let pre = c .before .before .before .before .before .before .before .before .before .pre in
+    let loop = c .before .before .before .before .before .before .loop in
+    let args = c .before .before .before .before .before .before .before .before .before .args in
+    omega (arith, pre .0, pre .1, loop .inv .2 .same, length-set (now (args .block)) 0 (args .m))
 
 write-record-requires : tie.Need-write-record-requires Inv-loop μ-loop
 write-record-requires c κs = search needs
@@ -64,35 +95,57 @@ enum-known-why : tie.Need-enum-known-why Inv-loop μ-loop
 enum-known-why c = search needs
 
 mul-zero-words : tie.Need-mul-zero-words Inv-loop μ-loop
-mul-zero-words c = omega (arith, c .before .before .before .before .before .before .before .before .before .pre .0, c .before .before .before .before .before .before .before .before .before .pre .1, c .before .before .before .before .before .before .loop .inv .2 .same, length-set (now (c .before .before .before .before .before .before .before .before .before .args .block)) 0 (c .before .before .before .before .before .before .before .before .before .args .m))
+mul-zero-words c =
+    let pre = c .before .before .before .before .before .before .before .before .before .pre in
+    let loop = c .before .before .before .before .before .before .loop in
+    let args = c .before .before .before .before .before .before .before .before .before .args in
+    omega (arith, pre .0, pre .1, loop .inv .2 .same, length-set (now (args .block)) 0 (args .m))
 
 add-zero-words : tie.Need-add-zero-words Inv-loop μ-loop
-add-zero-words c = omega (arith, c .before .before .before .before .before .before .before .before .before .pre .0, c .before .before .before .before .before .before .before .before .before .pre .1, c .before .before .before .before .before .before .loop .inv .2 .same, length-set (now (c .before .before .before .before .before .before .before .before .before .args .block)) 0 (c .before .before .before .before .before .before .before .before .before .args .m))
+add-zero-words c =
+    let pre = c .before .before .before .before .before .before .before .before .before .pre in
+    let loop = c .before .before .before .before .before .before .loop in
+    let args = c .before .before .before .before .before .before .before .before .before .args in
+    omega (arith, pre .0, pre .1, loop .inv .2 .same, length-set (now (args .block)) 0 (args .m))
 
 zero-words-requires : tie.Need-zero-words-requires Inv-loop μ-loop
 zero-words-requires c κs = search needs
 
 same-length : tie.Need-same-length Inv-loop μ-loop
-same-length c = ap length (c .before .before .zero-words .ensures ∙ zeroed (packed-counted (now (c .before .before .before .before .before .before .before .before .before .before .before .before .args .block)) (c .before .before .before .before .before .before .before .before .before .loop .inv .2)) (omega (arith, c .before .before .before .before .before .before .before .before .before .before .before .before .pre .0, c .before .before .before .before .before .before .before .before .before .before .before .before .pre .1, c .before .before .before .before .before .before .before .before .before .loop .inv .1 .size, c .before .before .before .before .before .before .before .before .before .loop .inv .1 .within, length-set (now (c .before .before .before .before .before .before .before .before .before .before .before .before .args .block)) 0 (c .before .before .before .before .before .before .before .before .before .before .before .before .args .m))) (c .before .before .before .before .before .before .before .before .before .before .before .before .pre .0)) ∙ zeroed-length (c .before .before .before .before .before .before .before .before .before .before .before .before .args .m) (now (c .before .before .before .before .before .before .before .before .before .before .before .before .args .block)) (c .before .before .before .before .before .before .before .before .before .before .before .before .pre .0)
+same-length c =
+    let args = c .before .before .before .before .before .before .before .before .before .before .before .before .args in
+    let loop = c .before .before .before .before .before .before .before .before .before .loop in
+    let pre = c .before .before .before .before .before .before .before .before .before .before .before .before .pre in
+    ap length (c .before .before .zero-words .ensures ∙ zeroed (packed-counted (now (args .block)) (loop .inv .2)) (omega (arith, pre .0, pre .1, loop .inv .1 .size, loop .inv .1 .within, length-set (now (args .block)) 0 (args .m))) (pre .0)) ∙ zeroed-length (args .m) (now (args .block)) (pre .0)
 
 returns : tie.Need-returns Inv-loop μ-loop
 unfolding lateTray
 returns c =
-    rw (walked-refused (nextBounds (now (c .before .before .before .before .before .before .before .before .before .before .before .before .args .list))) (λ (p : Passed). p .bounds) (λ (p : Passed). p .past) (λ (end : ℕ). given []) (c .before .before .before .before .before .before .before .before .before .loop .inv .1) (omega arith) (sym (c .before .before .before .before .before .before .before .next-bounds .ensures) ∙ ap atCursor (c .before .before .before .before .before .why .given .1)))
-    (refl, c .before .before .zero-words .ensures ∙ zeroed (packed-counted (now (c .before .before .before .before .before .before .before .before .before .before .before .before .args .block)) (c .before .before .before .before .before .before .before .before .before .loop .inv .2)) (omega (arith, c .before .before .before .before .before .before .before .before .before .before .before .before .pre .0, c .before .before .before .before .before .before .before .before .before .before .before .before .pre .1, c .before .before .before .before .before .before .before .before .before .loop .inv .1 .size, c .before .before .before .before .before .before .before .before .before .loop .inv .1 .within, length-set (now (c .before .before .before .before .before .before .before .before .before .before .before .before .args .block)) 0 (c .before .before .before .before .before .before .before .before .before .before .before .before .args .m))) (c .before .before .before .before .before .before .before .before .before .before .before .before .pre .0))
+    let args = c .before .before .before .before .before .before .before .before .before .before .before .before .args in
+    let loop = c .before .before .before .before .before .before .before .before .before .loop in
+    let pre = c .before .before .before .before .before .before .before .before .before .before .before .before .pre in
+    rw (walked-refused (nextBounds (now (args .list))) (λ (p : Passed). p .bounds) (λ (p : Passed). p .past) (λ (end : ℕ). given []) (loop .inv .1) (omega arith) (sym (c .before .before .before .before .before .before .before .next-bounds .ensures) ∙ ap atCursor (c .before .before .before .before .before .why .given .1)))
+    (refl, c .before .before .zero-words .ensures ∙ zeroed (packed-counted (now (args .block)) (loop .inv .2)) (omega (arith, pre .0, pre .1, loop .inv .1 .size, loop .inv .1 .within, length-set (now (args .block)) 0 (args .m))) (pre .0))
 
 add-place : tie.Need-add-place Inv-loop μ-loop
-add-place c = omega (arith, c .before .before .before .before .before .before .before .before .before .before .before .before .pre .0, c .before .before .before .before .before .before .before .before .before .before .before .before .pre .1, c .before .before .before .before .before .before .before .before .before .loop .inv .2 .same, length-set (now (c .before .before .before .before .before .before .before .before .before .before .before .before .args .block)) 0 (c .before .before .before .before .before .before .before .before .before .before .before .before .args .m))
+add-place c =
+    let pre = c .before .before .before .before .before .before .before .before .before .before .before .before .pre in
+    let loop = c .before .before .before .before .before .before .before .before .before .loop in
+    let args = c .before .before .before .before .before .before .before .before .before .before .before .before .args in
+    omega (arith, pre .0, pre .1, loop .inv .2 .same, length-set (now (args .block)) 0 (args .m))
 
 loop-less : tie.Need-loop-less Inv-loop μ-loop
 loop-less c = omega arith
 
 loop-again : tie.Need-loop-again Inv-loop μ-loop
 loop-again c =
+    let loop = c .before .before .before .before .before .before .before .before .before .loop in
+    let args = c .before .before .before .before .before .before .before .before .before .before .before .before .args in
+    let pre = c .before .before .before .before .before .before .before .before .before .before .before .before .pre in
     let b = c .before .before .before .before .before .«record» .given .0 .0 in (
-      c .before .before .before .before .before .before .before .before .before .loop .inv .0 ++ b ∷ [],
-      walked-one (nextBounds (now (c .before .before .before .before .before .before .before .before .before .before .before .before .args .list))) (λ (p : Passed). p .bounds) (λ (p : Passed). p .past) (λ (end : ℕ). given []) (record { bounds = b; past = c .before .before .before .before .before .«record» .given .0 .1 .0 .at }) (c .before .before .before .before .before .before .before .before .before .loop .inv .1) (omega arith) (sym (c .before .before .before .before .before .before .before .next-bounds .ensures) ∙ ap atCursor (c .before .before .before .before .before .«record» .given .1)),
-      rw (c .before .before .write-record .ensures) (packed-one (c .before .before .before .before .before .before .before .before .before .loop .place) b (c .before .before .before .before .before .before .before .before .before .loop .inv .2) (c .before .before .before .before .before .before .before .before .before .loop .inv .1 .size) (omega (arith, c .before .before .before .before .before .before .before .before .before .before .before .before .pre .0, c .before .before .before .before .before .before .before .before .before .before .before .before .pre .1, c .before .before .before .before .before .before .before .before .before .loop .inv .1 .size, c .before .before .before .before .before .before .before .before .before .loop .inv .1 .within, length-set (now (c .before .before .before .before .before .before .before .before .before .before .before .before .args .block)) 0 (c .before .before .before .before .before .before .before .before .before .before .before .before .args .m)))),
+      loop .inv .0 ++ b ∷ [],
+      walked-one (nextBounds (now (args .list))) (λ (p : Passed). p .bounds) (λ (p : Passed). p .past) (λ (end : ℕ). given []) (record { bounds = b; past = c .before .before .before .before .before .«record» .given .0 .1 .0 .at }) (loop .inv .1) (omega arith) (sym (c .before .before .before .before .before .before .before .next-bounds .ensures) ∙ ap atCursor (c .before .before .before .before .before .«record» .given .1)),
+      rw (c .before .before .write-record .ensures) (packed-one (loop .place) b (loop .inv .2) (loop .inv .1 .size) (omega (arith, pre .0, pre .1, loop .inv .1 .size, loop .inv .1 .within, length-set (now (args .block)) 0 (args .m)))),
     )
 
 same-length-2 : tie.Need-same-length-2 Inv-loop μ-loop
@@ -101,8 +154,10 @@ same-length-2 c = c .before .loop .inv .2 .same ∙ length-set (now (c .before .
 returns-2 : tie.Need-returns-2 Inv-loop μ-loop
 unfolding lateTray
 returns-2 c =
-    let n : length (c .before .loop .inv .0) ≡ c .before .before .before .before .args .m = omega (arith, c .before .loop .inv .1 .size, c .before .loop .inv .1 .within) in
-    rw (walked-all (nextBounds (now (c .before .before .before .before .args .list))) (λ (p : Passed). p .bounds) (λ (p : Passed). p .past) (λ (end : ℕ). given []) (c .before .loop .inv .1) (omega arith), append-nil (c .before .loop .inv .0)) (ap given (sym n), (packed-counted (now (c .before .before .before .before .args .block)) (c .before .loop .inv .2)) .is ∙ rw n)
+    let loop = c .before .loop in
+    let args = c .before .before .before .before .args in
+    let n : length (loop .inv .0) ≡ args .m = omega (arith, loop .inv .1 .size, loop .inv .1 .within) in
+    rw (walked-all (nextBounds (now (args .list))) (λ (p : Passed). p .bounds) (λ (p : Passed). p .past) (λ (end : ℕ). given []) (loop .inv .1) (omega arith), append-nil (loop .inv .0)) (ap given (sym n), (packed-counted (now (args .block)) (loop .inv .2)) .is ∙ rw n)
 
 pub write-block-spec : {M : Type 1} → statement M
 write-block-spec =

@@ -86,15 +86,18 @@ add-t26 c = search needs
 
 returns-3 : tie.Need-returns-3
 returns-3 c =
-    rw (le-leb (c .before .before .before .before .before .before .before .before .before .before .before .before .before .before .args .at + 5) (length (now (c .before .before .before .before .before .before .before .before .before .before .before .before .before .before .args .list))) (omega arith), ← c .before .before .before .before .before .before .before .before .before .is-side .ensures, c .before .before .before .before .before .before .before .before .if3 .taken, le-leb (groupEnd (now (c .before .before .before .before .before .before .before .before .before .before .before .before .before .before .args .list)) (c .before .before .before .before .before .before .before .before .before .before .before .before .before .before .args .at)) (length (now (c .before .before .before .before .before .before .before .before .before .before .before .before .before .before .args .list))) (omega (arith, c .before .before .before .before .before .before .wide .ensures, c .before .before .before .before .before .if4 .taken)), ← c .before .before .f32-of-word .ensures, ← c .f32-of-word2 .ensures, c .before .before .before .before .before .before .wide .ensures)
+    let args = c .before .before .before .before .before .before .before .before .before .before .before .before .before .before .args in
+    rw (le-leb (args .at + 5) (length (now (args .list))) (omega arith), ← c .before .before .before .before .before .before .before .before .before .is-side .ensures, c .before .before .before .before .before .before .before .before .if3 .taken, le-leb (groupEnd (now (args .list)) (args .at)) (length (now (args .list))) (omega (arith, c .before .before .before .before .before .before .wide .ensures, c .before .before .before .before .before .if4 .taken)), ← c .before .before .f32-of-word .ensures, ← c .f32-of-word2 .ensures, c .before .before .before .before .before .before .wide .ensures)
 
 returns-4 : tie.Need-returns-4
 returns-4 c =
-    rw (le-leb (c .before .before .before .before .before .before .before .before .before .args .at + 5) (length (now (c .before .before .before .before .before .before .before .before .before .args .list))) (omega arith), ← c .before .before .before .before .is-side .ensures, c .before .before .before .if3 .taken, lt-leb (groupEnd (now (c .before .before .before .before .before .before .before .before .before .args .list)) (c .before .before .before .before .before .before .before .before .before .args .at)) (length (now (c .before .before .before .before .before .before .before .before .before .args .list))) (omega (arith, c .before .wide .ensures, c .if4 .left)))
+    let args = c .before .before .before .before .before .before .before .before .before .args in
+    rw (le-leb (args .at + 5) (length (now (args .list))) (omega arith), ← c .before .before .before .before .is-side .ensures, c .before .before .before .if3 .taken, lt-leb (groupEnd (now (args .list)) (args .at)) (length (now (args .list))) (omega (arith, c .before .wide .ensures, c .if4 .left)))
 
 returns-5 : tie.Need-returns-5
 returns-5 c =
-    rw (le-leb (c .before .before .before .before .before .before .args .at + 5) (length (now (c .before .before .before .before .before .before .args .list))) (omega arith), ← c .before .is-side .ensures, c .if3 .left)
+    let args = c .before .before .before .before .before .before .args in
+    rw (le-leb (args .at + 5) (length (now (args .list))) (omega arith), ← c .before .is-side .ensures, c .if3 .left)
 
 pub group-at-spec : {M : Type 1} → statement M
 group-at-spec =

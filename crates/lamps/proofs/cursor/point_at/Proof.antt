@@ -61,7 +61,8 @@ add-t7 c = search needs
 
 returns-3 : tie.Need-returns-3
 returns-3 c =
-    rw (le-leb (c .before .before .before .before .before .before .before .before .before .args .at + 6) (length (now (c .before .before .before .before .before .before .before .before .before .args .list))) (omega arith), ← c .before .before .before .before .vec-at .ensures, ← c .before .before .f32-of-word .ensures, ← c .f32-of-word2 .ensures)
+    let args = c .before .before .before .before .before .before .before .before .before .args in
+    rw (le-leb (args .at + 6) (length (now (args .list))) (omega arith), ← c .before .before .before .before .vec-at .ensures, ← c .before .before .f32-of-word .ensures, ← c .f32-of-word2 .ensures)
 
 pub point-at-spec : {M : Type 1} → statement M
 point-at-spec =

@@ -37,7 +37,9 @@ enum-known-why c = search needs
 returns : tie.Need-returns Inv-loop μ-loop
 unfolding _then_
 returns c =
-    rw (c .before .before .before .before .before .before .loop .inv .2, unionFrom-next (c .before .before .before .before .before .before .before .before .args .emission-max) (c .before .before .before .before .before .before .before .before .args .scale) (c .before .before .before .before .before .before .before .before .args .two-sided) (now (c .before .before .before .before .before .before .before .before .args .triangles)) (13 * c .before .before .before .before .before .before .loop .k) (c .before .before .before .before .before .before .before .before .args .n - c .before .before .before .before .before .before .loop .k) (c .before .before .before .before .before .before .loop .result) (omega arith), ← c .before .before .before .before .triangle-at .ensures, ← c .before .before .before .grown .ensures, c .before .why .given .1)
+    let loop = c .before .before .before .before .before .before .loop in
+    let args = c .before .before .before .before .before .before .before .before .args in
+    rw (loop .inv .2, unionFrom-next (args .emission-max) (args .scale) (args .two-sided) (now (args .triangles)) (13 * loop .k) (args .n - loop .k) (loop .result) (omega arith), ← c .before .before .before .before .triangle-at .ensures, ← c .before .before .before .grown .ensures, c .before .why .given .1)
 
 add-k : tie.Need-add-k Inv-loop μ-loop
 add-k c = search needs
@@ -48,12 +50,17 @@ loop-less c = omega arith
 loop-again : tie.Need-loop-again Inv-loop μ-loop
 unfolding _then_
 loop-again c =
-    let e : 13 * c .before .before .before .before .before .before .loop .k + 13 ≡ 13 * (c .before .before .before .before .before .before .loop .k + 1) = omega arith in
-    let e′ : c .before .before .before .before .before .before .before .before .args .n - c .before .before .before .before .before .before .loop .k - 1 ≡ c .before .before .before .before .before .before .before .before .args .n - (c .before .before .before .before .before .before .loop .k + 1) = omega arith in
-    (omega arith, omega arith, rw (c .before .before .before .before .before .before .loop .inv .2, unionFrom-next (c .before .before .before .before .before .before .before .before .args .emission-max) (c .before .before .before .before .before .before .before .before .args .scale) (c .before .before .before .before .before .before .before .before .args .two-sided) (now (c .before .before .before .before .before .before .before .before .args .triangles)) (13 * c .before .before .before .before .before .before .loop .k) (c .before .before .before .before .before .before .before .before .args .n - c .before .before .before .before .before .before .loop .k) (c .before .before .before .before .before .before .loop .result) (omega arith), ← c .before .before .before .before .triangle-at .ensures, ← c .before .before .before .grown .ensures, c .before .«record» .given .1, e, e′))
+    let loop = c .before .before .before .before .before .before .loop in
+    let args = c .before .before .before .before .before .before .before .before .args in
+    let e : 13 * loop .k + 13 ≡ 13 * (loop .k + 1) = omega arith in
+    let e′ : args .n - loop .k - 1 ≡ args .n - (loop .k + 1) = omega arith in
+    (omega arith, omega arith, rw (loop .inv .2, unionFrom-next (args .emission-max) (args .scale) (args .two-sided) (now (args .triangles)) (13 * loop .k) (args .n - loop .k) (loop .result) (omega arith), ← c .before .before .before .before .triangle-at .ensures, ← c .before .before .before .grown .ensures, c .before .«record» .given .1, e, e′))
 
 returns-2 : tie.Need-returns-2 Inv-loop μ-loop
-returns-2 c = sym (c .before .loop .inv .2 ∙ unionFrom-end (c .before .before .before .args .emission-max) (c .before .before .before .args .scale) (c .before .before .before .args .two-sided) (now (c .before .before .before .args .triangles)) (13 * c .before .loop .k) (c .before .before .before .args .n - c .before .loop .k) (given (c .before .loop .result)) (omega arith))
+returns-2 c =
+    let loop = c .before .loop in
+    let args = c .before .before .before .args in
+    sym (loop .inv .2 ∙ unionFrom-end (args .emission-max) (args .scale) (args .two-sided) (now (args .triangles)) (13 * loop .k) (args .n - loop .k) (given (loop .result)) (omega arith))
 
 pub union-rest-spec : {M : Type 1} → statement M
 union-rest-spec =
