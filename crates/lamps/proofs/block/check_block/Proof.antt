@@ -22,7 +22,10 @@ returns-2 : tie.Need-returns-2
 unfolding blockCheck
 returns-2 c =
     let args = c .before .before .before .before .args in
-    rw (le-ltb 4096 (getD (now (args .block)) 0 0) (omega (arith, c .before .before .word-or-zero .ensures)), lt-ltb 0x10_0000 (length (now (args .block))) (c .if2 .taken))
+    rw (
+      le-ltb 4096 (getD (now (args .block)) 0 0) (omega (arith, c .before .before .word-or-zero .ensures)),
+      lt-ltb 0x10_0000 (length (now (args .block))) (c .if2 .taken),
+    )
 
 mul-if3 : tie.Need-mul-if3
 mul-if3 c = search needs
@@ -37,13 +40,22 @@ returns-3 : tie.Need-returns-3
 unfolding blockCheck
 returns-3 c =
     let args = c .before .before .before .before .before .before .args in
-    rw (le-ltb 4096 (getD (now (args .block)) 0 0) (omega (arith, c .before .before .before .before .word-or-zero .ensures)), le-ltb 0x10_0000 (length (now (args .block))) (c .before .before .if2 .left), eq-eqb (length (now (args .block))) (blockWords (getD (now (args .block)) 0 0)) (omega (arith, c .before .before .before .before .word-or-zero .ensures, c .before .if3 .taken)), ← c .before .before .before .before .word-or-zero .ensures) (c .check-records .ensures)
+    rw (
+      le-ltb 4096 (getD (now (args .block)) 0 0) (omega (arith, c .before .before .before .before .word-or-zero .ensures)),
+      le-ltb 0x10_0000 (length (now (args .block))) (c .before .before .if2 .left),
+      eq-eqb (length (now (args .block))) (blockWords (getD (now (args .block)) 0 0)) (omega (arith, c .before .before .before .before .word-or-zero .ensures, c .before .if3 .taken)),
+      ← c .before .before .before .before .word-or-zero .ensures,
+    ) (c .check-records .ensures)
 
 returns-4 : tie.Need-returns-4
 unfolding blockCheck
 returns-4 c =
     let args = c .before .before .before .before .before .args in
-    rw (le-ltb 4096 (getD (now (args .block)) 0 0) (omega (arith, c .before .before .before .word-or-zero .ensures)), le-ltb 0x10_0000 (length (now (args .block))) (c .before .if2 .left), ne-eqb (length (now (args .block))) (blockWords (getD (now (args .block)) 0 0)) (λ e. c .if3 .left (omega (arith, e, c .before .before .before .word-or-zero .ensures))))
+    rw (
+      le-ltb 4096 (getD (now (args .block)) 0 0) (omega (arith, c .before .before .before .word-or-zero .ensures)),
+      le-ltb 0x10_0000 (length (now (args .block))) (c .before .if2 .left),
+      ne-eqb (length (now (args .block))) (blockWords (getD (now (args .block)) 0 0)) (λ e. c .if3 .left (omega (arith, e, c .before .before .before .word-or-zero .ensures))),
+    )
 
 pub check-block-spec : {M : Type 1} → statement M
 check-block-spec =

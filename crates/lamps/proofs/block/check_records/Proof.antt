@@ -77,14 +77,20 @@ returns-2 c =
     let loop = c .before .before .loop in
     let args = c .before .before .before .before .args in
     let e : loop .i ≡ args .m = omega arith in
-    rw (subst (λ (k : ℕ). below (sideAt (now (args .block))) k ≡ true) e (loop .inv .1), subst (λ (k : ℕ). below (handleAt (now (args .block))) k ≡ true) e (sym (loop .inv .2) ∙ c .if2 .taken))
+    rw (
+      subst (λ (k : ℕ). below (sideAt (now (args .block))) k ≡ true) e (loop .inv .1),
+      subst (λ (k : ℕ). below (handleAt (now (args .block))) k ≡ true) e (sym (loop .inv .2) ∙ c .if2 .taken),
+    )
 
 returns-3 : tie.Need-returns-3 Inv-loop μ-loop
 returns-3 c =
     let loop = c .before .before .loop in
     let args = c .before .before .before .before .args in
     let e : loop .i ≡ args .m = omega arith in
-    rw (subst (λ (k : ℕ). below (sideAt (now (args .block))) k ≡ true) e (loop .inv .1), subst (λ (k : ℕ). below (handleAt (now (args .block))) k ≡ false) e (sym (loop .inv .2) ∙ c .if2 .left))
+    rw (
+      subst (λ (k : ℕ). below (sideAt (now (args .block))) k ≡ true) e (loop .inv .1),
+      subst (λ (k : ℕ). below (handleAt (now (args .block))) k ≡ false) e (sym (loop .inv .2) ∙ c .if2 .left),
+    )
 
 pub check-records-spec : {M : Type 1} → statement M
 check-records-spec =

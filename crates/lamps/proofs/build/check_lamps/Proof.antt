@@ -73,7 +73,8 @@ returns-2 : tie.Need-returns-2 Inv-loop μ-loop
 returns-2 c =
     let args = c .before .before .before .before .before .args in
     let loop = c .before .before .before .loop in
-    rw (placed-all (now (args .list)) (loop .inv .1) (omega arith) (eq-eqb _ _ (c .before .if1 .taken)), ← loop .inv .2, c .if2 .taken) (ap given (omega (arith, loop .inv .1 .size, loop .inv .1 .within)))
+    rw (placed-all (now (args .list)) (loop .inv .1) (omega arith) (eq-eqb _ _ (c .before .if1 .taken)), ← loop .inv .2, c .if2 .taken)
+    (ap given (omega (arith, loop .inv .1 .size, loop .inv .1 .within)))
 
 returns-3 : tie.Need-returns-3 Inv-loop μ-loop
 returns-3 c =

@@ -23,7 +23,10 @@ returns-2 : tie.Need-returns-2
 unfolding lampList placedLamps
 returns-2 c =
     let args = c .before .before .before .before .args in
-    rw (le-ltb 4096 (getD (now (args .list)) 0 0) (omega (arith, c .before .before .word-or-zero .ensures)), lt-ltb 0x10_0000 (length (now (args .list))) (c .if2 .taken))
+    rw (
+      le-ltb 4096 (getD (now (args .list)) 0 0) (omega (arith, c .before .before .word-or-zero .ensures)),
+      lt-ltb 0x10_0000 (length (now (args .list))) (c .if2 .taken),
+    )
 
 check-lamps-requires : tie.Need-check-lamps-requires
 check-lamps-requires c κs = search needs
@@ -32,7 +35,11 @@ returns-3 : tie.Need-returns-3
 unfolding lampList placedLamps
 returns-3 c =
     let args = c .before .before .before .before .before .args in
-    rw (le-ltb 4096 (getD (now (args .list)) 0 0) (omega (arith, c .before .before .before .word-or-zero .ensures)), le-ltb 0x10_0000 (length (now (args .list))) (c .before .if2 .left), ← c .before .before .before .word-or-zero .ensures) (c .check-lamps .ensures)
+    rw (
+      le-ltb 4096 (getD (now (args .list)) 0 0) (omega (arith, c .before .before .before .word-or-zero .ensures)),
+      le-ltb 0x10_0000 (length (now (args .list))) (c .before .if2 .left),
+      ← c .before .before .before .word-or-zero .ensures,
+    ) (c .check-lamps .ensures)
 
 pub check-list-spec : {M : Type 1} → statement M
 check-list-spec =

@@ -157,7 +157,10 @@ returns-2 c =
     let loop = c .before .loop in
     let args = c .before .before .before .before .args in
     let n : length (loop .inv .0) ≡ args .m = omega (arith, loop .inv .1 .size, loop .inv .1 .within) in
-    rw (walked-all (nextBounds (now (args .list))) (λ (p : Passed). p .bounds) (λ (p : Passed). p .past) (λ (end : ℕ). given []) (loop .inv .1) (omega arith), append-nil (loop .inv .0)) (ap given (sym n), (packed-counted (now (args .block)) (loop .inv .2)) .is ∙ rw n)
+    rw (
+      walked-all (nextBounds (now (args .list))) (λ (p : Passed). p .bounds) (λ (p : Passed). p .past) (λ (end : ℕ). given []) (loop .inv .1) (omega arith),
+      append-nil (loop .inv .0),
+    ) (ap given (sym n), (packed-counted (now (args .block)) (loop .inv .2)) .is ∙ rw n)
 
 pub write-block-spec : {M : Type 1} → statement M
 write-block-spec =

@@ -87,12 +87,25 @@ add-t26 c = search needs
 returns-3 : tie.Need-returns-3
 returns-3 c =
     let args = c .before .before .before .before .before .before .before .before .before .before .before .before .before .before .args in
-    rw (le-leb (args .at + 5) (length (now (args .list))) (omega arith), ← c .before .before .before .before .before .before .before .before .before .is-side .ensures, c .before .before .before .before .before .before .before .before .if3 .taken, le-leb (groupEnd (now (args .list)) (args .at)) (length (now (args .list))) (omega (arith, c .before .before .before .before .before .before .wide .ensures, c .before .before .before .before .before .if4 .taken)), ← c .before .before .f32-of-word .ensures, ← c .f32-of-word2 .ensures, c .before .before .before .before .before .before .wide .ensures)
+    rw (
+      le-leb (args .at + 5) (length (now (args .list))) (omega arith),
+      ← c .before .before .before .before .before .before .before .before .before .is-side .ensures,
+      c .before .before .before .before .before .before .before .before .if3 .taken,
+      le-leb (groupEnd (now (args .list)) (args .at)) (length (now (args .list))) (omega (arith, c .before .before .before .before .before .before .wide .ensures, c .before .before .before .before .before .if4 .taken)),
+      ← c .before .before .f32-of-word .ensures,
+      ← c .f32-of-word2 .ensures,
+      c .before .before .before .before .before .before .wide .ensures,
+    )
 
 returns-4 : tie.Need-returns-4
 returns-4 c =
     let args = c .before .before .before .before .before .before .before .before .before .args in
-    rw (le-leb (args .at + 5) (length (now (args .list))) (omega arith), ← c .before .before .before .before .is-side .ensures, c .before .before .before .if3 .taken, lt-leb (groupEnd (now (args .list)) (args .at)) (length (now (args .list))) (omega (arith, c .before .wide .ensures, c .if4 .left)))
+    rw (
+      le-leb (args .at + 5) (length (now (args .list))) (omega arith),
+      ← c .before .before .before .before .is-side .ensures,
+      c .before .before .before .if3 .taken,
+      lt-leb (groupEnd (now (args .list)) (args .at)) (length (now (args .list))) (omega (arith, c .before .wide .ensures, c .if4 .left)),
+    )
 
 returns-5 : tie.Need-returns-5
 returns-5 c =

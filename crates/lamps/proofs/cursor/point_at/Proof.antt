@@ -62,7 +62,12 @@ add-t7 c = search needs
 returns-3 : tie.Need-returns-3
 returns-3 c =
     let args = c .before .before .before .before .before .before .before .before .before .args in
-    rw (le-leb (args .at + 6) (length (now (args .list))) (omega arith), ← c .before .before .before .before .vec-at .ensures, ← c .before .before .f32-of-word .ensures, ← c .f32-of-word2 .ensures)
+    rw (
+      le-leb (args .at + 6) (length (now (args .list))) (omega arith),
+      ← c .before .before .before .before .vec-at .ensures,
+      ← c .before .before .f32-of-word .ensures,
+      ← c .f32-of-word2 .ensures,
+    )
 
 pub point-at-spec : {M : Type 1} → statement M
 point-at-spec =

@@ -92,7 +92,15 @@ add-t7 c = search needs
 returns-3 : tie.Need-returns-3
 returns-3 c =
     let args = c .before .before .before .before .before .before .before .before .before .before .before .before .before .before .args in
-    rw (le-leb (args .at + 11) (length (now (args .list))) (omega arith), ← c .before .before .before .before .before .before .before .before .before .vec-at .ensures, ← c .before .before .before .before .before .before .before .before .vec-at2 .ensures, ← c .before .before .before .before .before .before .f32-of-word .ensures, ← c .before .before .before .before .f32-of-word2 .ensures, ← c .before .before .f32-of-word3 .ensures, ← c .f32-of-word4 .ensures)
+    rw (
+      le-leb (args .at + 11) (length (now (args .list))) (omega arith),
+      ← c .before .before .before .before .before .before .before .before .before .vec-at .ensures,
+      ← c .before .before .before .before .before .before .before .before .vec-at2 .ensures,
+      ← c .before .before .before .before .before .before .f32-of-word .ensures,
+      ← c .before .before .before .before .f32-of-word2 .ensures,
+      ← c .before .before .f32-of-word3 .ensures,
+      ← c .f32-of-word4 .ensures,
+    )
 
 pub spot-at-spec : {M : Type 1} → statement M
 spot-at-spec =

@@ -20,14 +20,25 @@ checked-requires c κs = search needs
 
 returns : tie.Need-returns
 unfolding facedRecord _then_
-returns c = rw (← c .before .before .before .before .before .before .normalize .ensures, c .before .before .before .before .direction .given .1, ← c .before .before .is-finite-vec .ensures, c .before .if1 .taken, cos-half-pi) (c .checked .ensures)
+returns c = rw (
+  ← c .before .before .before .before .before .before .normalize .ensures,
+  c .before .before .before .before .direction .given .1,
+  ← c .before .before .is-finite-vec .ensures,
+  c .before .if1 .taken,
+  cos-half-pi,
+) (c .checked .ensures)
 
 enum-known-why : tie.Need-enum-known-why
 enum-known-why c = search needs
 
 returns-2 : tie.Need-returns-2
 unfolding facedRecord _then_
-returns-2 c = rw (← c .before .before .before .before .before .normalize .ensures, c .before .before .before .direction .given .1, ← c .before .is-finite-vec .ensures, c .if1 .left)
+returns-2 c = rw (
+  ← c .before .before .before .before .before .normalize .ensures,
+  c .before .before .before .direction .given .1,
+  ← c .before .is-finite-vec .ensures,
+  c .if1 .left,
+)
 
 returns-3 : tie.Need-returns-3
 unfolding facedRecord _then_

@@ -15,11 +15,23 @@ cos-requires c κs = search needs
 
 returns : tie.Need-returns
 unfolding falloff
-returns c = rw (← c .before .before .before .before .acos .ensures, ← c .before .before .before .acos2 .ensures, ← c .before .before .cos .ensures, c .before .if1 .taken, c .if2 .taken)
+returns c = rw (
+  ← c .before .before .before .before .acos .ensures,
+  ← c .before .before .before .acos2 .ensures,
+  ← c .before .before .cos .ensures,
+  c .before .if1 .taken,
+  c .if2 .taken,
+)
 
 returns-2 : tie.Need-returns-2
 unfolding falloff
-returns-2 c = rw (← c .before .before .before .before .acos .ensures, ← c .before .before .before .acos2 .ensures, ← c .before .before .cos .ensures, c .before .if1 .taken, c .if2 .left)
+returns-2 c = rw (
+  ← c .before .before .before .before .acos .ensures,
+  ← c .before .before .before .acos2 .ensures,
+  ← c .before .before .cos .ensures,
+  c .before .if1 .taken,
+  c .if2 .left,
+)
 
 returns-3 : tie.Need-returns-3
 unfolding falloff

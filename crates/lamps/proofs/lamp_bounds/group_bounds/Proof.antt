@@ -20,7 +20,11 @@ returns : tie.Need-returns
 unfolding groupBounds _then_
 returns c =
     let args = c .before .before .before .before .before .args in
-    rw (← c .before .before .before .validate-emission .ensures, c .before .enum-told .given .1, unionFrom-end (args .emission-max) (args .scale) (args .two-sided) (now (args .triangles)) 0 (length (now (args .triangles)) / 13) (refused 9) (c .if1 .taken))
+    rw (
+      ← c .before .before .before .validate-emission .ensures,
+      c .before .enum-told .given .1,
+      unionFrom-end (args .emission-max) (args .scale) (args .two-sided) (now (args .triangles)) 0 (length (now (args .triangles)) / 13) (refused 9) (c .if1 .taken),
+    )
 
 triangle-at-requires : tie.Need-triangle-at-requires
 triangle-at-requires c κs = search needs
@@ -44,13 +48,27 @@ returns-2 : tie.Need-returns-2
 unfolding groupBounds _then_
 returns-2 c =
     let args = c .before .before .before .before .before .before .before .before .before .before .before .args in
-    rw (← c .before .before .before .before .before .before .before .before .before .validate-emission .ensures, c .before .before .before .before .before .before .before .enum-told .given .1, unionFrom-first (args .emission-max) (args .scale) (args .two-sided) (now (args .triangles)) (length (now (args .triangles)) / 13) (omega arith), ← c .before .before .before .before .before .triangle-at .ensures, ← c .before .before .before .before .triangle-record .ensures, c .before .before .first .given .1) (c .union-rest .ensures)
+    rw (
+      ← c .before .before .before .before .before .before .before .before .before .validate-emission .ensures,
+      c .before .before .before .before .before .before .before .enum-told .given .1,
+      unionFrom-first (args .emission-max) (args .scale) (args .two-sided) (now (args .triangles)) (length (now (args .triangles)) / 13) (omega arith),
+      ← c .before .before .before .before .before .triangle-at .ensures,
+      ← c .before .before .before .before .triangle-record .ensures,
+      c .before .before .first .given .1,
+    ) (c .union-rest .ensures)
 
 returns-3 : tie.Need-returns-3
 unfolding groupBounds _then_
 returns-3 c =
     let args = c .before .before .before .before .before .before .before .before .before .before .args in
-    rw (← c .before .before .before .before .before .before .before .before .validate-emission .ensures, c .before .before .before .before .before .before .enum-told .given .1, unionFrom-first (args .emission-max) (args .scale) (args .two-sided) (now (args .triangles)) (length (now (args .triangles)) / 13) (omega arith), ← c .before .before .before .before .triangle-at .ensures, ← c .before .before .before .triangle-record .ensures, c .before .why .given .1)
+    rw (
+      ← c .before .before .before .before .before .before .before .before .validate-emission .ensures,
+      c .before .before .before .before .before .before .enum-told .given .1,
+      unionFrom-first (args .emission-max) (args .scale) (args .two-sided) (now (args .triangles)) (length (now (args .triangles)) / 13) (omega arith),
+      ← c .before .before .before .before .triangle-at .ensures,
+      ← c .before .before .before .triangle-record .ensures,
+      c .before .why .given .1,
+    )
 
 returns-4 : tie.Need-returns-4
 unfolding groupBounds _then_

@@ -24,11 +24,21 @@ enum-known-why-2 c = search needs
 
 returns : tie.Need-returns
 unfolding _then_
-returns c = rw (← c .before .before .before .before .before .before .before .triangle-record .ensures, c .before .before .before .before .before .current .given .1, ← c .before .before .before .union .ensures, c .before .«record» .given .1)
+returns c = rw (
+  ← c .before .before .before .before .before .before .before .triangle-record .ensures,
+  c .before .before .before .before .before .current .given .1,
+  ← c .before .before .before .union .ensures,
+  c .before .«record» .given .1,
+)
 
 returns-2 : tie.Need-returns-2
 unfolding _then_
-returns-2 c = rw (← c .before .before .before .before .before .before .before .triangle-record .ensures, c .before .before .before .before .before .current .given .1, ← c .before .before .before .union .ensures, c .before .why .given .1)
+returns-2 c = rw (
+  ← c .before .before .before .before .before .before .before .triangle-record .ensures,
+  c .before .before .before .before .before .current .given .1,
+  ← c .before .before .before .union .ensures,
+  c .before .why .given .1,
+)
 
 returns-3 : tie.Need-returns-3
 unfolding _then_

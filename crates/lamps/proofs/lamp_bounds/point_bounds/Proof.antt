@@ -33,11 +33,24 @@ enum-known-why-2 c = search needs
 returns : tie.Need-returns
 unfolding pointBounds _then_
 returns c =
-    rw (← c .before .before .before .before .before .before .before .validate-emission .ensures, c .before .before .before .before .before .enum-told .given .1, ← c .before .before .before .before .check .ensures, c .before .before .enum-told2 .given .1, cos-half-pi, ← c .before .point-phi .ensures) (c .checked .ensures)
+    rw (
+      ← c .before .before .before .before .before .before .before .validate-emission .ensures,
+      c .before .before .before .before .before .enum-told .given .1,
+      ← c .before .before .before .before .check .ensures,
+      c .before .before .enum-told2 .given .1,
+      cos-half-pi,
+      ← c .before .point-phi .ensures,
+    )
+    (c .checked .ensures)
 
 returns-2 : tie.Need-returns-2
 unfolding pointBounds _then_
-returns-2 c = rw (← c .before .before .before .before .before .before .validate-emission .ensures, c .before .before .before .before .enum-told .given .1, ← c .before .before .before .check .ensures, c .before .why .given .1)
+returns-2 c = rw (
+  ← c .before .before .before .before .before .before .validate-emission .ensures,
+  c .before .before .before .before .enum-told .given .1,
+  ← c .before .before .before .check .ensures,
+  c .before .why .given .1,
+)
 
 returns-3 : tie.Need-returns-3
 unfolding pointBounds _then_

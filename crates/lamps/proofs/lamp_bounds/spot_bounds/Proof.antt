@@ -26,18 +26,38 @@ spot-record-requires c κs = search needs
 returns : tie.Need-returns
 unfolding spotBounds _then_
 returns c =
-    rw (← c .before .before .before .before .before .before .before .before .validate-emission .ensures, c .before .before .before .before .before .before .enum-told .given .1, ← c .before .before .before .before .before .is-cosine .ensures, c .before .before .before .before .if1 .taken, ← c .before .before .before .is-cosine2 .ensures, c .before .before .if2 .taken, ← c .before .point-phi .ensures) (c .spot-record .ensures)
+    rw (
+      ← c .before .before .before .before .before .before .before .before .validate-emission .ensures,
+      c .before .before .before .before .before .before .enum-told .given .1,
+      ← c .before .before .before .before .before .is-cosine .ensures,
+      c .before .before .before .before .if1 .taken,
+      ← c .before .before .before .is-cosine2 .ensures,
+      c .before .before .if2 .taken,
+      ← c .before .point-phi .ensures,
+    ) (c .spot-record .ensures)
 
 enum-known-why : tie.Need-enum-known-why
 enum-known-why c = search needs
 
 returns-2 : tie.Need-returns-2
 unfolding spotBounds _then_
-returns-2 c = rw (← c .before .before .before .before .before .before .validate-emission .ensures, c .before .before .before .before .enum-told .given .1, ← c .before .before .before .is-cosine .ensures, c .before .before .if1 .taken, ← c .before .is-cosine2 .ensures, c .if2 .left)
+returns-2 c = rw (
+  ← c .before .before .before .before .before .before .validate-emission .ensures,
+  c .before .before .before .before .enum-told .given .1,
+  ← c .before .before .before .is-cosine .ensures,
+  c .before .before .if1 .taken,
+  ← c .before .is-cosine2 .ensures,
+  c .if2 .left,
+)
 
 returns-3 : tie.Need-returns-3
 unfolding spotBounds _then_
-returns-3 c = rw (← c .before .before .before .before .validate-emission .ensures, c .before .before .enum-told .given .1, ← c .before .is-cosine .ensures, c .if1 .left)
+returns-3 c = rw (
+  ← c .before .before .before .before .validate-emission .ensures,
+  c .before .before .enum-told .given .1,
+  ← c .before .is-cosine .ensures,
+  c .if1 .left,
+)
 
 returns-4 : tie.Need-returns-4
 unfolding spotBounds _then_

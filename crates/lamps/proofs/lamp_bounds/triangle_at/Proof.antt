@@ -39,7 +39,13 @@ vec-at-requires-4 c κs = search needs
 
 returns : tie.Need-returns
 unfolding triangleAt
-returns c = rw (← c .before .before .before .before .before .vec-at .ensures, ← c .before .before .before .before .vec-at2 .ensures, ← c .before .before .before .vec-at3 .ensures, ← c .vec-at4 .ensures, ← c .before .f32-of-word .ensures)
+returns c = rw (
+  ← c .before .before .before .before .before .vec-at .ensures,
+  ← c .before .before .before .before .vec-at2 .ensures,
+  ← c .before .before .before .vec-at3 .ensures,
+  ← c .vec-at4 .ensures,
+  ← c .before .f32-of-word .ensures,
+)
 
 pub triangle-at-spec : {M : Type 1} → statement M
 triangle-at-spec =

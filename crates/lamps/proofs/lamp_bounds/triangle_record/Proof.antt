@@ -19,7 +19,14 @@ is-finite-requires c κs = search needs
 
 returns : tie.Need-returns
 unfolding triangleRecord _then_
-returns c = rw (← c .before .before .before .before .before .before .before .triangle-bounds .ensures, ← c .before .before .before .before .before .before .check .ensures, c .before .before .before .before .enum-told .given .1, ← c .before .before .before .is-finite .ensures, c .before .before .if1 .taken, c .if2 .taken)
+returns c = rw (
+  ← c .before .before .before .before .before .before .before .triangle-bounds .ensures,
+  ← c .before .before .before .before .before .before .check .ensures,
+  c .before .before .before .before .enum-told .given .1,
+  ← c .before .before .before .is-finite .ensures,
+  c .before .before .if1 .taken,
+  c .if2 .taken,
+)
 
 group-phi-requires : tie.Need-group-phi-requires
 group-phi-requires c κs = search needs
@@ -30,14 +37,28 @@ faced-record-requires c κs = search needs
 returns-2 : tie.Need-returns-2
 unfolding triangleRecord _then_
 returns-2 c =
-    rw (← c .before .before .before .before .before .before .before .before .before .triangle-bounds .ensures, ← c .before .before .before .before .before .before .before .before .check .ensures, c .before .before .before .before .before .before .enum-told .given .1, ← c .before .before .before .before .before .is-finite .ensures, c .before .before .before .before .if1 .taken, c .before .before .if2 .left, ← c .before .group-phi .ensures) (c .faced-record .ensures)
+    rw (
+      ← c .before .before .before .before .before .before .before .before .before .triangle-bounds .ensures,
+      ← c .before .before .before .before .before .before .before .before .check .ensures,
+      c .before .before .before .before .before .before .enum-told .given .1,
+      ← c .before .before .before .before .before .is-finite .ensures,
+      c .before .before .before .before .if1 .taken,
+      c .before .before .if2 .left,
+      ← c .before .group-phi .ensures,
+    ) (c .faced-record .ensures)
 
 enum-known-why : tie.Need-enum-known-why
 enum-known-why c = search needs
 
 returns-3 : tie.Need-returns-3
 unfolding triangleRecord _then_
-returns-3 c = rw (← c .before .before .before .before .before .triangle-bounds .ensures, ← c .before .before .before .before .check .ensures, c .before .before .enum-told .given .1, ← c .before .is-finite .ensures, c .if1 .left)
+returns-3 c = rw (
+  ← c .before .before .before .before .before .triangle-bounds .ensures,
+  ← c .before .before .before .before .check .ensures,
+  c .before .before .enum-told .given .1,
+  ← c .before .is-finite .ensures,
+  c .if1 .left,
+)
 
 returns-4 : tie.Need-returns-4
 unfolding triangleRecord _then_

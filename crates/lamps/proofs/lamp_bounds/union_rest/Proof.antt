@@ -39,7 +39,13 @@ unfolding _then_
 returns c =
     let loop = c .before .before .before .before .before .before .loop in
     let args = c .before .before .before .before .before .before .before .before .args in
-    rw (loop .inv .2, unionFrom-next (args .emission-max) (args .scale) (args .two-sided) (now (args .triangles)) (13 * loop .k) (args .n - loop .k) (loop .result) (omega arith), ← c .before .before .before .before .triangle-at .ensures, ← c .before .before .before .grown .ensures, c .before .why .given .1)
+    rw (
+      loop .inv .2,
+      unionFrom-next (args .emission-max) (args .scale) (args .two-sided) (now (args .triangles)) (13 * loop .k) (args .n - loop .k) (loop .result) (omega arith),
+      ← c .before .before .before .before .triangle-at .ensures,
+      ← c .before .before .before .grown .ensures,
+      c .before .why .given .1,
+    )
 
 add-k : tie.Need-add-k Inv-loop μ-loop
 add-k c = search needs
@@ -53,8 +59,19 @@ loop-again c =
     let loop = c .before .before .before .before .before .before .loop in
     let args = c .before .before .before .before .before .before .before .before .args in
     let e : 13 * loop .k + 13 ≡ 13 * (loop .k + 1) = omega arith in
-    let e′ : args .n - loop .k - 1 ≡ args .n - (loop .k + 1) = omega arith in
-    (omega arith, omega arith, rw (loop .inv .2, unionFrom-next (args .emission-max) (args .scale) (args .two-sided) (now (args .triangles)) (13 * loop .k) (args .n - loop .k) (loop .result) (omega arith), ← c .before .before .before .before .triangle-at .ensures, ← c .before .before .before .grown .ensures, c .before .«record» .given .1, e, e′))
+    let e′ : args .n - loop .k - 1 ≡ args .n - (loop .k + 1) = omega arith in (
+      omega arith,
+      omega arith,
+      rw (
+        loop .inv .2,
+        unionFrom-next (args .emission-max) (args .scale) (args .two-sided) (now (args .triangles)) (13 * loop .k) (args .n - loop .k) (loop .result) (omega arith),
+        ← c .before .before .before .before .triangle-at .ensures,
+        ← c .before .before .before .grown .ensures,
+        c .before .«record» .given .1,
+        e,
+        e′,
+      ),
+    )
 
 returns-2 : tie.Need-returns-2 Inv-loop μ-loop
 returns-2 c =

@@ -12,15 +12,35 @@ is-finite-requires-2 c κs = search needs
 
 returns : tie.Need-returns
 unfolding validateEmission
-returns c = rw (← c .before .before .before .before .is-finite .ensures, c .before .before .before .if1 .taken, ← c .before .before .is-finite2 .ensures, c .before .if2 .taken, c .if3 .taken)
+returns c = rw (
+  ← c .before .before .before .before .is-finite .ensures,
+  c .before .before .before .if1 .taken,
+  ← c .before .before .is-finite2 .ensures,
+  c .before .if2 .taken,
+  c .if3 .taken,
+)
 
 returns-2 : tie.Need-returns-2
 unfolding validateEmission
-returns-2 c = rw (← c .before .before .before .before .before .is-finite .ensures, c .before .before .before .before .if1 .taken, ← c .before .before .before .is-finite2 .ensures, c .before .before .if2 .taken, c .before .if3 .left, c .if4 .taken)
+returns-2 c = rw (
+  ← c .before .before .before .before .before .is-finite .ensures,
+  c .before .before .before .before .if1 .taken,
+  ← c .before .before .before .is-finite2 .ensures,
+  c .before .before .if2 .taken,
+  c .before .if3 .left,
+  c .if4 .taken,
+)
 
 returns-3 : tie.Need-returns-3
 unfolding validateEmission
-returns-3 c = rw (← c .before .before .before .before .before .is-finite .ensures, c .before .before .before .before .if1 .taken, ← c .before .before .before .is-finite2 .ensures, c .before .before .if2 .taken, c .before .if3 .left, c .if4 .left)
+returns-3 c = rw (
+  ← c .before .before .before .before .before .is-finite .ensures,
+  c .before .before .before .before .if1 .taken,
+  ← c .before .before .before .is-finite2 .ensures,
+  c .before .before .if2 .taken,
+  c .before .if3 .left,
+  c .if4 .left,
+)
 
 returns-4 : tie.Need-returns-4
 unfolding validateEmission

@@ -32,7 +32,10 @@ spot-at-requires c κs = search needs
 returns-2 : tie.Need-returns-2
 unfolding lampAt
 returns-2 c =
-    rw (is-not 1 (c .before .before .before .word-or-zero .ensures) (c .before .before .if1 .left), is 2 (c .before .before .before .word-or-zero .ensures) (c .before .if2 .taken)) (c .spot-at .ensures)
+    rw (
+      is-not 1 (c .before .before .before .word-or-zero .ensures) (c .before .before .if1 .left),
+      is 2 (c .before .before .before .word-or-zero .ensures) (c .before .if2 .taken),
+    ) (c .spot-at .ensures)
 
 group-at-requires : tie.Need-group-at-requires
 group-at-requires c κs = search needs
@@ -40,12 +43,20 @@ group-at-requires c κs = search needs
 returns-3 : tie.Need-returns-3
 unfolding lampAt
 returns-3 c =
-    rw (is-not 1 (c .before .before .before .before .word-or-zero .ensures) (c .before .before .before .if1 .left), is-not 2 (c .before .before .before .before .word-or-zero .ensures) (c .before .before .if2 .left), is 3 (c .before .before .before .before .word-or-zero .ensures) (c .before .if3 .taken)) (c .group-at .ensures)
+    rw (
+      is-not 1 (c .before .before .before .before .word-or-zero .ensures) (c .before .before .before .if1 .left),
+      is-not 2 (c .before .before .before .before .word-or-zero .ensures) (c .before .before .if2 .left),
+      is 3 (c .before .before .before .before .word-or-zero .ensures) (c .before .if3 .taken),
+    ) (c .group-at .ensures)
 
 returns-4 : tie.Need-returns-4
 unfolding lampAt
 returns-4 c =
-    rw (is-not 1 (c .before .before .before .word-or-zero .ensures) (c .before .before .if1 .left), is-not 2 (c .before .before .before .word-or-zero .ensures) (c .before .if2 .left), is-not 3 (c .before .before .before .word-or-zero .ensures) (c .if3 .left))
+    rw (
+      is-not 1 (c .before .before .before .word-or-zero .ensures) (c .before .before .if1 .left),
+      is-not 2 (c .before .before .before .word-or-zero .ensures) (c .before .if2 .left),
+      is-not 3 (c .before .before .before .word-or-zero .ensures) (c .if3 .left),
+    )
 
 pub next-spec : {M : Type 1} → statement M
 next-spec =
