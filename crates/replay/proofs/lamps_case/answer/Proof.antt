@@ -1,9 +1,9 @@
--- `replay_lamps::answer` meets its contract: what is lent is there. Assumes nothing.
+-- `replay::lamps_case::answer` meets its contract: what is lent is there. Assumes nothing.
 use native.Mathlib.Omega.{arith}
 use lib.ListN.{length-take}
 use borrow.Author.Needs.{needs}
-use Rattle.replay_lamps.proofs.answer.Statement.{statement}
-use Rattle.replay_lamps.proofs.answer.Tie as tie
+use Rattle.replay.proofs.lamps_case.answer.Statement.{statement}
+use Rattle.replay.proofs.lamps_case.answer.Tie as tie
 
 word-or-zero-requires : tie.Need-word-or-zero-requires
 word-or-zero-requires c κs = search needs

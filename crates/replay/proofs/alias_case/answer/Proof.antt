@@ -1,24 +1,24 @@
--- `replay_alias::answer` meets its contract: what is lent is there. Assumes nothing.
+-- `replay::alias_case::answer` meets its contract: what is lent is there. Assumes nothing.
 use native.Mathlib.Omega.{arith}
 use lib.ListN.{length-take}
 use borrow.Author.Needs.{needs}
-use Rattle.replay_alias.proofs.answer.Statement.{statement}
-use Rattle.replay_alias.proofs.answer.Tie as tie
+use Rattle.replay.proofs.alias_case.answer.Statement.{statement}
+use Rattle.replay.proofs.alias_case.answer.Tie as tie
 
-get-requires : tie.Need-get-requires
-get-requires c κs = search needs
+word-or-zero-requires : tie.Need-word-or-zero-requires
+word-or-zero-requires c κs = search needs
 
 cast-m : tie.Need-cast-m
 cast-m c = search needs
 
-get-requires-2 : tie.Need-get-requires-2
-get-requires-2 c κs = search needs
+word-or-zero-requires-2 : tie.Need-word-or-zero-requires-2
+word-or-zero-requires-2 c κs = search needs
 
 cast-bins-room : tie.Need-cast-bins-room
 cast-bins-room c = search needs
 
-get-requires-3 : tie.Need-get-requires-3
-get-requires-3 c κs = search needs
+word-or-zero-requires-3 : tie.Need-word-or-zero-requires-3
+word-or-zero-requires-3 c κs = search needs
 
 cast-work-room : tie.Need-cast-work-room
 cast-work-room c = search needs
@@ -75,11 +75,11 @@ pub answer-spec : {M : Type 1} → statement M
 answer-spec =
     tie.close
     (tie.spec
-    get-requires
+    word-or-zero-requires
     cast-m
-    get-requires-2
+    word-or-zero-requires-2
     cast-bins-room
-    get-requires-3
+    word-or-zero-requires-3
     cast-work-room
     returns
     add-end
