@@ -96,7 +96,10 @@ fn with_first(kind: u32, case: &[u32], a: LightBounds, out: &mut [u32]) -> u32 {
 // What the proved functions give: a refusal's number or 0, and the result's words.
 fn answer(kind: u32, case: &[u32], out: &mut [u32]) -> u32 {
     if kind < 205 {
-        put(out, word_of_f32(angle(kind, f32_of_word(word_or_zero(case, 0)))));
+        put(
+            out,
+            word_of_f32(angle(kind, f32_of_word(word_or_zero(case, 0)))),
+        );
         return 0;
     }
     match read_record(case, 0) {

@@ -63,6 +63,14 @@ fn count(counts: &mut [u64], list: usize) {
     }
 }
 
+// Counts a case.
+fn tally(seen: &mut [u64], differ: &mut [u64], list: usize, agreed: bool) {
+    count(seen, list);
+    if !agreed {
+        count(differ, list);
+    }
+}
+
 // Reads and compares cases until the input ends, at most 100,000; whether every one was read.
 fn replay(space: &mut [u8], seen: &mut [u64], differ: &mut [u64]) -> bool
     requires { ⌜ 1024 ≤ length (now space) ⌝ }
@@ -70,16 +78,13 @@ fn replay(space: &mut [u8], seen: &mut [u64], differ: &mut [u64]) -> bool
     let mut cases: u64 = 0;
     while cases < 100000 {
         let header = io::read_full(0, &mut space[..8]);
-        if header == 0 {
-            return true;
+        if header < 8 {
+            return header == 0;
         }
         let kind = word_at(space, 0);
         let words = word_at(space, 1) as usize;
         let list = list_of(kind);
         let end = 4 * size(list);
-        if header < 8 {
-            return false;
-        }
         if list == 4 {
             return false;
         }
@@ -90,10 +95,8 @@ fn replay(space: &mut [u8], seen: &mut [u64], differ: &mut [u64]) -> bool
         if body < end {
             return false;
         }
-        count(seen, list);
-        if !agrees(list, kind, &space[..end]) {
-            count(differ, list);
-        }
+        let agreed = agrees(list, kind, &space[..end]);
+        tally(seen, differ, list, agreed);
         cases += 1;
     }
     io::read_full(0, space) == 0
