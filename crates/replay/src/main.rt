@@ -36,8 +36,43 @@ fn size(list: usize) -> usize
     }
 }
 
+// What standard input has next: a case of a kind, its end, or what is no case.
+enum Next {
+    Case(u32),
+    End,
+    Unread,
+}
+
+// Reads a case's header, then its words into the space.
+fn next_case(space: &mut [u8]) -> Next
+    requires { ⌜ 1024 ≤ length (now space) ⌝ }
+{
+    let header = io::read_full(0, &mut space[0..8]);
+    if header == 0 {
+        return Next::End;
+    }
+    if header < 8 {
+        return Next::Unread;
+    }
+    let kind = word_at(space, 0);
+    let words = word_at(space, 1) as usize;
+    let list = list_of(kind);
+    if list == 4 {
+        return Next::Unread;
+    }
+    if words != size(list) {
+        return Next::Unread;
+    }
+    let end = 4 * words;
+    let body = io::read_full(0, &mut space[0..end]);
+    if body < end {
+        return Next::Unread;
+    }
+    Next::Case(kind)
+}
+
 // Whether the stored answer is the proved one.
-fn agrees_with(list: usize, kind: u32, case: &[u32]) -> bool {
+fn agrees_with(list: usize, kind: u32, case: &[u32; 256]) -> bool {
     match list {
         0 => floats_case::agrees(kind, case),
         1 => bounds_case::agrees(kind, case),
@@ -55,48 +90,35 @@ fn agrees(list: usize, kind: u32, bytes: &[u8]) -> bool {
 }
 
 // Counts one more, up to as many as are read.
-fn count(counts: &mut [u64], list: usize) {
-    if list < counts.len() {
+fn count(counts: &mut [u64; 4], list: usize) {
+    if list < 4 {
         if counts[list] < 100000 {
             counts[list] += 1;
         }
     }
 }
 
-// Counts a case.
-fn tally(seen: &mut [u64], differ: &mut [u64], list: usize, agreed: bool) {
+// Counts the case in the space.
+fn tally(kind: u32, space: &[u8], seen: &mut [u64; 4], differ: &mut [u64; 4])
+    requires { ⌜ 1024 ≤ length (now space) ⌝ }
+{
+    let list = list_of(kind);
+    let end = 4 * size(list);
     count(seen, list);
-    if !agreed {
+    if !agrees(list, kind, &space[0..end]) {
         count(differ, list);
     }
 }
 
-// Reads and compares cases until the input ends, at most 100,000; whether every one was read.
-fn replay(space: &mut [u8], seen: &mut [u64], differ: &mut [u64]) -> bool
-    requires { ⌜ 1024 ≤ length (now space) ⌝ }
-{
+// Replays cases until the input ends, at most 100,000; whether all of it was read.
+fn replay(space: &mut [u8; 1024], seen: &mut [u64; 4], differ: &mut [u64; 4]) -> bool {
     let mut cases: u64 = 0;
     while cases < 100000 {
-        let header = io::read_full(0, &mut space[..8]);
-        if header < 8 {
-            return header == 0;
+        match next_case(space) {
+            Next::Case(kind) => tally(kind, space, seen, differ),
+            Next::End => return true,
+            Next::Unread => return false,
         }
-        let kind = word_at(space, 0);
-        let words = word_at(space, 1) as usize;
-        let list = list_of(kind);
-        let end = 4 * size(list);
-        if list == 4 {
-            return false;
-        }
-        if 4 * words != end {
-            return false;
-        }
-        let body = io::read_full(0, &mut space[..end]);
-        if body < end {
-            return false;
-        }
-        let agreed = agrees(list, kind, &space[..end]);
-        tally(seen, differ, list, agreed);
         cases += 1;
     }
     io::read_full(0, space) == 0
