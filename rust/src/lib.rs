@@ -16,6 +16,7 @@ pub mod runs;
 pub mod standins;
 pub mod stored;
 pub mod stored_alias;
+pub mod stored_bounds;
 pub mod stored_lamps;
 pub mod timing;
 pub mod trig;

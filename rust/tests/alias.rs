@@ -2,9 +2,8 @@
 
 use coltoctober::lists::MOST_LAMPS;
 use coltoctober::proved::alias_build_power_alias_table;
-use coltoctober::stored::check;
-use coltoctober::stored_alias::{Stored, PATH};
-use coltoctober::stored_lamps::PATTERN;
+use coltoctober::stored::{check, PATTERN};
+use coltoctober::stored_alias::Stored;
 
 /// The answer, and the bins and the work after the call.
 fn built(weights: &[f32], rooms: [usize; 2]) -> (Result<(), u32>, [Vec<u32>; 2]) {
@@ -35,7 +34,7 @@ fn bins(weights: &[f32]) -> Vec<[u32; 3]> {
 /// The oracle's stored answers, with no need of the reference.
 #[test]
 fn stored_answers() {
-    check(&Stored::read(PATH), 2000, Stored::proved);
+    check::<Stored>(2000);
 }
 
 /// Document 01's case and the corners of sums: no power, a weight -0, a sum past the largest f32.

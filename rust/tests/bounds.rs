@@ -4,7 +4,8 @@
 use coltoctober::cases::Random;
 use coltoctober::functions::Function;
 use coltoctober::proved;
-use coltoctober::stored::{check, Stored, PATH};
+use coltoctober::stored::check;
+use coltoctober::stored_bounds::Stored;
 
 const CASES: u64 = 1_000_000;
 
@@ -47,7 +48,7 @@ fn marked_angles() {
 /// The oracle's stored answers, with no need of the reference.
 #[test]
 fn stored_answers() {
-    check(&Stored::read(PATH), 3000, Stored::proved);
+    check::<Stored>(3000);
 }
 
 /// Lengths that are no record's, no query's and no tray's; 1 comes before 3, and neither writes.

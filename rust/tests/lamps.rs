@@ -5,8 +5,8 @@ use coltoctober::blocks;
 use coltoctober::cases::Random;
 use coltoctober::lists::{list_of, read, wrapping_count, Kind, BLOCK_RECORD, KINDS, MOST_LAMPS, MOST_WORDS};
 use coltoctober::proved::{lamps_build_light_bounds, lamps_check_block};
-use coltoctober::stored::check;
-use coltoctober::stored_lamps::{Stored, PATH, PATTERN};
+use coltoctober::stored::{check, PATTERN};
+use coltoctober::stored_lamps::Stored;
 use std::io::Write;
 use std::process::{Command, Output, Stdio};
 
@@ -42,7 +42,7 @@ fn group(emission: f32, triangles: &[Vec<u32>]) -> Vec<u32> {
 /// The oracle's stored answers, with no need of the reference.
 #[test]
 fn stored_answers() {
-    check(&Stored::read(PATH), 2000, Stored::proved);
+    check::<Stored>(2000);
 }
 
 /// Every cut and every room of a list of all kinds, and its order of refusals.

@@ -37,7 +37,7 @@ fn read_list(list: &mut [u32], chunk: &mut [u8]) -> Input
         let n = io::read_full(0, chunk);
         let got = n / 4;
         let end = 4 * got;
-        put_words(&chunk[..end], &mut list[words..]);
+        put_words(&chunk[0..end], &mut list[words..]);
         words += got;
         if n < chunk.len() {
             stray = n % 4;
@@ -53,7 +53,7 @@ fn write_part(words: &[u32], chunk: &mut [u8]) {
         Words::Count(n) => {
             if n <= chunk.len() / 4 {
                 let end = 4 * n;
-                io::write_all(1, &chunk[..end]);
+                io::write_all(1, &chunk[0..end]);
             }
         }
         Words::Refused(why) => {}
@@ -99,7 +99,7 @@ fn convert(list: &[u32], block: &mut [u32], chunk: &mut [u8])
             if m <= 4096 {
                 let end = 1 + 14 * m;
                 if end <= block.len() {
-                    write_words(&block[..end], chunk);
+                    write_words(&block[0..end], chunk);
                 }
             }
         }
@@ -114,9 +114,9 @@ fn run(list: &mut [u32], block: &mut [u32], chunk: &mut [u8])
     let input = read_list(list, chunk);
     let words = input.words;
     if input.stray == 0 {
-        convert(&list[..words], block, chunk);
+        convert(&list[0..words], block, chunk);
     } else {
-        refuse_stray(&list[..words]);
+        refuse_stray(&list[0..words]);
     }
 }
 

@@ -1,20 +1,99 @@
-//! Writes the stand-ins' answers to the path given: records of eight little-endian words, op a0 a1 b c r0 r1 0, an f64 low word
-//! first. Each answer is held against Rust's own where the two are defined the same.
+//! `answers PATH`: writes the oracle's answers to the path given, in the form of stored.rs, and prints what the program `replay` must
+//! print of them. No proved function has a part in them.
 
-use coltoctober::cases::stored_cases;
-use coltoctober::functions::FUNCTIONS;
+#[cfg(not(reference))]
+fn main() {
+    coltoctober::absent::stop("there is no oracle to ask");
+}
 
+#[cfg(reference)]
 fn main() -> std::io::Result<()> {
     let path = std::env::args().nth(1).expect("usage: answers PATH");
-    let mut bytes = Vec::new();
-    for f in FUNCTIONS.iter().filter(|f| f.op > 0) {
-        for case @ [a, b, c] in stored_cases(f) {
-            let answer = (f.standin)(&case);
-            let own = (f.own)(&case).filter(|_| !f.unlike_zeros(&case));
-            assert!(own.is_none_or(|own| own == answer), "{}", f.show(&case));
-            let record = [f.op.into(), a, a >> 32, b, c, answer, answer >> 32, 0];
-            bytes.extend(record.into_iter().flat_map(|word| (word as u32).to_le_bytes()));
+    let lists =
+        [("floats", oracle::floats()), ("bounds", oracle::bounds()), ("lamps", oracle::lamps()), ("alias", oracle::alias())];
+    std::fs::write(path, lists.iter().flat_map(|(_, cases)| cases).flat_map(|case| case.bytes()).collect::<Vec<u8>>())?;
+    lists.iter().for_each(|(name, cases)| println!("{name}: {} answers replayed, 0 differ", cases.len()));
+    Ok(())
+}
+
+#[cfg(reference)]
+mod oracle {
+    use coltoctober::cases::{stored_cases, Random};
+    use coltoctober::functions::FUNCTIONS;
+    use coltoctober::stored::{filled, padded, Answer, Case, FLOATS};
+    use coltoctober::{lists, reference, standins, stored_alias, stored_bounds, stored_lamps, trig, weights};
+
+    /// The stand-ins' answers, held against Rust's own where the two are defined the same.
+    pub fn floats() -> Vec<Case> {
+        let mut cases = Vec::new();
+        for f in FUNCTIONS.iter().filter(|f| f.op > 0) {
+            for case @ [a, b, c] in stored_cases(f) {
+                let answer = (f.standin)(&case);
+                let own = (f.own)(&case).filter(|_| !f.unlike_zeros(&case));
+                assert!(own.is_none_or(|own| own == answer), "{}", f.show(&case));
+                let words = [a, a >> 32, b, c, answer, answer >> 32].map(|word| word as u32);
+                cases.push(Case { kind: FLOATS + f.op, words: words.into() });
+            }
         }
+        cases
     }
-    std::fs::write(path, bytes)
+
+    fn cases(stored: &[impl Answer]) -> Vec<Case> {
+        stored.iter().map(Answer::case).collect()
+    }
+
+    pub fn bounds() -> Vec<Case> {
+        use stored_bounds::Stored;
+
+        let mut random = Random::new(3);
+        let mut stored = Vec::new();
+        let angles: [(u32, fn(f32) -> f32); 4] = [(201, trig::cos), (202, trig::sin), (203, trig::acos), (204, trig::asin)];
+        for (kind, f) in angles {
+            let words =
+                [0, 1 << 31, 0x3f80_0000, 0xbf80_0000, 0x3f00_0000, 0xbf00_0000, 0x3fc9_0fdb, 0x4100_0000, 0x7f80_0000, !0];
+            for word in words.into_iter().chain((0..190).map(|_| random.angle())) {
+                stored.push(Stored::new(kind, &[word], &[], Ok(padded(&[standins::word(f(f32::from_bits(word)))]))));
+            }
+        }
+        for _ in 0..200 {
+            let record = random.record();
+            stored.push(Stored::new(205, &record, &[], reference::validate(&record).map(|()| [0; 13])));
+        }
+        for _ in 0..1000 {
+            let [a, b] = random.pair();
+            stored.push(Stored::new(206, &a, &b, reference::union(&a, &b)));
+        }
+        for _ in 0..1000 {
+            let record = random.record();
+            let query = random.query(&record);
+            stored.push(Stored::new(207, &record, &query, reference::importance(&record, &query).map(|word| padded(&[word]))));
+        }
+        cases(&stored)
+    }
+
+    pub fn lamps() -> Vec<Case> {
+        use stored_lamps::{Stored, BLOCK, LIST};
+
+        let mut random = Random::new(4);
+        // no list meets 6
+        let quotas = [(0, 1000), (1, 200), (2, 60), (3, 150), (4, 100), (5, 150), (7, 100), (8, 100), (9, 70), (10, 70)];
+        cases(&filled(&quotas, || {
+            let lists::Case { list, room } = random.list_case();
+            let fits = list.len() <= LIST && room <= BLOCK;
+            fits.then(|| Stored::new(&list, room, reference::build_light_bounds)).map(|case| (case.number, case))
+        }))
+    }
+
+    pub fn alias() -> Vec<Case> {
+        use stored_alias::{Stored, BINS, WEIGHTS, WORK};
+
+        let mut random = Random::new(5);
+        // refusal 2 needs more weights than a case holds
+        cases(&filled(&[(0, 1400), (3, 300), (8, 300)], || {
+            let weights::Case { weights, bins_room, work_room } = random.weights_case();
+            let fits = weights.len() <= WEIGHTS && bins_room <= BINS && work_room <= WORK;
+            let case = fits.then(|| Stored::new(&weights, [bins_room, work_room], reference::build_power_alias_table));
+            case.map(|case| (case.number, case))
+        }))
+    }
 }

@@ -3,7 +3,7 @@ use Prim.Native.Nat.{_-_, _≤_}
 use mathlib.Core.Path.{_≡_, refl}
 use native.Mathlib.Omega.{arith}
 use borrow.Author.Needs.{needs}
-use lib.ListN.{length, length-take}
+use lib.ListN.{length}
 use Rattle.lamps_to_block.proofs.read_list.Statement.{statement}
 use Rattle.lamps_to_block.proofs.read_list.Tie as tie
 
@@ -25,17 +25,8 @@ read-full-requires c κs = search needs
 mul-end : tie.Need-mul-end Inv-loop μ-loop
 mul-end c = omega (arith, c .before .before .before .before .before .before .before .before .pre)
 
-slice-reshare-prefix-put-words : tie.Need-slice-reshare-prefix-put-words Inv-loop μ-loop
-slice-reshare-prefix-put-words c = omega (arith, c .before .before .before .before .before .before .before .before .pre)
-
-slice-aggregate-put-words : tie.Need-slice-aggregate-put-words Inv-loop μ-loop
-slice-aggregate-put-words c = simp length-take (omega arith)
-
-mul-put-words : tie.Need-mul-put-words Inv-loop μ-loop
-mul-put-words c = omega (arith, c .before .before .before .before .before .before .before .before .before .pre)
-
 sub-put-words : tie.Need-sub-put-words Inv-loop μ-loop
-sub-put-words c = omega (arith, c .before .before .before .before .before .before .before .before .before .pre)
+sub-put-words c = omega (arith, c .before .before .before .before .before .before .before .before .pre)
 
 part-put-words-start : tie.Need-part-put-words-start Inv-loop μ-loop
 part-put-words-start c = omega (arith, c .before .before .before .before .before .before .before .before .before .pre)
@@ -43,14 +34,26 @@ part-put-words-start c = omega (arith, c .before .before .before .before .before
 part-put-words-end : tie.Need-part-put-words-end Inv-loop μ-loop
 part-put-words-end c = omega (arith, c .before .before .before .before .before .before .before .before .before .pre)
 
+mul-put-words : tie.Need-mul-put-words Inv-loop μ-loop
+mul-put-words c = omega (arith, c .before .before .before .before .before .before .before .before .before .before .pre)
+
+sub-put-words-2 : tie.Need-sub-put-words-2 Inv-loop μ-loop
+sub-put-words-2 c = omega (arith, c .before .before .before .before .before .before .before .before .before .before .pre)
+
+part-put-words-start-2 : tie.Need-part-put-words-start-2 Inv-loop μ-loop
+part-put-words-start-2 c = omega (arith, c .before .before .before .before .before .before .before .before .before .before .pre)
+
+part-put-words-end-2 : tie.Need-part-put-words-end-2 Inv-loop μ-loop
+part-put-words-end-2 c = omega (arith, c .before .before .before .before .before .before .before .before .before .before .pre)
+
 put-words-requires : tie.Need-put-words-requires Inv-loop μ-loop
 put-words-requires c κs = search needs
 
 add-words : tie.Need-add-words Inv-loop μ-loop
-add-words c = omega (arith, c .before .before .before .before .before .before .before .before .before .before .before .before .before .pre)
+add-words c = omega (arith, c .before .before .before .before .before .before .before .before .before .before .before .before .before .before .pre)
 
 loop-less : tie.Need-loop-less Inv-loop μ-loop
-loop-less c = omega (arith, c .before .before .before .before .before .before .before .before .before .before .before .before .before .before .pre)
+loop-less c = omega (arith, c .before .before .before .before .before .before .before .before .before .before .before .before .before .before .before .pre)
 
 loop-again : tie.Need-loop-again Inv-loop μ-loop
 loop-again c = (search needs, search needs, omega arith)
@@ -83,12 +86,13 @@ read-list-spec =
     add-loop
     read-full-requires
     mul-end
-    slice-reshare-prefix-put-words
-    slice-aggregate-put-words
-    mul-put-words
     sub-put-words
     part-put-words-start
     part-put-words-end
+    mul-put-words
+    sub-put-words-2
+    part-put-words-start-2
+    part-put-words-end-2
     put-words-requires
     add-words
     loop-less
