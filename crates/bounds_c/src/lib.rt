@@ -18,10 +18,9 @@ use light_bounds::light_bounds::union;
 use light_bounds::light_bounds::validate;
 use light_bounds::record_words::Found;
 use light_bounds::record_words::read_record;
+use light_bounds::record_words::vec_at;
 use light_bounds::record_words::write_record;
-use light_bounds::vecmath::Vec3;
 use words::fill::fill_words;
-use words::floats::f32_of_word;
 use words::floats::word_of_f32;
 use words::refusal::refusal_number;
 
@@ -70,19 +69,10 @@ pub extern "C" fn bounds_validate(record: &[u32]) -> u32
 
 // Point, normal.
 fn query_of(words: &[u32]) -> Query
-    requires { ⌜ 6 ≤ length (now words) ⌝ }
     ensures { λ r. ⌜ r ≡ queryOf (now (words .entry)) ⌝ }
 {
-    let p = Vec3 {
-        x: f32_of_word(words[0]),
-        y: f32_of_word(words[1]),
-        z: f32_of_word(words[2]),
-    };
-    let n = Vec3 {
-        x: f32_of_word(words[3]),
-        y: f32_of_word(words[4]),
-        z: f32_of_word(words[5]),
-    };
+    let p = vec_at(words, 0);
+    let n = vec_at(words, 3);
     Query { p, n }
 }
 

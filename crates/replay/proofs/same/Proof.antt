@@ -1,9 +1,9 @@
--- `replay::stored::same` meets its contract: no place is past the end. Assumes nothing.
+-- `replay::same` meets its contract: no place is past the end. Assumes nothing.
 use Prim.Native.Nat.{_-_, _≤_}
 use borrow.Author.Needs.{needs}
 use lib.ListN.{length}
-use Rattle.replay.proofs.stored.same.Statement.{statement}
-use Rattle.replay.proofs.stored.same.Tie as tie
+use Rattle.replay.proofs.same.Statement.{statement}
+use Rattle.replay.proofs.same.Tie as tie
 
 abbrev Inv-loop : tie.InvT-loop
 Inv-loop case from given place₀ i₀ place i = i ≤ length given
