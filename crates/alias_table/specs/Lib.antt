@@ -2,4 +2,4 @@ pub mod AliasTable
 pub mod AliasLaws
 pub mod Stacks
 pub mod StackLaws
-pub mod AnswerLaws
+pub mod TableLaws

@@ -60,9 +60,12 @@ blockCheck ws =
     (cond (below (handleAt ws) m) (given m) (refused 4))
     (refused 1))
 
--- the record at a place of the block
+-- the record at a place of the block, behind its handle
+abbrev pub recordPlace : ℕ → ℕ
+recordPlace i = 2 + boundsWords * i
+
 abbrev pub blockRecord : List ℕ → ℕ → Found
-blockRecord ws i = recordAt ws (2 + boundsWords * i)
+blockRecord ws i = recordAt ws (recordPlace i)
 
 abbrev pub counted : Counted → Answer ℕ
 counted (Lamps n) = given n

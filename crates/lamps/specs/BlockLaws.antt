@@ -10,9 +10,9 @@ use Rattle.words.specs.Fill.{filled}
 use Rattle.words.specs.FillLaws.{filled-within}
 use Rattle.words.specs.Stores.{stored}
 use Rattle.light_bounds.specs.RecordLaws.{writtenAt-sets}
-use Rattle.light_bounds.specs.RecordWords.{recordList, writtenAt}
+use Rattle.light_bounds.specs.RecordWords.{recordList, recordWords, writtenAt}
 use Rattle.light_bounds.specs.declared.light_bounds.LightBounds.{LightBounds}
-use Rattle.lamps.specs.Block.{blockWords, packedFrom, below}
+use Rattle.lamps.specs.Block.{boundsWords, blockWords, packedFrom, below, handlePlace, recordPlace}
 
 -- ---- tests at every place
 
@@ -32,11 +32,11 @@ below-next test i = let e : i + 1 ≡ suc i = omega arith in rw e
 
 -- ---- records written
 
-length-recordList : (r : LightBounds) → length (recordList r) ≡ 13
+length-recordList : (r : LightBounds) → length (recordList r) ≡ recordWords
 unfolding recordList
 length-recordList r = refl
 
-pub length-packedFrom : (i : ℕ) (bs : List LightBounds) → length (packedFrom i bs) ≡ 14 * length bs
+pub length-packedFrom : (i : ℕ) (bs : List LightBounds) → length (packedFrom i bs) ≡ boundsWords * length bs
 unfolding packedFrom
 length-packedFrom i [] = refl
 length-packedFrom i (b ∷ bs) =
@@ -54,7 +54,7 @@ packedFrom-snoc k (d ∷ done) b =
 -- l is d with a count of m and these records in front
 pub record Packed (m : ℕ) (done : List LightBounds) (d l : List ℕ) : Type 0 where
   pub same : length l ≡ length d
-  pub is : l ≡ (m ∷ packedFrom 0 done) ++ drop (1 + 14 * length done) d
+  pub is : l ≡ (m ∷ packedFrom 0 done) ++ drop (blockWords (length done)) d
 
 pub packed-none : (m : ℕ) (d : List ℕ) → 1 ≤ length d → Packed m [] (set d 0 m) (set d 0 m)
 unfolding packedFrom
@@ -66,24 +66,24 @@ pub packed-counted : {m : ℕ} {done : List LightBounds} {l : List ℕ} (d : Lis
 packed-counted {m} {done} {l} d p =
     record {
       same = p .same ∙ length-set d 0 m;
-      is = p .is ∙ ap (λ (ws : List ℕ). (m ∷ packedFrom 0 done) ++ ws) (drop-set-lt (1 + 14 * length done) d 0 m (omega arith));
+      is = p .is ∙ ap (λ (ws : List ℕ). (m ∷ packedFrom 0 done) ++ ws) (drop-set-lt (blockWords (length done)) d 0 m (omega arith));
     }
 
 -- the handle is written, then the record
-pub packed-one : {m : ℕ} {done : List LightBounds} {d l : List ℕ} (i : ℕ) (b : LightBounds) → Packed m done d l → length done ≡ i → 15 + 14 * i ≤ length d
-    → Packed m (done ++ b ∷ []) d (writtenAt (set l (1 + 14 * i) i) (2 + 14 * i) b)
+pub packed-one : {m : ℕ} {done : List LightBounds} {d l : List ℕ} (i : ℕ) (b : LightBounds) → Packed m done d l → length done ≡ i → handlePlace i + boundsWords ≤ length d
+    → Packed m (done ++ b ∷ []) d (writtenAt (set l (handlePlace i) i) (recordPlace i) b)
 packed-one {m} {done} {d} {l} i b p n h =
-    let s : 2 + 14 * i ≡ suc (1 + 14 * i) = omega arith in
-    let k : 1 + 14 * length done ≡ 1 + 14 * i = ap (λ (j : ℕ). 1 + 14 * j) n in
+    let s : recordPlace i ≡ suc (handlePlace i) = omega arith in
+    let k : blockWords (length done) ≡ handlePlace i = ap (λ (j : ℕ). handlePlace j) n in
     let z : 0 + length done ≡ i = omega (arith, n) in
-    let q : 1 + 14 * i + length (i ∷ recordList b) ≡ 1 + 14 * length (done ++ b ∷ []) = omega (arith, length-recordList b, length-append done (b ∷ []), n) in
-    let room : 2 + 14 * i + 13 ≤ length (set l (1 + 14 * i) i) = omega (arith, length-set l (1 + 14 * i) i, p .same) in
-    let written = writtenAt-sets (set l (1 + 14 * i) i) (2 + 14 * i) b room in
+    let q : handlePlace i + length (i ∷ recordList b) ≡ blockWords (length (done ++ b ∷ [])) = omega (arith, length-recordList b, length-append done (b ∷ []), n) in
+    let room : recordPlace i + recordWords ≤ length (set l (handlePlace i) i) = omega (arith, length-set l (handlePlace i) i, p .same) in
+    let written = writtenAt-sets (set l (handlePlace i) i) (recordPlace i) b room in
     record {
-      same = rw written (length-sets (set l (1 + 14 * i) i) (2 + 14 * i) (recordList b) ∙ length-set l (1 + 14 * i) i ∙ p .same);
+      same = rw written (length-sets (set l (handlePlace i) i) (recordPlace i) (recordList b) ∙ length-set l (handlePlace i) i ∙ p .same);
       is =
           written
-          ∙ rw (s, p .is, k) (stored (m ∷ packedFrom 0 done) d (i ∷ recordList b) (1 + 14 * i) (omega (arith, length-packedFrom 0 done, n)) (omega (arith, length-recordList b))
+          ∙ rw (s, p .is, k) (stored (m ∷ packedFrom 0 done) d (i ∷ recordList b) (handlePlace i) (omega (arith, length-packedFrom 0 done, n)) (omega (arith, length-recordList b))
           ∙ rw (q, packedFrom-snoc 0 done b, z));
     }
 
@@ -92,12 +92,12 @@ pub zeroed : {m : ℕ} {done : List LightBounds} {d l : List ℕ} → Packed m d
     → filled l 0 (blockWords m) 0 ≡ replicate (blockWords m) 0 ++ drop (blockWords m) d
 zeroed {m} {done} {d} {l} p h room =
     let front = m ∷ packedFrom 0 done in
-    let n : length front ≡ 1 + 14 * length done = omega (arith, length-packedFrom 0 done) in
-    let e : blockWords m ≡ length front + 14 * (m - length done) = omega (arith, n) in
-    let e′ : 1 + 14 * length done + 14 * (m - length done) ≡ blockWords m = omega arith in
+    let n : length front ≡ blockWords (length done) = omega (arith, length-packedFrom 0 done) in
+    let e : blockWords m ≡ length front + boundsWords * (m - length done) = omega (arith, n) in
+    let e′ : blockWords (length done) + boundsWords * (m - length done) ≡ blockWords m = omega arith in
     let z : blockWords m - 0 ≡ blockWords m = omega arith in
     let rest : drop (blockWords m) l ≡ drop (blockWords m) d =
-    rw (p .is, e) (drop-append-add front (drop (1 + 14 * length done) d) (14 * (m - length done)) ∙ drop-drop (14 * (m - length done)) (1 + 14 * length done) d ∙ rw (e′, e)) in
+    rw (p .is, e) (drop-append-add front (drop (blockWords (length done)) d) (boundsWords * (m - length done)) ∙ drop-drop (boundsWords * (m - length done)) (blockWords (length done)) d ∙ rw (e′, e)) in
     filled-within l 0 (blockWords m) 0 (omega arith) (omega (arith, p .same, room)) ∙ rw (z, rest)
 
 pub zeroed-length : (m : ℕ) (d : List ℕ) → blockWords m ≤ length d → length (replicate (blockWords m) 0 ++ drop (blockWords m) d) ≡ length d

@@ -25,7 +25,7 @@ use Rattle.lamps.specs.Block.{blockWords, packedFrom, packExhaustiveBoun
 use Rattle.lamps.specs.BlockLaws.{length-packedFrom}
 use Rattle.lamps.specs.Build.{allBounds, buildLightBounds}
 use Rattle.lamps.specs.LampBounds.{at, triangleBounds, noArea, validateEmission, checked, pointBounds, spotRecord, spotBounds, facedRecord, triangleAt, triangleRecord, joinNext, unionFrom, groupBounds, lightBoundsForInput}
-use Rattle.lamps.specs.LampList.{lampAt, kindOf, groupEnd, lampsFrom, inPlace, crowded, lampList, trianglesOf}
+use Rattle.lamps.specs.LampList.{pointWords, spotWords, groupWords, triangleWords, lampAt, kindOf, groupEnd, lampsFrom, inPlace, crowded, lampList, trianglesOf}
 use Rattle.lamps.specs.Walk.{boundsFrom, lateTray}
 use Rattle.lamps.specs.WalkLaws.{lampsFrom-length, boundsFrom-all, allBounds-length}
 use Rattle.lamps.specs.declared.cursor.Lamp.{Lamp}
@@ -70,7 +70,7 @@ unfolding unionFrom
 late-unionFrom emission scale side ts i zero x h = h
 late-unionFrom emission scale side ts i (suc n) x h =
     only-then (late-triangle emission scale side (triangleAt ts i))
-    (λ r. only-then (late-join x r) (λ s. late-unionFrom emission scale side ts (i + 13) n (given s) only-given))
+    (λ r. only-then (late-join x r) (λ s. late-unionFrom emission scale side ts (i + triangleWords) n (given s) only-given))
 
 late-group : (emission scale : Float) (side : Bool) (ts : List ℕ) → Late (groupBounds emission scale side ts)
 unfolding groupBounds
@@ -95,10 +95,10 @@ unfolding lampAt
 early-lamp ws at =
     let end = length ws in
     let kind = kindOf (getD ws at 0) in
-    only-cond (eqb kind 1) (only-cond (leb (at + 6) end) only-given (only-refused (omega arith)))
-    (only-cond (eqb kind 2) (only-cond (leb (at + 11) end) only-given (only-refused (omega arith)))
+    only-cond (eqb kind 1) (only-cond (leb (at + pointWords) end) only-given (only-refused (omega arith)))
+    (only-cond (eqb kind 2) (only-cond (leb (at + spotWords) end) only-given (only-refused (omega arith)))
     (only-cond (eqb kind 3)
-    (only-cond (leb (at + 5) end && (sideKnown (getD ws (at + 3) 0) && leb (groupEnd ws at) end)) only-given (only-refused (omega arith)))
+    (only-cond (leb (at + groupWords) end && (sideKnown (getD ws (at + 3) 0) && leb (groupEnd ws at) end)) only-given (only-refused (omega arith)))
     (only-refused (omega arith))))
 
 early-lamps : (m : ℕ) (ws : List ℕ) (at : ℕ) → Early (lampsFrom m ws at)

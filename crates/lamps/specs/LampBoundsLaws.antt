@@ -13,6 +13,7 @@ use Rattle.trig.specs.Trig.{cos}
 use Rattle.words.specs.AnswerLaws.{then-assoc}
 use Rattle.words.specs.Answers.{Answer, given, refused, _then_}
 use Rattle.light_bounds.specs.declared.light_bounds.LightBounds.{LightBounds}
+use Rattle.lamps.specs.LampList.{triangleWords}
 use Rattle.lamps.specs.LampBounds.{halfPi, triangleAt, triangleRecord, joinNext, unionFrom}
 
 -- the cosine that points and triangles have, computed once
@@ -28,16 +29,16 @@ module _ (emission scale : Float) (side : Bool) (ts : List ℕ) where
 
   -- the first triangle's record as it is
   pub unionFrom-first : (n : ℕ) → 0 < n → unionFrom emission scale side ts 0 n (refused 9)
-      ≡ triangleRecord emission scale side (triangleAt ts 0) then λ current. unionFrom emission scale side ts 13 (n - 1) (given current)
+      ≡ triangleRecord emission scale side (triangleAt ts 0) then λ current. unionFrom emission scale side ts triangleWords (n - 1) (given current)
   unfolding unionFrom _then_
   unionFrom-first zero h = absurd (omega arith)
   unionFrom-first (suc k) h = let e : suc k - 1 ≡ k = omega arith in rw e
 
   -- a later one in a union
   pub unionFrom-next : (i n : ℕ) (r : LightBounds) → 0 < n → unionFrom emission scale side ts i n (given r)
-      ≡ (triangleRecord emission scale side (triangleAt ts i) then joinNext (given r)) then λ s. unionFrom emission scale side ts (i + 13) (n - 1) (given s)
+      ≡ (triangleRecord emission scale side (triangleAt ts i) then joinNext (given r)) then λ s. unionFrom emission scale side ts (i + triangleWords) (n - 1) (given s)
   unfolding unionFrom
   unionFrom-next i zero r h = absurd (omega arith)
   unionFrom-next i (suc k) r h =
       let e : suc k - 1 ≡ k = omega arith in
-      rw e (sym (then-assoc (triangleRecord emission scale side (triangleAt ts i)) (joinNext (given r)) (λ s. unionFrom emission scale side ts (i + 13) k (given s))))
+      rw e (sym (then-assoc (triangleRecord emission scale side (triangleAt ts i)) (joinNext (given r)) (λ s. unionFrom emission scale side ts (i + triangleWords) k (given s))))

@@ -15,7 +15,7 @@ use Rattle.light_bounds.specs.RecordLaws.{recordAt-found}
 use Rattle.light_bounds.specs.RecordWords.{vecAt, readRecord, recordList, sideKnown, sideOf, sideWord}
 use Rattle.light_bounds.specs.declared.light_bounds.LightBounds.{LightBounds}
 use Rattle.light_bounds.specs.declared.record_words.Found.the-variants.{Record}
-use Rattle.lamps.specs.Block.{blockWords, packedFrom, packExhaustiveBounds, below, sideAt, handleAt, sidePlace, handlePlace, blockCheck, blockRecord}
+use Rattle.lamps.specs.Block.{boundsWords, recordPlace, blockWords, packedFrom, packExhaustiveBounds, below, sideAt, handleAt, sidePlace, handlePlace, blockCheck, blockRecord}
 use Rattle.lamps.specs.BlockLaws.{length-packedFrom}
 use Rattle.lamps.specs.Build.{boundsOf, allBounds, buildLightBounds}
 use Rattle.lamps.specs.BuildLaws.{list-read, built}
@@ -55,22 +55,22 @@ accepted-list ws room rs bs read h enough =
 
 -- ---- the words of a record in its block
 
-drop-record : (b : LightBounds) (i : ℕ) (ws : List ℕ) → drop 14 (i ∷ recordList b ++ ws) ≡ ws
+drop-record : (b : LightBounds) (i : ℕ) (ws : List ℕ) → drop boundsWords (i ∷ recordList b ++ ws) ≡ ws
 unfolding recordList
 drop-record b i ws = refl
 
 -- from record i on: its handle, its words, then others
 record-at : (k : ℕ) (bs : List LightBounds) (i : ℕ) (d : LightBounds) → i < length bs
-    → (rest : List ℕ) × (drop (14 * i) (packedFrom k bs) ≡ (k + i) ∷ recordList (getD bs i d) ++ rest)
+    → (rest : List ℕ) × (drop (boundsWords * i) (packedFrom k bs) ≡ (k + i) ∷ recordList (getD bs i d) ++ rest)
 unfolding packedFrom
 record-at k [] i d h = absurd (omega arith)
 record-at k (b ∷ bs) zero d h = let e : k + 0 ≡ k = omega arith in (packedFrom (suc k) bs, rw e)
 record-at k (b ∷ bs) (suc i) d h =
     let (rest, is) = record-at (suc k) bs i d (omega arith) in
-    let e : 14 * suc i ≡ 14 + 14 * i = omega arith in
+    let e : boundsWords * suc i ≡ boundsWords + boundsWords * i = omega arith in
     let e′ : suc k + i ≡ k + suc i = omega arith in (
       rest,
-      rw e (sym (drop-drop (14 * i) 14 (k ∷ recordList b ++ packedFrom (suc k) bs)) ∙ ap (drop (14 * i)) (drop-record b k (packedFrom (suc k) bs)))
+      rw e (sym (drop-drop (boundsWords * i) boundsWords (k ∷ recordList b ++ packedFrom (suc k) bs)) ∙ ap (drop (boundsWords * i)) (drop-record b k (packedFrom (suc k) bs)))
           ∙ is ∙ ap (λ (j : ℕ). j ∷ recordList (getD bs i d) ++ rest) e′,
     )
 
@@ -81,7 +81,7 @@ unfolding packExhaustiveBounds
 block-at bs i d h =
     let (rest, is) = record-at 0 bs i d h in
     let e : 0 + i ≡ i = omega arith in
-    let e′ : 1 + 14 * i ≡ suc (14 * i) = omega arith in
+    let e′ : handlePlace i ≡ suc (boundsWords * i) = omega arith in
     (rest, rw e′ (is ∙ ap (λ (j : ℕ). j ∷ recordList (getD bs i d) ++ rest) e))
 
 -- ---- a block read back
@@ -167,7 +167,7 @@ pub block-read : (bs : List LightBounds) (i : ℕ) (d : LightBounds) → i < len
     → blockRecord (packExhaustiveBounds bs) i ≡ Record (readRecord (recordList (getD bs i d)) 0)
 block-read bs i d h =
     let ws = packExhaustiveBounds bs in
-    let at = 2 + 14 * i in
+    let at = recordPlace i in
     let stored = recordList (getD bs i d) ++ block-at bs i d h .0 in
     let words : (k : ℕ) → getD ws (at + k) 0 ≡ getD stored k 0 =
     λ k. let e : handlePlace i + suc k ≡ at + k = omega arith in subst (λ (n : ℕ). getD ws n 0 ≡ getD stored k 0) e (word-at bs i (suc k) d h) in

@@ -12,6 +12,9 @@ use light_bounds::record_words::read_record;
 use words::places::word_or_zero;
 use words::refusal::Refusal;
 
+// The words of a record in a block, its handle counted.
+pub const EXHAUSTIVE_BOUNDS_WORDS: usize = 14;
+
 // How many lamps, or why not.
 pub enum Counted {
     Lamps(usize),
@@ -29,7 +32,7 @@ pub fn check_block(block: &[u32]) -> Counted
     if 0x10_0000 < block.len() {
         return Counted::Refused(Refusal::Crowded);
     }
-    if block.len() == 1 + 14 * m {
+    if block.len() == 1 + EXHAUSTIVE_BOUNDS_WORDS * m {
         return check_records(block, m);
     }
     Counted::Refused(Refusal::Ragged)
@@ -43,8 +46,8 @@ fn check_records(block: &[u32], m: usize) -> Counted
     let mut i: usize = 0;
     let mut placed = true;
     while i < m {
-        if is_side(block[14 + 14 * i]) {
-            placed = still_placed(placed, block[1 + 14 * i], i);
+        if is_side(block[EXHAUSTIVE_BOUNDS_WORDS + EXHAUSTIVE_BOUNDS_WORDS * i]) {
+            placed = still_placed(placed, block[1 + EXHAUSTIVE_BOUNDS_WORDS * i], i);
         } else {
             return Counted::Refused(Refusal::Ragged);
         }
@@ -72,8 +75,8 @@ pub fn still_placed(placed: bool, handle: u32, place: usize) -> bool
 pub fn block_record(block: &[u32], place: usize) -> Found
     ensures { λ r. ⌜ r ≡ blockRecord (now (block .entry)) place ⌝ }
 {
-    if block.len() / 14 < place {
+    if block.len() / EXHAUSTIVE_BOUNDS_WORDS < place {
         return Found::Past;
     }
-    read_record(block, 2 + 14 * place)
+    read_record(block, 2 + EXHAUSTIVE_BOUNDS_WORDS * place)
 }

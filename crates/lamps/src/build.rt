@@ -9,6 +9,7 @@ ghost use Rattle.lamps.specs.Build.{buildLightBounds};
 ghost use Rattle.lamps.specs.LampList.{lampList};
 ghost use Rattle.lamps.specs.Walk.{atCursor, nextBounds, boundsFrom, lateTray, placedLamps};
 use super::block::Counted;
+use super::block::EXHAUSTIVE_BOUNDS_WORDS;
 use super::block::still_placed;
 use super::cursor::Cursor;
 use super::cursor::Step;
@@ -97,7 +98,7 @@ pub fn build_light_bounds(list: &[u32], block: &mut [u32]) -> Counted
 {
     match check_list(list) {
         Counted::Lamps(m) => {
-            if block.len() < 1 + 14 * m {
+            if block.len() < 1 + EXHAUSTIVE_BOUNDS_WORDS * m {
                 return Counted::Refused(Refusal::ShortTray);
             }
             write_block(list, m, block)
@@ -119,12 +120,12 @@ fn write_block(list: &[u32], m: usize, block: &mut [u32]) -> Counted
     while place < m {
         match next_bounds(list, at) {
             Next::Bounds(record, next) => {
-                block[1 + 14 * place] = place as u32;
-                write_record(block, 2 + 14 * place, record);
+                block[1 + EXHAUSTIVE_BOUNDS_WORDS * place] = place as u32;
+                write_record(block, 2 + EXHAUSTIVE_BOUNDS_WORDS * place, record);
                 at = next.at;
             }
             Next::Refused(why) => {
-                zero_words(block, 0, 1 + 14 * m);
+                zero_words(block, 0, 1 + EXHAUSTIVE_BOUNDS_WORDS * m);
                 return Counted::Refused(why);
             }
         }

@@ -14,6 +14,15 @@ use words::floats::f32_of_word;
 use words::places::word_or_zero;
 use words::refusal::Refusal;
 
+// The words of a point, of a spot, of a group before its triangles, and of a triangle.
+const POINT_WORDS: usize = 6;
+
+const SPOT_WORDS: usize = 11;
+
+const GROUP_WORDS: usize = 5;
+
+pub const TRIANGLE_WORDS: usize = 13;
+
 // The reading place.
 pub struct Cursor {
     pub at: usize,
@@ -136,10 +145,10 @@ pub fn handle_of(lamp: Lamp) -> u32
 fn point_at(list: &[u32], at: usize) -> Step
     ensures { λ r. ⌜ step r ≡ cond (leb (at + pointWords) (length (now (list .entry)))) (given (pointAt (now (list .entry)) at)) (refused 1) ⌝ }
 {
-    if list.len() < 6 {
+    if list.len() < POINT_WORDS {
         return Step::Refused(Refusal::Ragged);
     }
-    if list.len() - 6 < at {
+    if list.len() - POINT_WORDS < at {
         return Step::Refused(Refusal::Ragged);
     }
     let lamp = Lamp::Point {
@@ -150,18 +159,20 @@ fn point_at(list: &[u32], at: usize) -> Step
     };
     Step::Read(Reading {
         lamp,
-        triangles: at + 6,
-        next: Cursor { at: at + 6 },
+        triangles: at + POINT_WORDS,
+        next: Cursor {
+            at: at + POINT_WORDS,
+        },
     })
 }
 
 fn spot_at(list: &[u32], at: usize) -> Step
     ensures { λ r. ⌜ step r ≡ cond (leb (at + spotWords) (length (now (list .entry)))) (given (spotAt (now (list .entry)) at)) (refused 1) ⌝ }
 {
-    if list.len() < 11 {
+    if list.len() < SPOT_WORDS {
         return Step::Refused(Refusal::Ragged);
     }
-    if list.len() - 11 < at {
+    if list.len() - SPOT_WORDS < at {
         return Step::Refused(Refusal::Ragged);
     }
     let lamp = Lamp::Spot {
@@ -175,8 +186,10 @@ fn spot_at(list: &[u32], at: usize) -> Step
     };
     Step::Read(Reading {
         lamp,
-        triangles: at + 11,
-        next: Cursor { at: at + 11 },
+        triangles: at + SPOT_WORDS,
+        next: Cursor {
+            at: at + SPOT_WORDS,
+        },
     })
 }
 
@@ -184,17 +197,17 @@ fn spot_at(list: &[u32], at: usize) -> Step
 fn group_at(list: &[u32], at: usize) -> Step
     ensures { λ r. ⌜ step r ≡ cond (leb (at + groupWords) (length (now (list .entry))) && (sideKnown (getD (now (list .entry)) (at + 3) 0) && leb (groupEnd (now (list .entry)) at) (length (now (list .entry))))) (given (groupAt (now (list .entry)) at)) (refused 1) ⌝ }
 {
-    if list.len() < 5 {
+    if list.len() < GROUP_WORDS {
         return Step::Refused(Refusal::Ragged);
     }
-    if list.len() - 5 < at {
+    if list.len() - GROUP_WORDS < at {
         return Step::Refused(Refusal::Ragged);
     }
     let side = list[at + 3];
     if is_side(side) {
-        let triangles = at + 5;
+        let triangles = at + GROUP_WORDS;
         let count = wide(list[at + 4]);
-        if count <= (list.len() - triangles) / 13 {
+        if count <= (list.len() - triangles) / TRIANGLE_WORDS {
             let lamp = Lamp::AreaGroup {
                 handle: list[at] % 0x4000_0000,
                 emission_max: f32_of_word(list[at + 1]),
@@ -205,7 +218,7 @@ fn group_at(list: &[u32], at: usize) -> Step
                 lamp,
                 triangles,
                 next: Cursor {
-                    at: triangles + 13 * count,
+                    at: triangles + TRIANGLE_WORDS * count,
                 },
             });
         }

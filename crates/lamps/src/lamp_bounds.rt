@@ -4,8 +4,10 @@ ghost use Prim.Native.Nat.{_+_, _*_, _≤_, _-_};
 ghost use lib.ListN.{length};
 ghost use Rattle.words.specs.Answers.{given, _then_};
 ghost use Rattle.light_bounds.specs.Boxes.{validity};
+ghost use Rattle.lamps.specs.LampList.{triangleWords};
 ghost use Rattle.lamps.specs.LampBounds.{bounded, lightBoundsForInput, validateEmission, checked as checkedOf, pointPhi, pointBounds, falloff as falloffOf, spotBounds, triangleAt, triangleBounds, triangleRecord, groupPhi, joinNext, unionFrom, groupBounds, spotRecord, facedRecord};
 use super::cursor::Lamp;
+use super::cursor::TRIANGLE_WORDS;
 use light_bounds::bounds::Bounds3;
 use light_bounds::bounds::Validity;
 use light_bounds::bounds::check;
@@ -227,7 +229,7 @@ fn spot_record(
 // ---- groups
 
 fn triangle_at(triangles: &[u32], at: usize) -> AreaTriangleInput
-    requires { ⌜ at + 13 ≤ length (now triangles) ⌝ }
+    requires { ⌜ at + triangleWords ≤ length (now triangles) ⌝ }
     ensures { λ r. ⌜ r ≡ triangleAt (now (triangles .entry)) at ⌝ }
 {
     AreaTriangleInput {
@@ -328,9 +330,9 @@ fn union_rest(
     triangles: &[u32],
     n: usize,
 ) -> Bounded
-    requires { ⌜ 13 * n ≤ length (now triangles) ⌝ }
+    requires { ⌜ triangleWords * n ≤ length (now triangles) ⌝ }
     requires { ⌜ 1 ≤ n ⌝ }
-    ensures { λ r. ⌜ bounded r ≡ unionFrom «emission_max» scale «two_sided» (now (triangles .entry)) 13 (n - 1) (given first) ⌝ }
+    ensures { λ r. ⌜ bounded r ≡ unionFrom «emission_max» scale «two_sided» (now (triangles .entry)) triangleWords (n - 1) (given first) ⌝ }
 {
     let mut result = first;
     let mut k: usize = 1;
@@ -340,7 +342,7 @@ fn union_rest(
             emission_max,
             scale,
             two_sided,
-            triangle_at(triangles, 13 * k),
+            triangle_at(triangles, TRIANGLE_WORDS * k),
         ) {
             Bounded::Bounds(record) => {
                 result = record;
@@ -359,7 +361,7 @@ fn group_bounds(emission_max: f32, scale: f32, two_sided: bool, triangles: &[u32
 {
     match validate_emission(emission_max, scale) {
         Validity::Valid => {
-            let n = triangles.len() / 13;
+            let n = triangles.len() / TRIANGLE_WORDS;
             if n == 0 {
                 return Bounded::Refused(Refusal::NoArea);
             }

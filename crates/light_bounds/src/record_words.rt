@@ -11,6 +11,9 @@ use words::floats::f32_of_word;
 use words::floats::word_of_f32;
 use words::places::word_or_zero;
 
+// The words of a record.
+const RECORD_WORDS: usize = 13;
+
 // What stands at a place: a record, a side word that is neither 0 nor 1, or too few words.
 pub enum Found {
     Record(LightBounds),
@@ -53,10 +56,10 @@ pub fn side_word(two_sided: bool) -> u32
 pub fn read_record(words: &[u32], at: usize) -> Found
     ensures { λ r. ⌜ r ≡ recordAt (now (words .entry)) at ⌝ }
 {
-    if words.len() < 13 {
+    if words.len() < RECORD_WORDS {
         return Found::Past;
     }
-    if words.len() - 13 < at {
+    if words.len() - RECORD_WORDS < at {
         return Found::Past;
     }
     let side = words[at + 12];
@@ -102,10 +105,10 @@ fn write_rest(words: &mut [u32], at: usize, record: LightBounds)
 pub fn write_record(words: &mut [u32], at: usize, record: LightBounds)
     ensures { λ _. ⌜ now (words .exit) ≡ writtenAt (now (words .entry)) at «record» ⌝ }
 {
-    if words.len() < 13 {
+    if words.len() < RECORD_WORDS {
         return;
     }
-    if words.len() - 13 < at {
+    if words.len() - RECORD_WORDS < at {
         return;
     }
     write_vec(words, at, record.bounds.min);

@@ -7,7 +7,7 @@ use denote.Ref.{now}
 use lib.ListN.{length}
 use Rattle.words.specs.Tray.{tray}
 use Rattle.alias_table.specs.AliasTable.{Bin, binWords}
-use Rattle.alias_table.specs.AnswerLaws.{answer-crowded, answer-short-bins, answer-short-work, answer-bad, answer-given, total-is, played-length, tray-zeroed, tray-bins, tray-work}
+use Rattle.alias_table.specs.TableLaws.{answer-crowded, answer-short-bins, answer-short-work, answer-bad, answer-given, total-is, played-length, tray-zeroed, tray-bins, tray-work}
 use Rattle.alias_table.proofs.build_power_alias_table.Statement.{statement}
 use Rattle.alias_table.proofs.build_power_alias_table.Tie as tie
 
