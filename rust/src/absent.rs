@@ -1,14 +1,21 @@
-//! What is said where the reference is absent.
-
-use std::io::Write;
-
-/// Not by a macro, whose lines a passing test keeps back.
-pub fn say(so: &str) {
-    writeln!(std::io::stderr(), "The reference, ../shared/docs, is absent: {so}.").unwrap();
-}
+//! What is done where the reference is absent.
 
 /// Ends a program that needs it.
 pub fn stop(so: &str) -> ! {
-    say(so);
+    eprintln!("The reference, ../shared/docs, is absent: {so}.");
     std::process::exit(1);
+}
+
+/// Differential tests. With no reference each is ignored, with that reason, and counts as neither passed nor failed; `.ci/run` names it.
+#[macro_export]
+macro_rules! differential {
+    ($($(#[$text:meta])* fn $name:ident() { $($body:tt)* })*) => {
+        $($(#[$text])*
+        #[test]
+        #[cfg_attr(not(reference), ignore = "the reference is absent")]
+        fn $name() {
+            #[cfg(reference)]
+            let () = { $($body)* };
+        })*
+    };
 }

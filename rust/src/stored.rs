@@ -1,13 +1,13 @@
-//! The stored answers of the oracle, one file of cases: little-endian words, a kind, how many words follow, those words. The kind says
-//! the list: 101 to 115 the floats (`functions.rs` numbers them; a case is a low, a high, b, c, result low, result high), 201 to 207
-//! the bounds, 300 the lamp lists, 400 the alias table.
+//! The stored answers of the oracle, a file of cases for each part, which the program replay_PART reads: little-endian words, a kind, how
+//! many words follow, those words. The floats' kinds are 101 to 115 (`functions.rs` numbers them; a case is a low, a high, b, c, result
+//! low, result high), the bounds' 201 to 207, the lamp lists' 300, the alias table's 400.
 
 use std::fmt::Debug;
 use std::ops::RangeInclusive;
 
-pub const PATH: &str = concat!(env!("CARGO_MANIFEST_DIR"), "/../crates/replay/stdin");
 /// A float function's kind is this and its number.
 pub const FLOATS: u32 = 100;
+pub const FLOATS_PART: &str = "floats";
 /// What stands in lent words before a call.
 pub const PATTERN: u32 = 0xa5a5_a5a5;
 
@@ -18,17 +18,23 @@ pub struct Case {
 }
 
 impl Case {
-    pub fn bytes(&self) -> Vec<u8> {
+    fn bytes(&self) -> Vec<u8> {
         let words = [&[self.kind, self.words.len() as u32], &self.words[..]].concat();
         words.into_iter().flat_map(u32::to_le_bytes).collect()
     }
 }
 
-/// The cases of every list.
-fn cases() -> Vec<Case> {
-    let bytes = std::fs::read(PATH).unwrap_or_else(|error| panic!("{PATH}: {error}"));
-    let (words, part) = bytes.as_chunks();
-    assert!(part.is_empty(), "{PATH}: a part word");
+/// A file of the program that replays a part: `stdin`, the cases, or `stdout`, what it must print of them.
+fn path(part: &str, file: &str) -> String {
+    format!("{}/../crates/replay_{part}/{file}", env!("CARGO_MANIFEST_DIR"))
+}
+
+/// The stored cases of a part.
+fn cases(part: &str) -> Vec<Case> {
+    let path = path(part, "stdin");
+    let bytes = std::fs::read(&path).unwrap_or_else(|error| panic!("{path}: {error}"));
+    let (words, rest) = bytes.as_chunks();
+    assert!(rest.is_empty(), "{path}: a part word");
     let words: Vec<u32> = words.iter().map(|word| u32::from_le_bytes(*word)).collect();
     let (mut cases, mut left) = (Vec::new(), &words[..]);
     while let [kind, count, rest @ ..] = left {
@@ -36,12 +42,19 @@ fn cases() -> Vec<Case> {
         cases.push(Case { kind: *kind, words: words.to_vec() });
         left = rest;
     }
-    assert!(left.is_empty(), "{PATH}: a part case");
+    assert!(left.is_empty(), "{path}: a part case");
     cases
 }
 
-/// A stored answer of one list.
+/// Stores the cases of a part, and what its program must print of them.
+pub fn store(part: &str, cases: &[Case]) -> std::io::Result<()> {
+    std::fs::write(path(part, "stdin"), cases.iter().flat_map(Case::bytes).collect::<Vec<u8>>())?;
+    std::fs::write(path(part, "stdout"), format!("{part}: {} answers replayed, 0 differ\n", cases.len()))
+}
+
+/// A stored answer of one part.
 pub trait Answer: Debug + PartialEq + Sized {
+    const PART: &str;
     const KINDS: RangeInclusive<u32>;
     fn of(case: &Case) -> Self;
     fn case(&self) -> Case;
@@ -71,9 +84,11 @@ pub fn filled<S: PartialEq>(quotas: &[(u32, usize)], mut next: impl FnMut() -> O
     stored
 }
 
-/// Ends the test where a stored answer of a list is not the proved function's, or where they are not so many.
+/// Ends the test where a stored answer of a part is not the proved function's, or where they are not so many.
 pub fn check<A: Answer>(count: usize) {
-    let stored: Vec<A> = cases().iter().filter(|case| A::KINDS.contains(&case.kind)).map(A::of).collect();
+    let cases = cases(A::PART);
+    assert!(cases.iter().all(|case| A::KINDS.contains(&case.kind)), "a case of another part");
+    let stored: Vec<A> = cases.iter().map(A::of).collect();
     let differ: Vec<&A> = stored.iter().filter(|stored| stored.proved() != **stored).collect();
     println!("{} stored answers, {} differ", stored.len(), differ.len());
     assert!(stored.len() == count && differ.is_empty(), "{:x?}", &differ[..differ.len().min(4)]);

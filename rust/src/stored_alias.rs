@@ -36,6 +36,7 @@ impl Stored {
 }
 
 impl Answer for Stored {
+    const PART: &str = "alias";
     const KINDS: RangeInclusive<u32> = KIND..=KIND;
 
     fn of(case: &Case) -> Stored {

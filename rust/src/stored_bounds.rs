@@ -29,6 +29,7 @@ impl Stored {
 }
 
 impl Answer for Stored {
+    const PART: &str = "bounds";
     const KINDS: RangeInclusive<u32> = 201..=207;
 
     fn of(case: &Case) -> Stored {

@@ -28,6 +28,7 @@ impl Stored {
 }
 
 impl Answer for Stored {
+    const PART: &str = "lamps";
     const KINDS: RangeInclusive<u32> = KIND..=KIND;
 
     fn of(case: &Case) -> Stored {

@@ -64,16 +64,10 @@ fn lengths() {
     assert!(bins(&most[1..]).iter().all(|bin| *bin == [0x3f80_0000, 0x3980_0000, u32::MAX]));
 }
 
-#[cfg(not(reference))]
-#[test]
-fn reference_is_absent() {
-    coltoctober::absent::say("only its stored answers were held against the proved alias tables");
-}
-
-#[cfg(reference)]
-#[test]
-fn alias_tables() {
-    let tally = coltoctober::runs::alias_tables(0, 300_000);
-    println!("alias tables: {tally}");
-    tally.check(&[0, 2, 3, 8], &["alias", "weights", "room", "order", "bins", "error 8: Power"]);
+coltoctober::differential! {
+    fn alias_tables() {
+        let tally = coltoctober::runs::alias_tables(0, 300_000);
+        println!("alias tables: {tally}");
+        tally.check(&[0, 2, 3, 8], &["alias", "weights", "room", "order", "bins", "error 8: Power"]);
+    }
 }

@@ -81,34 +81,21 @@ fn lengths() {
     (0..6).for_each(|short| assert_eq!(proved::bounds_importance(&record, &query[..short]), Err(1)));
 }
 
-#[cfg(not(reference))]
-#[test]
-fn reference_is_absent() {
-    coltoctober::absent::say("only its stored answers were held against the proved bounds");
-}
-
-#[cfg(reference)]
-mod with_the_reference {
-    use super::CASES;
-    use coltoctober::runs::{importances, unions, validates};
-
-    #[test]
+coltoctober::differential! {
     fn validate() {
-        let tally = validates(0, CASES);
+        let tally = coltoctober::runs::validates(0, CASES);
         println!("validate: {tally}");
         tally.check(&[0, 1, 5, 6, 7, 8], &[]);
     }
 
-    #[test]
     fn union() {
-        let tally = unions(0, CASES);
+        let tally = coltoctober::runs::unions(0, CASES);
         println!("union: {tally}");
         tally.check(&[0, 1, 10], &["union", "cones", "lost", "joined"]);
     }
 
-    #[test]
     fn importance() {
-        let tally = importances(0, CASES);
+        let tally = coltoctober::runs::importances(0, CASES);
         println!("importance: {tally}");
         tally.check(&[0, 1, 5, 6, 7, 8], &["importance", "weight", "refused"]);
     }

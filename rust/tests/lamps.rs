@@ -185,14 +185,19 @@ fn check_block() {
     assert_eq!(lamps_check_block(&vec![0; MOST_WORDS + 1]), Err(2));
 }
 
-/// `tools/lamps` on some input.
-fn tool(what: &str, input: &[u8]) -> Output {
+/// `tools/lamps` with a command's words, on some input.
+fn tool(words: &str, input: &[u8]) -> Output {
     let path = concat!(env!("CARGO_MANIFEST_DIR"), "/../tools/lamps");
     let mut command = Command::new("python3");
-    let command = command.args([path, what]).stdin(Stdio::piped()).stdout(Stdio::piped()).stderr(Stdio::piped());
+    command.arg(path).args(words.split(' ')).stdin(Stdio::piped()).stdout(Stdio::piped()).stderr(Stdio::piped());
     let mut tool = command.spawn().expect("python3 runs");
     tool.stdin.take().unwrap().write_all(input).unwrap();
     tool.wait_with_output().unwrap()
+}
+
+/// How it ended, and what it said of that.
+fn said(output: &Output) -> (Option<i32>, String) {
+    (output.status.code(), String::from_utf8_lossy(&output.stderr).into_owned())
 }
 
 fn little_endian(words: &[u32]) -> Vec<u8> {
@@ -244,7 +249,6 @@ const TABLE: &str = "\
 /// What the tool cannot read: the line is named; a report's refusal is handed on.
 #[test]
 fn unreadable_text() {
-    let said = |output: &Output| (output.status.code(), String::from_utf8_lossy(&output.stderr).into_owned());
     let lines =
         ["point 1 2 3 4", "point 1 2 3 4 x", "lamp", "spot 1 2 3", "group 1 1 both", "group 1 1 one | 1", "point 1 2 3 4 1e39"];
     for line in lines {
@@ -255,31 +259,50 @@ fn unreadable_text() {
         tool("list", b"point 0x7fc00000 -0 1e-45 .5 1.").stdout,
         little_endian(&[1, 1 << 30, 0x7fc0_0000, 1 << 31, 1, 0x3f00_0000, 0x3f80_0000])
     );
-    assert_eq!(said(&tool("block", b"refused 7\n")), (Some(1), "refused 7\n".into()));
+    let (code, text) = said(&tool("block", b"refused 7\n"));
+    assert!(code == Some(1) && text.starts_with("refused 7: "), "{code:?} {text}");
     assert_eq!(tool("block", &little_endian(&[1])).status.code(), Some(1));
 }
 
-#[cfg(not(reference))]
+/// A room by the proved program: the table of its block, or one line that names the lamp and the reason.
 #[test]
-fn reference_is_absent() {
-    coltoctober::absent::say("only its stored answers were held against the proved lamp lists");
+fn rooms() {
+    let program = concat!("room ", env!("CARGO_MANIFEST_DIR"), "/../target/bin/lamps_to_block");
+    let table = tool(program, ROOM.as_bytes());
+    assert_eq!((said(&table), String::from_utf8_lossy(&table.stdout).as_ref()), ((Some(0), String::new()), TABLE));
+    let triangle = "| 0 0 0 1 0 0 0 1 0 0.5 0 0 1 ";
+    let flat = "| 0 0 0 1 0 0 0 1 0 0 0 0 1 ";
+    for (room, start) in [
+        ("point 1 2 3 1 1\npoint 1 2 x 1 1".into(), "line 2: 'x' is no number"),
+        ("point 1 2 3 1 1\n\nspot 1 2 3 0 0 0 1 1 0.5 0.4".into(), "line 3: lamp 1, a spot: refused 7: "),
+        (format!("group 1 1 one {triangle}{flat}{triangle}\npoint 0 0 0 -1 1"), "line 1: lamp 0, a group, at its triangle 2: refused 9: "),
+        ("point 0 0 0 1 1\npoint 0 0 0 -1 1".into(), "line 2: lamp 1, a point: refused 8: "),
+        ("group 1 1 two".into(), "line 1: lamp 0, a group: refused 9: "),
+        ("point 0x7fc00000 0 0 1 1".into(), "line 1: lamp 0, a point: refused 5: "),
+        ("point 0 0 0 1 1\n".repeat(MOST_LAMPS + 1), "refused 2: "),
+    ] {
+        let output = tool(program, room.as_bytes());
+        let (code, text) = said(&output);
+        assert!(code == Some(1) && text.starts_with(start) && text.lines().count() == 1 && output.stdout.is_empty(), "{code:?} {text}");
+    }
+    assert_eq!(said(&tool("room /nowhere/lamps_to_block", b"")).0, Some(2));
 }
 
-#[cfg(reference)]
-#[test]
-fn lists() {
-    let tally = coltoctober::runs::lists(0, 300_000);
-    println!("lists: {tally}");
-    let errors = [
-        "error 4",
-        "error 5: Light",
-        "error 7: Light direction",
-        "error 8: Light emission",
-        "error 8: Spot",
-        "error 9",
-        "error 10",
-    ];
-    let branches = ["union", "cones: the first", "cones: axes", "cones: turned", "spot", "list", "room", "order", "block"];
-    tally.check(&[0, 1, 2, 3, 4, 5, 7, 8, 9, 10], &[&errors[..], &branches].concat());
-    assert_eq!(tally.answers[6], 0, "min above max: a box of a list's vertices has it never");
+coltoctober::differential! {
+    fn lists() {
+        let tally = coltoctober::runs::lists(0, 300_000);
+        println!("lists: {tally}");
+        let errors = [
+            "error 4",
+            "error 5: Light",
+            "error 7: Light direction",
+            "error 8: Light emission",
+            "error 8: Spot",
+            "error 9",
+            "error 10",
+        ];
+        let branches = ["union", "cones: the first", "cones: axes", "cones: turned", "spot", "list", "room", "order", "block"];
+        tally.check(&[0, 1, 2, 3, 4, 5, 7, 8, 9, 10], &[&errors[..], &branches].concat());
+        assert_eq!(tally.answers[6], 0, "min above max: a box of a list's vertices has it never");
+    }
 }

@@ -1,309 +1,20 @@
--- Laws of the alias table's definition, beyond the Rust: the game ends, every alias is a place or none, every bin is settled once, and an under bin's q is its
--- weight as it was computed. Assumes nothing.
+-- Laws of the alias table's definition, beyond the Rust: every alias is a place or none, a bin's share is its weight's, an under bin's q is its weight as it was
+-- computed, and a leftover has q 1 and no alias. That the game ends and that every bin is settled once stands in GameLaws. Assumes nothing.
 use Prim.Native.Nat.{ℕ, zero, suc, _+_, _-_, _≤_, _<_}
 use mathlib.Core.Path.{_≡_, refl, sym, ap, _∙_}
-use mathlib.Core.Bool.{Bool, true, false, cond}
+use mathlib.Core.Bool.{Bool, true, false}
 use mathlib.Core.List.{List, [], _∷_, _++_, map}
 use mathlib.Core.Logic.{_⊎_, inl, inr, ⊎-elim}
 use native.Mathlib.Nat.{suc-add, zero-add, lt-of-not-le}
 use native.Mathlib.Decide.{decLe}
 use native.Mathlib.Omega.{arith}
-use borrow.Author.Tests.{eq-eqb, ne-eqb}
+use borrow.Author.Tests.{eqb-true, eqb-false}
 use lib.Dec.{eqb}
-use lib.IntN.{pos}
-use lib.Ieee.{Float, binary32, ofInt, eq, lt}
-use lib.ListN.{length, getD, replicate, length-map, length-replicate, List·getD-map}
-use Rattle.ieee.specs.Single.{_⊕_, _⊖_, _⊗_, _⊘_, zero as zerof, one}
-use Rattle.alias_table.specs.AliasTable.{Bin, Entry, State, none, sumFrom, filledIn, total, bin, push, pushAll, start, update, settle, whole, turned, turn, turns, leftover, finish, table}
-
--- ---- pushing
-
-abbrev onUnder : Entry → State → State
-onUnder e s = record { bins = s .bins; under = e ∷ s .under; over = s .over }
-
-abbrev onOver : Entry → State → State
-onOver e s = record { bins = s .bins; under = s .under; over = e ∷ s .over }
-
-pub under-push : (e : Entry) (s : State) → lt (e .weight) one ≡ true → push e s ≡ record { bins = s .bins; under = e ∷ s .under; over = s .over }
-unfolding push
-under-push e s h = rw h
-
-pub over-push : (e : Entry) (s : State) → lt (e .weight) one ≡ false → push e s ≡ record { bins = s .bins; under = s .under; over = e ∷ s .over }
-unfolding push
-over-push e s h = rw h
-
-push-either : (e : Entry) (s : State) → (push e s ≡ onUnder e s) ⊎ (push e s ≡ onOver e s)
-push-either e s = go (lt (e .weight) one) refl
-  where
-    go : (b : Bool) → lt (e .weight) one ≡ b → (push e s ≡ onUnder e s) ⊎ (push e s ≡ onOver e s)
-    go true h = inl (under-push e s h)
-    go false h = inr (over-push e s h)
-
-pub push-bins : (e : Entry) (s : State) → push e s .bins ≡ s .bins
-push-bins e s = ⊎-elim (λ p. rw p) (λ p. rw p) (push-either e s)
-
--- a bin's entry
-abbrev entryOf : Float → ℕ → Bin → Entry
-entryOf count i b = record { weight = b .p ⊗ count; index = i }
-
--- ---- the game ends
-
--- a game that is over stays as it is
-turned-over : (bs : List Bin) (us os : List Entry) → (us ≡ []) ⊎ (os ≡ []) → turned bs us os ≡ record { bins = bs; under = us; over = os }
-unfolding turned
-turned-over bs [] os h = refl
-turned-over bs (u ∷ us) [] h = refl
-turned-over bs (u ∷ us) (o ∷ os) (inl e) = absurd (omega (arith, ap length e))
-turned-over bs (u ∷ us) (o ∷ os) (inr e) = absurd (omega (arith, ap length e))
-
-pub over-stays : (s : State) → (s .under ≡ []) ⊎ (s .over ≡ []) → turn s ≡ s
-over-stays s h = turned-over (s .bins) (s .under) (s .over) h
-
-pub turns-stay : (n : ℕ) (s : State) → (s .under ≡ []) ⊎ (s .over ≡ []) → turns n s ≡ s
-unfolding turns
-turns-stay zero s h = refl
-turns-stay (suc n) s h = rw (over-stays s h) (turns-stay n s h)
-
--- a turn takes one out
-height-push : (e : Entry) (s : State) → length (push e s .under) + length (push e s .over) ≡ suc (length (s .under) + length (s .over))
-height-push e s = ⊎-elim (λ p. rw p (omega arith)) (λ p. rw p (omega arith)) (push-either e s)
-
-height-pushAll : (count : Float) (i : ℕ) (bs : List Bin) (s : State)
-    → length (pushAll count i bs s .under) + length (pushAll count i bs s .over) ≡ length bs + (length (s .under) + length (s .over))
-unfolding pushAll
-height-pushAll count i [] s = omega arith
-height-pushAll count i (b ∷ bs) s =
-    let e = entryOf count i b in
-    omega (arith, height-pushAll count (suc i) bs (push e s), height-push e s)
-
-height-start : (ws : List Float) → length (start ws .under) + length (start ws .over) ≡ length ws
-unfolding start
-height-start ws =
-    height-pushAll (ofInt binary32 (pos (length ws))) 0 (map (bin (total ws)) ws) (record { bins = map (bin (total ws)) ws; under = []; over = [] })
-    ∙ omega (arith, length-map ws (bin (total ws)))
-
-ends-from : (n : ℕ) (bs : List Bin) (us os : List Entry) → length us + length os ≤ n
-    → (turns n (record { bins = bs; under = us; over = os }) .under ≡ []) ⊎ (turns n (record { bins = bs; under = us; over = os }) .over ≡ [])
-unfolding turns turned
-ends-from zero bs [] os h = inl refl
-ends-from zero bs (u ∷ us) os h = absurd (omega arith)
-ends-from (suc n) bs [] os h = inl (ap (λ (s : State). s .under) (turns-stay (suc n) (record { bins = bs; under = []; over = os }) (inl refl)))
-ends-from (suc n) bs (u ∷ us) [] h = inr (ap (λ (s : State). s .over) (turns-stay (suc n) (record { bins = bs; under = u ∷ us; over = [] }) (inr refl)))
-ends-from (suc n) bs (u ∷ us) (o ∷ os) h =
-    let e : Entry = record { weight = u .weight ⊕ o .weight ⊖ one; index = o .index } in
-    let rest : State = record { bins = update bs (u .index) (settle (u .weight) (o .index)); under = us; over = os } in
-    ends-from n (push e rest .bins) (push e rest .under) (push e rest .over) (omega (arith, height-push e rest))
-
--- the game is over after as many turns as bins
-ends-after : (ws : List Float) (n : ℕ) → length ws ≤ n → (turns n (start ws) .under ≡ []) ⊎ (turns n (start ws) .over ≡ [])
-ends-after ws n h = ends-from n (start ws .bins) (start ws .under) (start ws .over) (omega (arith, height-start ws))
-
--- ---- how many bins
-
-pub pushAll-bins : (count : Float) (i : ℕ) (bs : List Bin) (s : State) → pushAll count i bs s .bins ≡ s .bins
-unfolding pushAll
-pushAll-bins count i [] s = refl
-pushAll-bins count i (b ∷ bs) s =
-    pushAll-bins count (suc i) bs (push (entryOf count i b) s) ∙ push-bins (entryOf count i b) s
-
-pub start-bins : (ws : List Float) → start ws .bins ≡ map (bin (total ws)) ws
-unfolding start
-start-bins ws =
-    pushAll-bins (ofInt binary32 (pos (length ws))) 0 (map (bin (total ws)) ws) (record { bins = map (bin (total ws)) ws; under = []; over = [] })
-
-pub length-update : (bs : List Bin) (i : ℕ) (f : Bin → Bin) → length (update bs i f) ≡ length bs
-unfolding update
-length-update [] i f = refl
-length-update (b ∷ bs) zero f = refl
-length-update (b ∷ bs) (suc i) f = ap suc (length-update bs i f)
-
-length-turned : (bs : List Bin) (us os : List Entry) → length (turned bs us os .bins) ≡ length bs
-unfolding turned
-length-turned bs [] os = refl
-length-turned bs (u ∷ us) [] = refl
-length-turned bs (u ∷ us) (o ∷ os) =
-    ap (λ (l : List Bin). length l) (push-bins (record { weight = u .weight ⊕ o .weight ⊖ one; index = o .index })
-    (record { bins = update bs (u .index) (settle (u .weight) (o .index)); under = us; over = os }))
-    ∙ length-update bs (u .index) (settle (u .weight) (o .index))
-
-length-turns : (n : ℕ) (s : State) → length (turns n s .bins) ≡ length (s .bins)
-unfolding turns
-length-turns zero s = refl
-length-turns (suc n) s = length-turns n (turn s) ∙ length-turned (s .bins) (s .under) (s .over)
-
-pub length-leftover : (es : List Entry) (bs : List Bin) → length (leftover es bs) ≡ length bs
-unfolding leftover
-length-leftover [] bs = refl
-length-leftover (e ∷ es) bs = length-update (leftover es bs) (e .index) whole ∙ length-leftover es bs
-
-pub finish-length : (s : State) → length (finish s) ≡ length (s .bins)
-finish-length s = length-leftover (s .over) (leftover (s .under) (s .bins)) ∙ length-leftover (s .under) (s .bins)
-
-pub filledIn-length : (ws : List Float) → length (filledIn ws) ≡ length ws
-unfolding filledIn
-filledIn-length ws = go (eq (sumFrom binary32 zerof ws) zerof)
-  where
-    go : (b : Bool) → length (cond b (replicate (length ws) one) ws) ≡ length ws
-    go true = length-replicate (length ws) one
-    go false = refl
-
-pub ends : (ws : List Float) → (turns (length ws) (start (filledIn ws)) .under ≡ []) ⊎ (turns (length ws) (start (filledIn ws)) .over ≡ [])
-ends ws = ends-after (filledIn ws) (length ws) (omega (arith, filledIn-length ws))
-
-start-length : (ws : List Float) → length (start ws .bins) ≡ length ws
-start-length ws = ap (λ (l : List Bin). length l) (start-bins ws) ∙ length-map ws (bin (total ws))
-
-pub table-length : (ws : List Float) → length (table ws) ≡ length ws
-unfolding table
-table-length ws =
-    finish-length (turns (length ws) (start (filledIn ws))) ∙ length-turns (length ws) (start (filledIn ws)) ∙ start-length (filledIn ws) ∙ filledIn-length ws
-
--- ---- every bin is settled once
-
--- how often a place stands in a list
-unfoldable pub occurrences : ℕ → List ℕ → ℕ
-occurrences i [] = 0
-occurrences i (j ∷ js) = cond (eqb i j) (suc (occurrences i js)) (occurrences i js)
-
-abbrev pub places : List Entry → List ℕ
-places es = map (λ (e : Entry). e .index) es
-
--- the place that a turn settles, if there is a turn to take
-unfoldable pub settledBy : List Entry → List Entry → List ℕ
-settledBy (u ∷ us) (o ∷ os) = u .index ∷ []
-settledBy [] os = []
-settledBy (u ∷ us) [] = []
-
--- the places in the order in which their bins are settled: turn by turn, then what is left over
-unfoldable pub inTurns : ℕ → State → List ℕ
-inTurns zero s = places (s .under) ++ places (s .over)
-inTurns (suc n) s = settledBy (s .under) (s .over) ++ inTurns n (turn s)
-
-abbrev pub settledPlaces : List Float → List ℕ
-settledPlaces ws = inTurns (length ws) (start (filledIn ws))
-
--- one where the places are the same
-hit : ℕ → ℕ → ℕ
-hit i j = cond (eqb i j) 1 0
-
-hit-same : (i j : ℕ) → i ≡ j → hit i j ≡ 1
-unfolding hit
-hit-same i j e = rw (eq-eqb i j e)
-
-hit-other : (i j : ℕ) → (i ≡ j → ⊥) → hit i j ≡ 0
-unfolding hit
-hit-other i j e = rw (ne-eqb i j e)
-
-occurrences-none : (i : ℕ) → occurrences i [] ≡ 0
-unfolding occurrences
-occurrences-none i = refl
-
-occurrences-cons : (i j : ℕ) (js : List ℕ) → occurrences i (j ∷ js) ≡ hit i j + occurrences i js
-unfolding occurrences hit
-occurrences-cons i j js = go (eqb i j)
-  where
-    go : (b : Bool) → cond b (suc (occurrences i js)) (occurrences i js) ≡ cond b 1 0 + occurrences i js
-    go true = omega arith
-    go false = omega arith
-
-occurrences-append : (i : ℕ) (js ks : List ℕ) → occurrences i (js ++ ks) ≡ occurrences i js + occurrences i ks
-unfolding occurrences
-occurrences-append i [] ks = sym (zero-add (occurrences i ks))
-occurrences-append i (j ∷ js) ks =
-    omega (arith, occurrences-cons i j (js ++ ks), occurrences-cons i j js, occurrences-append i js ks)
-
--- how often a place stands on the stacks
-held : ℕ → List Entry → List Entry → ℕ
-held i us os = occurrences i (places us) + occurrences i (places os)
-
-abbrev heldIn : ℕ → State → ℕ
-heldIn i s = held i (s .under) (s .over)
-
-held-push : (i : ℕ) (e : Entry) (s : State) → heldIn i (push e s) ≡ hit i (e .index) + heldIn i s
-unfolding held
-held-push i e s =
-    ⊎-elim (λ p. rw p (omega (arith, occurrences-cons i (e .index) (places (s .under)))))
-    (λ p. rw p (omega (arith, occurrences-cons i (e .index) (places (s .over)))))
-    (push-either e s)
-
-held-turned : (i : ℕ) (bs : List Bin) (us os : List Entry) → heldIn i (turned bs us os) + occurrences i (settledBy us os) ≡ held i us os
-unfolding turned settledBy held
-held-turned i bs [] os = omega (arith, occurrences-none i)
-held-turned i bs (u ∷ us) [] = omega (arith, occurrences-none i)
-held-turned i bs (u ∷ us) (o ∷ os) =
-    omega (
-      arith,
-      held-push i (record { weight = u .weight ⊕ o .weight ⊖ one; index = o .index })
-          (record { bins = update bs (u .index) (settle (u .weight) (o .index)); under = us; over = os }),
-      occurrences-none i,
-      occurrences-cons i (u .index) [],
-      occurrences-cons i (u .index) (places us),
-      occurrences-cons i (o .index) (places os),
-    )
-
-held-turns : (i n : ℕ) (s : State) → heldIn i (turns n s) ≤ heldIn i s
-unfolding turns
-held-turns i zero s = omega arith
-held-turns i (suc n) s = omega (arith, held-turns i n (turn s), held-turned i (s .bins) (s .under) (s .over))
-
-held-inTurns : (i n : ℕ) (s : State) → occurrences i (inTurns n s) ≡ heldIn i s
-unfolding inTurns held
-held-inTurns i zero s = occurrences-append i (places (s .under)) (places (s .over))
-held-inTurns i (suc n) s =
-    omega (arith, occurrences-append i (settledBy (s .under) (s .over)) (inTurns n (turn s)), held-inTurns i n (turn s), held-turned i (s .bins) (s .under) (s .over))
-
--- the places before and past the bins pushed
-held-outside : (i : ℕ) (count : Float) (j : ℕ) (bs : List Bin) (s : State) → (i < j) ⊎ (j + length bs ≤ i) → heldIn i (pushAll count j bs s) ≡ heldIn i s
-unfolding pushAll
-held-outside i count j [] s h = refl
-held-outside i count j (b ∷ bs) s h =
-    let e = entryOf count j b in
-    held-outside i count (suc j) bs (push e s) (⊎-elim (λ l. inl (omega arith)) (λ l. inr (omega arith)) h)
-    ∙ held-push i e s
-    ∙ ap (λ (n : ℕ). n + heldIn i s) (hit-other i j (λ p. ⊎-elim (λ l. omega arith) (λ l. omega arith) h))
-    ∙ zero-add (heldIn i s)
-
--- and those of the bins
-held-inside : (i : ℕ) (count : Float) (j : ℕ) (bs : List Bin) (s : State) → j ≤ i → i < j + length bs → heldIn i (pushAll count j bs s) ≡ suc (heldIn i s)
-unfolding pushAll
-held-inside i count j [] s h k = absurd (omega arith)
-held-inside i count j (b ∷ bs) s h k =
-    go (decLe i j) (λ l. held-inside i count (suc j) bs (push (entryOf count j b) s) l (omega arith))
-  where
-    go : Dec (i ≤ j) → (j < i → heldIn i (pushAll count (suc j) bs (push (entryOf count j b) s)) ≡ suc (heldIn i (push (entryOf count j b) s)))
-        → heldIn i (pushAll count (suc j) bs (push (entryOf count j b) s)) ≡ suc (heldIn i s)
-    go (yes l) more =
-        held-outside i count (suc j) bs (push (entryOf count j b) s) (inl (omega arith))
-        ∙ omega (arith, held-push i (entryOf count j b) s, hit-same i j (omega arith))
-    go (no n) more =
-        more (lt-of-not-le n)
-        ∙ omega (arith, held-push i (entryOf count j b) s, hit-other i j (λ p. omega (arith, lt-of-not-le n)))
-
-module _ (ws : List Float) (i : ℕ) where
-  held-none : heldIn i (record { bins = map (bin (total ws)) ws; under = []; over = [] }) ≡ 0
-  unfolding held occurrences
-  held-none = refl
-
-  held-start : i < length ws → heldIn i (start ws) ≡ 1
-  unfolding start
-  held-start h =
-      held-inside i (ofInt binary32 (pos (length ws))) 0 (map (bin (total ws)) ws) (record { bins = map (bin (total ws)) ws; under = []; over = [] })
-      (omega arith) (rw length-map (omega arith))
-      ∙ ap suc held-none
-
-  held-past : length ws ≤ i → heldIn i (start ws) ≡ 0
-  unfolding start
-  held-past h =
-      held-outside i (ofInt binary32 (pos (length ws))) 0 (map (bin (total ws)) ws) (record { bins = map (bin (total ws)) ws; under = []; over = [] })
-      (inr (rw length-map (omega arith)))
-      ∙ held-none
-
--- every bin is settled once, and nothing else is
-pub once : (ws : List Float) (i : ℕ) → i < length ws → occurrences i (settledPlaces ws) ≡ 1
-once ws i h = held-inTurns i (length ws) (start (filledIn ws)) ∙ held-start (filledIn ws) i (rw filledIn-length h)
-
-pub no-other : (ws : List Float) (i : ℕ) → length ws ≤ i → occurrences i (settledPlaces ws) ≡ 0
-no-other ws i h = held-inTurns i (length ws) (start (filledIn ws)) ∙ held-past (filledIn ws) i (rw filledIn-length h)
+use lib.Ieee.{Float}
+use lib.ListN.{length, getD, List·getD-map}
+use Rattle.ieee.specs.Single.{_⊘_, zero as zerof, one}
+use Rattle.alias_table.specs.AliasTable.{Bin, Entry, State, none, filledIn, total, bin, start, update, settle, whole, turned, turn, turns, leftover, finish, table}
+use Rattle.alias_table.specs.GameLaws.{push-bins, ends-after, start-bins, length-turns, length-leftover, filledIn-length, start-length, table-length, occurrences, places, settledBy, hit-same, hit-other, occurrences-none, occurrences-cons, occurrences-append, held, heldIn, held-turned, held-turns, held-start, held-past}
 
 -- ---- the bin at a place
 
@@ -538,3 +249,91 @@ pub settled-q : (ws : List Float) (n : ℕ) (u o : Entry) (us os : List Entry) �
 settled-q ws n u o us os eu eo =
     let is = settled-bin ws n u o us os eu eo in
     (ap (λ (b : Bin). b .q) is, ap (λ (b : Bin). b .alias) is)
+
+-- ---- a leftover's q and alias
+
+-- a bin made whole stays whole
+whole-stays : (bs : List Bin) (i j : ℕ) → binAt bs i .q ≡ one → binAt (update bs j whole) i .q ≡ one
+unfolding update
+whole-stays [] i j h = h
+whole-stays (b ∷ bs) zero zero h = refl
+whole-stays (b ∷ bs) zero (suc j) h = h
+whole-stays (b ∷ bs) (suc i) zero h = h
+whole-stays (b ∷ bs) (suc i) (suc j) h = whole-stays bs i j h
+
+leftover-stays : (i : ℕ) (es : List Entry) (bs : List Bin) → binAt bs i .q ≡ one → binAt (leftover es bs) i .q ≡ one
+unfolding leftover
+leftover-stays i [] bs h = h
+leftover-stays i (e ∷ es) bs h = whole-stays (leftover es bs) i (e .index) (leftover-stays i es bs h)
+
+leftover-whole : (i : ℕ) (es : List Entry) (bs : List Bin) → i < length bs → 1 ≤ occurrences i (places es) → binAt (leftover es bs) i .q ≡ one
+unfolding leftover
+leftover-whole i [] bs h k = absurd (omega (arith, occurrences-none i))
+leftover-whole i (e ∷ es) bs h k = go (eqb i (e .index)) refl (λ l. leftover-whole i es bs h l)
+  where
+    go : (b : Bool) → eqb i (e .index) ≡ b → (1 ≤ occurrences i (places es) → binAt (leftover es bs) i .q ≡ one)
+        → binAt (update (leftover es bs) (e .index) whole) i .q ≡ one
+    go true p more =
+        ap (λ (j : ℕ). binAt (update (leftover es bs) j whole) i .q) (sym (eqb-true i (e .index) p))
+        ∙ ap (λ (b : Bin). b .q) (update-here (leftover es bs) i whole (omega (arith, length-leftover es bs)))
+    go false p more =
+        whole-stays (leftover es bs) i (e .index)
+        (more (omega (arith, k, occurrences-cons i (e .index) (places es), hit-other i (e .index) (eqb-false i (e .index) p))))
+
+-- the alias of a bin is not touched by that
+alias-update : (bs : List Bin) (i j : ℕ) → binAt (update bs j whole) i .alias ≡ binAt bs i .alias
+unfolding update
+alias-update [] i j = refl
+alias-update (b ∷ bs) zero zero = refl
+alias-update (b ∷ bs) zero (suc j) = refl
+alias-update (b ∷ bs) (suc i) zero = refl
+alias-update (b ∷ bs) (suc i) (suc j) = alias-update bs i j
+
+leftover-alias : (i : ℕ) (es : List Entry) (bs : List Bin) → binAt (leftover es bs) i .alias ≡ binAt bs i .alias
+unfolding leftover
+leftover-alias i [] bs = refl
+leftover-alias i (e ∷ es) bs = alias-update (leftover es bs) i (e .index) ∙ leftover-alias i es bs
+
+-- a bin that a stack still holds after a turn is as it was
+held-bin : (i : ℕ) (bs : List Bin) (us os : List Entry) → held i us os ≤ 1 → 1 ≤ heldIn i (turned bs us os) → binAt (turned bs us os .bins) i ≡ binAt bs i
+unfolding turned settledBy
+held-bin i bs [] os h k = refl
+held-bin i bs (u ∷ us) [] h k = refl
+held-bin i bs (u ∷ us) (o ∷ os) h k =
+    rw push-bins (update-there bs i (u .index) (settle (u .weight) (o .index))
+    (λ p. omega (arith, h, k, held-turned i bs (u ∷ us) (o ∷ os), occurrences-cons i (u .index) [], occurrences-none i, hit-same i (u .index) p)))
+
+held-bins : (i n : ℕ) (s : State) → heldIn i s ≤ 1 → 1 ≤ heldIn i (turns n s) → binAt (turns n s .bins) i ≡ binAt (s .bins) i
+unfolding turns
+held-bins i zero s h k = refl
+held-bins i (suc n) s h k =
+    held-bins i n (turn s) (omega (arith, h, held-turned i (s .bins) (s .under) (s .over))) k
+    ∙ held-bin i (s .bins) (s .under) (s .over) h (omega (arith, k, held-turns i n (turn s)))
+
+no-alias : (sum : Float) (ws : List Float) (i : ℕ) → binAt (map (bin sum) ws) i .alias ≡ none
+no-alias sum [] i = refl
+no-alias sum (w ∷ ws) zero = refl
+no-alias sum (w ∷ ws) (suc i) = no-alias sum ws i
+
+-- a bin that is left over when the game has ended has q 1 and no alias
+pub left-over : (ws : List Float) (i : ℕ) → i < length ws
+    → 1 ≤ occurrences i (places (turns (length ws) (start (filledIn ws)) .under) ++ places (turns (length ws) (start (filledIn ws)) .over))
+    → (binAt (table ws) i .q ≡ one) × (binAt (table ws) i .alias ≡ none)
+unfolding table held
+left-over ws i h k =
+    let s = start (filledIn ws) in
+    let t = turns (length ws) s in
+    let one-held : 1 ≤ heldIn i t = omega (arith, k, occurrences-append i (places (t .under)) (places (t .over))) in
+    let long : length (t .bins) ≡ length ws = length-turns (length ws) s ∙ start-length (filledIn ws) ∙ filledIn-length ws in (
+      go t (omega (arith, h, long)) (decLe 1 (occurrences i (places (t .over)))) one-held,
+      leftover-alias i (t .over) (leftover (t .under) (t .bins))
+          ∙ leftover-alias i (t .under) (t .bins)
+          ∙ ap (λ (b : Bin). b .alias) (held-bins i (length ws) s (omega (arith, held-start (filledIn ws) i (rw filledIn-length h))) one-held)
+          ∙ ap (λ (l : List Bin). binAt l i .alias) (start-bins (filledIn ws))
+          ∙ no-alias (total (filledIn ws)) (filledIn ws) i,
+    )
+  where
+    go : (t : State) → i < length (t .bins) → Dec (1 ≤ occurrences i (places (t .over))) → 1 ≤ heldIn i t → binAt (finish t) i .q ≡ one
+    go t l (yes o) m = leftover-whole i (t .over) (leftover (t .under) (t .bins)) (omega (arith, l, length-leftover (t .under) (t .bins))) o
+    go t l (no n) m =
+        leftover-stays i (t .over) (leftover (t .under) (t .bins)) (leftover-whole i (t .under) (t .bins) l (omega (arith, lt-of-not-le n)))

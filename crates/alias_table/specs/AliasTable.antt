@@ -107,7 +107,7 @@ turned bs (u ∷ us) [] = record { bins = bs; under = u ∷ us; over = [] }
 abbrev pub turn : State → State
 turn s = turned (s .bins) (s .under) (s .over)
 
--- "while neither is empty". Each turn takes one bin out of the game, so as many turns as bins are enough: AliasLaws.ends
+-- "while neither is empty". Each turn takes one bin out of the game, so as many turns as bins are enough: GameLaws.ends
 unfoldable pub turns : ℕ → State → State
 turns zero s = s
 turns (suc n) s = turns n (turn s)

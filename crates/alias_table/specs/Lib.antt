@@ -1,4 +1,5 @@
 pub mod AliasTable
+pub mod GameLaws
 pub mod AliasLaws
 pub mod Stacks
 pub mod StackLaws

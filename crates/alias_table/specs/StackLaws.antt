@@ -21,7 +21,7 @@ use Rattle.words.specs.Fill.{filled}
 use Rattle.words.specs.FillLaws.{filled-within}
 use Rattle.words.specs.Stores.{Copied, copied-none, copied-run}
 use Rattle.alias_table.specs.AliasTable.{Bin, Entry, State, none, bad, anyBad, sumFrom, total, bin, push, pushAll, start, update, settle, whole, turned, turn, turns, leftover, finish, binWords}
-use Rattle.alias_table.specs.AliasLaws.{turns-stay, under-push, over-push, push-bins, start-bins, length-update, length-leftover}
+use Rattle.alias_table.specs.GameLaws.{turns-stay, under-push, over-push, push-bins, start-bins, length-update, length-leftover}
 use Rattle.alias_table.specs.Stacks.{sumsFrom, weighted, entryAt, stackAt, put, top, SoundAt, Sound, Stacks, Game, Room, Started, Playing, Played, Left, Wholed, played}
 use Rattle.alias_table.specs.declared.Sums.{Sums}
 use Rattle.alias_table.specs.declared.Sums.the-variants.{Of, Bad}

@@ -14,7 +14,7 @@ use Rattle.words.specs.Fill.{filled}
 use Rattle.words.specs.Tray.{tray}
 use Rattle.words.specs.TrayLaws.{tray-full}
 use Rattle.alias_table.specs.AliasTable.{Bin, anyBad, sumFrom, filledIn, total, table, buildPowerAliasTable, binWords}
-use Rattle.alias_table.specs.AliasLaws.{table-length}
+use Rattle.alias_table.specs.GameLaws.{table-length}
 use Rattle.alias_table.specs.Stacks.{sumsFrom, sumsOf, weighted, played}
 use Rattle.alias_table.specs.StackLaws.{weighted-length, length-binWords, zeroed}
 use Rattle.alias_table.specs.declared.Sums.{Sums}

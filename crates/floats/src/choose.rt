@@ -28,7 +28,7 @@ pub fn max(x: f32, y: f32) -> f32
     }
 }
 
-// lo where x is below it, hi where x is above it, else x; a NaN stays.
+// lo where x is below it, then hi where that is above it; a NaN stays. Ends that are turned round give hi.
 pub fn clamp(x: f32, lo: f32, hi: f32) -> f32
     ensures { λ r. ⌜ r ≡ clamped x lo hi ⌝ }
 {

@@ -47,41 +47,49 @@ fn read_list(list: &mut [u32], chunk: &mut [u8]) -> Input
     Input { words, stray }
 }
 
-// Writes words to standard output; the chunk has room for them.
-fn write_part(words: &[u32], chunk: &mut [u8]) {
+// Writes words to standard output, for which the chunk has room; whether all were written.
+fn write_part(words: &[u32], chunk: &mut [u8]) -> bool {
     match bytes_of_words(words, chunk) {
         Words::Count(n) => {
             if n <= chunk.len() / 4 {
                 let end = 4 * n;
-                io::write_all(1, &chunk[0..end]);
+                io::write_all(1, &chunk[0..end])
+            } else {
+                false
             }
         }
-        Words::Refused(why) => {}
+        Words::Refused(why) => false,
     }
 }
 
-// The same for more words than that, as many at a time as it has room for.
-fn write_words(words: &[u32], chunk: &mut [u8])
+// The same for more words than that, as many at a time as it has room for, up to the first part that is not written.
+fn write_words(words: &[u32], chunk: &mut [u8]) -> bool
     requires { ⌜ 4 ≤ length (now chunk) ⌝ }
 {
     let each = chunk.len() / 4;
     let mut done: usize = 0;
     while each < words.len() - done {
         let end = done + each;
-        write_part(&words[done..end], chunk);
+        if !write_part(&words[done..end], chunk) {
+            return false;
+        }
         done = end;
     }
-    write_part(&words[done..], chunk);
+    write_part(&words[done..], chunk)
 }
 
-fn write_refusal(why: Refusal) {
-    io::write_all(1, b"refused ");
-    io::print_decimal(1, refusal_number(why) as u64);
-    io::write_all(1, b"\n");
+fn write_refusal(why: Refusal) -> bool {
+    if !io::write_all(1, b"refused ") {
+        return false;
+    }
+    if !io::print_decimal(1, refusal_number(why) as u64) {
+        return false;
+    }
+    io::write_all(1, b"\n")
 }
 
 // A list with bytes behind its last word.
-fn refuse_stray(list: &[u32]) {
+fn refuse_stray(list: &[u32]) -> bool {
     match check_list(list) {
         Counted::Lamps(m) => write_refusal(Refusal::Ragged),
         Counted::Refused(why) => match why {
@@ -91,7 +99,7 @@ fn refuse_stray(list: &[u32]) {
     }
 }
 
-fn convert(list: &[u32], block: &mut [u32], chunk: &mut [u8])
+fn convert(list: &[u32], block: &mut [u32], chunk: &mut [u8]) -> bool
     requires { ⌜ 4 ≤ length (now chunk) ⌝ }
 {
     match build_light_bounds(list, block) {
@@ -99,24 +107,38 @@ fn convert(list: &[u32], block: &mut [u32], chunk: &mut [u8])
             if m <= 4096 {
                 let end = 1 + 14 * m;
                 if end <= block.len() {
-                    write_words(&block[0..end], chunk);
+                    return write_words(&block[0..end], chunk);
                 }
             }
+            false
         }
         Counted::Refused(why) => write_refusal(why),
     }
 }
 
-// Reads, converts, writes.
+// The block, or the refusal, of a list with so many stray bytes behind it; whether all of it was written.
+fn answer(list: &[u32], stray: usize, block: &mut [u32], chunk: &mut [u8]) -> bool
+    requires { ⌜ 4 ≤ length (now chunk) ⌝ }
+{
+    if stray == 0 {
+        convert(list, block, chunk)
+    } else {
+        refuse_stray(list)
+    }
+}
+
+// Reads, converts, writes. A program has no exit status here, so one that cannot write says so.
 fn run(list: &mut [u32], block: &mut [u32], chunk: &mut [u8])
     requires { ⌜ 4 ≤ length (now chunk) ⌝ }
 {
     let input = read_list(list, chunk);
     let words = input.words;
-    if input.stray == 0 {
-        convert(&list[0..words], block, chunk);
-    } else {
-        refuse_stray(&list[0..words]);
+    let stray = input.stray;
+    if !answer(&list[0..words], stray, block, chunk) {
+        io::write_all(
+            2,
+            b"lamps_to_block: standard output could not be written whole\n",
+        );
     }
 }
 
@@ -125,6 +147,7 @@ fn lend(list: &mut [u32; 1064960], block: &mut [u32; 57345], chunk: &mut [u8; 65
     run(list, block, chunk);
 }
 
+// All of it is on the stack: 4.4 MiB.
 fn main() {
     let mut list = [0u32; 1064960];
     let mut block = [0u32; 57345];

@@ -1,5 +1,4 @@
-//! `answers PATH`: writes the oracle's answers to the path given, in the form of stored.rs, and prints what the program `replay` must
-//! print of them. No proved function has a part in them.
+//! Stores the oracle's answers for the programs replay_*, in the form of stored.rs. No proved function has a part in them.
 
 #[cfg(not(reference))]
 fn main() {
@@ -8,23 +7,22 @@ fn main() {
 
 #[cfg(reference)]
 fn main() -> std::io::Result<()> {
-    let path = std::env::args().nth(1).expect("usage: answers PATH");
-    let lists =
-        [("floats", oracle::floats()), ("bounds", oracle::bounds()), ("lamps", oracle::lamps()), ("alias", oracle::alias())];
-    std::fs::write(path, lists.iter().flat_map(|(_, cases)| cases).flat_map(|case| case.bytes()).collect::<Vec<u8>>())?;
-    lists.iter().for_each(|(name, cases)| println!("{name}: {} answers replayed, 0 differ", cases.len()));
-    Ok(())
+    oracle::floats()?;
+    oracle::bounds()?;
+    oracle::lamps()?;
+    oracle::alias()
 }
 
 #[cfg(reference)]
 mod oracle {
     use coltoctober::cases::{stored_cases, Random};
     use coltoctober::functions::FUNCTIONS;
-    use coltoctober::stored::{filled, padded, Answer, Case, FLOATS};
+    use coltoctober::stored::{filled, padded, store, Answer, Case, FLOATS, FLOATS_PART};
     use coltoctober::{lists, reference, standins, stored_alias, stored_bounds, stored_lamps, trig, weights};
+    use std::io::Result;
 
     /// The stand-ins' answers, held against Rust's own where the two are defined the same.
-    pub fn floats() -> Vec<Case> {
+    pub fn floats() -> Result<()> {
         let mut cases = Vec::new();
         for f in FUNCTIONS.iter().filter(|f| f.op > 0) {
             for case @ [a, b, c] in stored_cases(f) {
@@ -35,14 +33,14 @@ mod oracle {
                 cases.push(Case { kind: FLOATS + f.op, words: words.into() });
             }
         }
-        cases
+        store(FLOATS_PART, &cases)
     }
 
-    fn cases(stored: &[impl Answer]) -> Vec<Case> {
-        stored.iter().map(Answer::case).collect()
+    fn store_all<A: Answer>(stored: &[A]) -> Result<()> {
+        store(A::PART, &stored.iter().map(Answer::case).collect::<Vec<Case>>())
     }
 
-    pub fn bounds() -> Vec<Case> {
+    pub fn bounds() -> Result<()> {
         use stored_bounds::Stored;
 
         let mut random = Random::new(3);
@@ -68,28 +66,28 @@ mod oracle {
             let query = random.query(&record);
             stored.push(Stored::new(207, &record, &query, reference::importance(&record, &query).map(|word| padded(&[word]))));
         }
-        cases(&stored)
+        store_all(&stored)
     }
 
-    pub fn lamps() -> Vec<Case> {
+    pub fn lamps() -> Result<()> {
         use stored_lamps::{Stored, BLOCK, LIST};
 
         let mut random = Random::new(4);
         // no list meets 6
         let quotas = [(0, 1000), (1, 200), (2, 60), (3, 150), (4, 100), (5, 150), (7, 100), (8, 100), (9, 70), (10, 70)];
-        cases(&filled(&quotas, || {
+        store_all(&filled(&quotas, || {
             let lists::Case { list, room } = random.list_case();
             let fits = list.len() <= LIST && room <= BLOCK;
             fits.then(|| Stored::new(&list, room, reference::build_light_bounds)).map(|case| (case.number, case))
         }))
     }
 
-    pub fn alias() -> Vec<Case> {
+    pub fn alias() -> Result<()> {
         use stored_alias::{Stored, BINS, WEIGHTS, WORK};
 
         let mut random = Random::new(5);
         // refusal 2 needs more weights than a case holds
-        cases(&filled(&[(0, 1400), (3, 300), (8, 300)], || {
+        store_all(&filled(&[(0, 1400), (3, 300), (8, 300)], || {
             let weights::Case { weights, bins_room, work_room } = random.weights_case();
             let fits = weights.len() <= WEIGHTS && bins_room <= BINS && work_room <= WORK;
             let case = fits.then(|| Stored::new(&weights, [bins_room, work_room], reference::build_power_alias_table));
