@@ -24,15 +24,6 @@ loop-holds : tie.Need-loop-holds Inv-loop μ-loop
 unfolding ofBits
 loop-holds c = (omega arith, refl)
 
-mul-f32-of-word : tie.Need-mul-f32-of-word Inv-loop μ-loop
-mul-f32-of-word c = search needs
-
-shared-slice-read-f32-of-word : tie.Need-shared-slice-read-f32-of-word Inv-loop μ-loop
-shared-slice-read-f32-of-word c = search needs
-
-f32-of-word-requires : tie.Need-f32-of-word-requires Inv-loop μ-loop
-f32-of-word-requires c κs = search needs
-
 returns : tie.Need-returns Inv-loop μ-loop
 unfolding ofBits
 returns c =
@@ -40,15 +31,6 @@ returns c =
     let loop = read .before .before .before .loop in
     sums-stop (now (read .before .before .before .before .before .args .weights)) (loop .i) (loop .single) (loop .double) (read .f32-of-word .result)
     (omega arith) (read .f32-of-word .ensures) (loop .inv .1) (bad-below (read .f32-of-word .result) (c .if1 .taken))
-
-widen-requires : tie.Need-widen-requires Inv-loop μ-loop
-widen-requires c κs = search needs
-
-add-i : tie.Need-add-i Inv-loop μ-loop
-add-i c = search needs
-
-loop-less : tie.Need-loop-less Inv-loop μ-loop
-loop-less c = search needs
 
 loop-again : tie.Need-loop-again Inv-loop μ-loop
 unfolding ofBits div
@@ -76,18 +58,5 @@ returns-3 c =
 
 pub add-up-spec : {M : Type 1} → statement M
 add-up-spec =
-    tie.close
-    (tie.spec
-    Inv-loop
-    μ-loop
-    loop-holds
-    mul-f32-of-word
-    shared-slice-read-f32-of-word
-    f32-of-word-requires
-    returns
-    widen-requires
-    add-i
-    loop-less
-    loop-again
-    returns-2
-    returns-3)
+    tie.close (tie.spec Inv-loop μ-loop loop-holds (λ c. search needs) (λ c. search needs) (λ c κs. search needs) returns
+      (λ c κs. search needs) (λ c. search needs) (λ c. search needs) loop-again returns-2 returns-3)

@@ -10,9 +10,6 @@ use native.Mathlib.Omega.{arith}
 use Rattle.alias_table.proofs.build.Statement.{statement}
 use Rattle.alias_table.proofs.build.Tie as tie
 
-start-requires : tie.Need-start-requires
-start-requires c κs = search needs
-
 play-requires : tie.Need-play-requires
 play-requires c κs =
     let started = c .before .before .before .before .before .before in
@@ -30,9 +27,6 @@ make-whole-requires c κs =
     let ws = weighted (args .flat) words in
     left-under (game-over ws (now (args .bins)) (now (args .work)) (length words) (started .start .ensures) (won .play .ensures))
 
-mul-make-whole : tie.Need-mul-make-whole
-mul-make-whole c = search needs
-
 make-whole-requires-2 : tie.Need-make-whole-requires-2
 make-whole-requires-2 c κs =
     let won = c .before .before .before .before .before .before .before .before .before .before .before in
@@ -47,15 +41,6 @@ mul-zero-words : tie.Need-mul-zero-words
 mul-zero-words c =
     let won = c .before .before .before .before .before .before .before .before .before .before .before .before .before .before .before in
     omega (arith, won .before .before .before .before .before .before .before .before .before .before .before .before .before .pre .0)
-
-zero-words-requires : tie.Need-zero-words-requires
-zero-words-requires c κs = search needs
-
-same-length : tie.Need-same-length
-same-length c = search needs
-
-same-length-2 : tie.Need-same-length-2
-same-length-2 c = search needs
 
 returns : tie.Need-returns
 returns c =
@@ -72,15 +57,5 @@ returns c =
 
 pub build-spec : {M : Type 1} → statement M
 build-spec =
-    tie.close
-    (tie.spec
-    start-requires
-    play-requires
-    make-whole-requires
-    mul-make-whole
-    make-whole-requires-2
-    mul-zero-words
-    zero-words-requires
-    same-length
-    same-length-2
-    returns)
+    tie.close (tie.spec (λ c κs. search needs) play-requires make-whole-requires (λ c. search needs) make-whole-requires-2 mul-zero-words
+      (λ c κs. search needs) (λ c. search needs) (λ c. search needs) returns)

@@ -17,9 +17,6 @@ returns c =
     let args = c .before .before .before .before .args in
     rw (answer-crowded (now (args .weights)) (length (now (args .bins))) (length (now (args .work))) (c .if1 .taken)) (refl, (refl, refl))
 
-mul-if2 : tie.Need-mul-if2
-mul-if2 c = search needs
-
 returns-2 : tie.Need-returns-2
 unfolding tray
 returns-2 c =
@@ -27,24 +24,12 @@ returns-2 c =
     rw (answer-short-bins (now (args .weights)) (length (now (args .bins))) (length (now (args .work))) (c .before .if1 .left) (c .if2 .taken))
     (refl, (refl, refl))
 
-mul-if3 : tie.Need-mul-if3
-mul-if3 c = search needs
-
 returns-3 : tie.Need-returns-3
 unfolding tray
 returns-3 c =
     let args = c .before .before .before .before .before .before .args in
     rw (answer-short-work (now (args .weights)) (length (now (args .bins))) (length (now (args .work))) (c .before .before .if1 .left) (c .before .if2 .left) (c .if3 .taken))
     (refl, (refl, refl))
-
-add-up-requires : tie.Need-add-up-requires
-add-up-requires c κs = search needs
-
-enum-known-s : tie.Need-enum-known-s
-enum-known-s c = search needs
-
-total-requires : tie.Need-total-requires
-total-requires c κs = search needs
 
 build-requires : tie.Need-build-requires
 build-requires c κs =
@@ -57,24 +42,6 @@ build-requires c κs =
 
 enum-told : tie.Need-enum-told
 enum-told c = search needs
-
-mul-zero-words : tie.Need-mul-zero-words
-mul-zero-words c = search needs
-
-zero-words-requires : tie.Need-zero-words-requires
-zero-words-requires c κs = search needs
-
-mul-zero-words-2 : tie.Need-mul-zero-words-2
-mul-zero-words-2 c = search needs
-
-zero-words-requires-2 : tie.Need-zero-words-requires-2
-zero-words-requires-2 c κs = search needs
-
-same-length : tie.Need-same-length
-same-length c = search needs
-
-same-length-2 : tie.Need-same-length-2
-same-length-2 c = search needs
 
 returns-4 : tie.Need-returns-4
 returns-4 c =
@@ -95,12 +62,6 @@ returns-4 c =
       ),
     )
 
-same-length-3 : tie.Need-same-length-3
-same-length-3 c = search needs
-
-same-length-4 : tie.Need-same-length-4
-same-length-4 c = search needs
-
 returns-5 : tie.Need-returns-5
 returns-5 c =
     let told = c .before .before .before .before .before .before .before .before in
@@ -118,25 +79,6 @@ returns-5 c =
 
 pub build-power-alias-table-spec : {M : Type 1} → statement M
 build-power-alias-table-spec =
-    tie.close
-    (tie.spec
-    returns
-    mul-if2
-    returns-2
-    mul-if3
-    returns-3
-    add-up-requires
-    enum-known-s
-    total-requires
-    build-requires
-    enum-told
-    mul-zero-words
-    zero-words-requires
-    mul-zero-words-2
-    zero-words-requires-2
-    same-length
-    same-length-2
-    returns-4
-    same-length-3
-    same-length-4
-    returns-5)
+    tie.close (tie.spec returns (λ c. search needs) returns-2 (λ c. search needs) returns-3 (λ c κs. search needs) (λ c. search needs)
+      (λ c κs. search needs) build-requires enum-told (λ c. search needs) (λ c κs. search needs) (λ c. search needs) (λ c κs. search needs)
+      (λ c. search needs) (λ c. search needs) returns-4 (λ c. search needs) (λ c. search needs) returns-5)

@@ -21,21 +21,6 @@ loop-holds : tie.Need-loop-holds Inv-loop μ-loop
 unfolding leftover stackAt
 loop-holds c = (omega arith, refl, λ bs rest e s. e)
 
-mul-at : tie.Need-mul-at Inv-loop μ-loop
-mul-at c = omega arith
-
-add-at : tie.Need-add-at Inv-loop μ-loop
-add-at c = omega arith
-
-add-at-2 : tie.Need-add-at-2 Inv-loop μ-loop
-add-at-2 c = omega arith
-
-mul-at-2 : tie.Need-mul-at-2 Inv-loop μ-loop
-mul-at-2 c = omega arith
-
-shared-slice-read-at : tie.Need-shared-slice-read-at Inv-loop μ-loop
-shared-slice-read-at c = omega arith
-
 -- the place of a bin that is left over
 in-bins : (c : tie.After-shared-slice-known Inv-loop μ-loop)
     → 3 * getD (now (c .before .before .before .args .work)) (c .before .before .before .args .base + 2 * c .before .before .loop .k + 1) 0
@@ -43,24 +28,6 @@ in-bins : (c : tie.After-shared-slice-known Inv-loop μ-loop)
 in-bins c =
     let args = c .before .before .before .args in
     left-in (now (args .bins)) (now (args .work)) (args .base) (args .n) (c .before .before .loop .k) (c .before .before .before .pre) (omega arith)
-
-cast-at : tie.Need-cast-at Inv-loop μ-loop
-cast-at c = omega (arith, in-bins c)
-
-mul-at-3 : tie.Need-mul-at-3 Inv-loop μ-loop
-mul-at-3 c = omega (arith, in-bins c)
-
-mul-bins : tie.Need-mul-bins Inv-loop μ-loop
-mul-bins c = omega (arith, in-bins c)
-
-slice-write-bins : tie.Need-slice-write-bins Inv-loop μ-loop
-slice-write-bins c = omega (arith, in-bins c)
-
-add-k : tie.Need-add-k Inv-loop μ-loop
-add-k c = omega arith
-
-loop-less : tie.Need-loop-less Inv-loop μ-loop
-loop-less c = omega arith
 
 loop-again : tie.Need-loop-again Inv-loop μ-loop
 loop-again c =
@@ -73,9 +40,6 @@ loop-again c =
           (inv .2 bs rest e (λ j l. s j (omega arith))) (s k (omega arith) .0),
     )
 
-same-length : tie.Need-same-length Inv-loop μ-loop
-same-length c = omega arith
-
 returns : tie.Need-returns Inv-loop μ-loop
 returns c =
     let e : c .before .loop .k ≡ c .before .before .args .n = omega arith in
@@ -83,22 +47,6 @@ returns c =
 
 pub make-whole-spec : {M : Type 1} → statement M
 make-whole-spec =
-    tie.close
-    (tie.spec
-    Inv-loop
-    μ-loop
-    loop-holds
-    mul-at
-    add-at
-    add-at-2
-    mul-at-2
-    shared-slice-read-at
-    cast-at
-    mul-at-3
-    mul-bins
-    slice-write-bins
-    add-k
-    loop-less
-    loop-again
-    same-length
-    returns)
+    tie.close (tie.spec Inv-loop μ-loop loop-holds (λ c. omega arith) (λ c. omega arith) (λ c. omega arith) (λ c. omega arith)
+      (λ c. omega arith) (λ c. omega (arith, in-bins c)) (λ c. omega (arith, in-bins c)) (λ c. omega (arith, in-bins c))
+      (λ c. omega (arith, in-bins c)) (λ c. omega arith) (λ c. omega arith) loop-again (λ c. omega arith) returns)

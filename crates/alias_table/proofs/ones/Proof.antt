@@ -23,12 +23,6 @@ loop-holds c =
     let e : c .args .m - 0 ≡ c .args .m = omega arith in
     rw e
 
-add-i : tie.Need-add-i Inv-loop μ-loop
-add-i c = omega arith
-
-loop-less : tie.Need-loop-less Inv-loop μ-loop
-loop-less c = omega arith
-
 loop-again : tie.Need-loop-again Inv-loop μ-loop
 unfolding ofBits
 loop-again c = ones-next (c .before .before .args .m) (c .before .loop .i) (c .before .loop .s) (c .before .loop .inv) (omega arith)
@@ -37,4 +31,5 @@ returns : tie.Need-returns Inv-loop μ-loop
 returns c = ones-last (c .before .before .args .m) (c .before .loop .i) (c .before .loop .s) (c .before .loop .inv) (omega arith)
 
 pub ones-spec : {M : Type 1} → statement M
-ones-spec = tie.close (tie.spec Inv-loop μ-loop loop-holds add-i loop-less loop-again returns)
+ones-spec =
+    tie.close (tie.spec Inv-loop μ-loop loop-holds (λ c. omega arith) (λ c. omega arith) loop-again returns)

@@ -28,30 +28,6 @@ loop-holds c =
     let args = c .before .before .before .before .args in
     starting-none (weighted (args .flat) (now (args .weights))) (args .sum) (weighted-length (args .flat) (now (args .weights))) (c .before .before .before .before .pre .0)
 
-weight-at-requires : tie.Need-weight-at-requires Inv-loop μ-loop
-weight-at-requires c κs = omega arith
-
-mul-put-bin : tie.Need-mul-put-bin Inv-loop μ-loop
-mul-put-bin c = omega arith
-
-put-bin-requires : tie.Need-put-bin-requires Inv-loop μ-loop
-put-bin-requires c κs = omega arith
-
-cast-push : tie.Need-cast-push Inv-loop μ-loop
-cast-push c = omega arith
-
-push-requires : tie.Need-push-requires Inv-loop μ-loop
-push-requires c κs = omega arith
-
-add-i : tie.Need-add-i Inv-loop μ-loop
-add-i c = omega arith
-
-add-under : tie.Need-add-under Inv-loop μ-loop
-add-under c = omega arith
-
-loop-less : tie.Need-loop-less Inv-loop μ-loop
-loop-less c = omega arith
-
 loop-again : tie.Need-loop-again Inv-loop μ-loop
 loop-again c =
     let pushed = c .before .before .before in
@@ -59,12 +35,6 @@ loop-again c =
     let l = rw (weight .weight-at .ensures) at (sym (pushed .push .ensures .0) ∙ c .if1 .taken) in
     rw (pushed .push .ensures .1, c .before .before .before .before .before .before .before .put-bin .ensures, weight .weight-at .ensures, l)
     (starting-next (weight .before .before .loop .inv) (omega arith) true l)
-
-add-over : tie.Need-add-over Inv-loop μ-loop
-add-over c = omega arith
-
-loop-less-2 : tie.Need-loop-less-2 Inv-loop μ-loop
-loop-less-2 c = omega arith
 
 loop-again-2 : tie.Need-loop-again-2 Inv-loop μ-loop
 loop-again-2 c =
@@ -74,35 +44,11 @@ loop-again-2 c =
     rw (pushed .push .ensures .1, c .before .before .before .before .before .before .before .put-bin .ensures, weight .weight-at .ensures, l)
     (starting-next (weight .before .before .loop .inv) (omega arith) false l)
 
-same-length : tie.Need-same-length Inv-loop μ-loop
-same-length c = omega arith
-
-same-length-2 : tie.Need-same-length-2 Inv-loop μ-loop
-same-length-2 c = omega arith
-
 returns : tie.Need-returns Inv-loop μ-loop
 returns c = starting-all (c .before .loop .inv) (omega arith) (c .before .before .before .before .before .before .pre .1)
 
 pub start-spec : {M : Type 1} → statement M
 start-spec =
-    tie.close
-    (tie.spec
-    Inv-loop
-    μ-loop
-    int-to-float-count
-    loop-holds
-    weight-at-requires
-    mul-put-bin
-    put-bin-requires
-    cast-push
-    push-requires
-    add-i
-    add-under
-    loop-less
-    loop-again
-    add-over
-    loop-less-2
-    loop-again-2
-    same-length
-    same-length-2
-    returns)
+    tie.close (tie.spec Inv-loop μ-loop int-to-float-count loop-holds (λ c κs. omega arith) (λ c. omega arith) (λ c κs. omega arith)
+      (λ c. omega arith) (λ c κs. omega arith) (λ c. omega arith) (λ c. omega arith) (λ c. omega arith) loop-again (λ c. omega arith)
+      (λ c. omega arith) loop-again-2 (λ c. omega arith) (λ c. omega arith) returns)

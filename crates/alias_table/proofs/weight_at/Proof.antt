@@ -7,15 +7,6 @@ use Rattle.alias_table.specs.StackLaws.{weighted-one, weighted-own}
 use Rattle.alias_table.proofs.weight_at.Statement.{statement}
 use Rattle.alias_table.proofs.weight_at.Tie as tie
 
-mul-f32-of-word : tie.Need-mul-f32-of-word
-mul-f32-of-word c = search needs
-
-shared-slice-read-f32-of-word : tie.Need-shared-slice-read-f32-of-word
-shared-slice-read-f32-of-word c = search needs
-
-f32-of-word-requires : tie.Need-f32-of-word-requires
-f32-of-word-requires c κs = search needs
-
 returns : tie.Need-returns
 unfolding ofBits
 returns c =
@@ -29,5 +20,4 @@ returns-2 c =
 
 pub weight-at-spec : {M : Type 1} → statement M
 weight-at-spec =
-    tie.close
-    (tie.spec mul-f32-of-word shared-slice-read-f32-of-word f32-of-word-requires returns returns-2)
+    tie.close (tie.spec (λ c. search needs) (λ c. search needs) (λ c κs. search needs) returns returns-2)

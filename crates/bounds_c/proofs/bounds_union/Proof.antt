@@ -11,39 +11,12 @@ use borrow.Author.Needs.{needs}
 use Rattle.bounds_c.proofs.bounds_union.Statement.{statement}
 use Rattle.bounds_c.proofs.bounds_union.Tie as tie
 
-read-record-requires : tie.Need-read-record-requires
-read-record-requires c κs = search needs
-
-enum-known-first : tie.Need-enum-known-first
-enum-known-first c = search needs
-
-read-record-requires-2 : tie.Need-read-record-requires-2
-read-record-requires-2 c κs = search needs
-
-enum-known-second : tie.Need-enum-known-second
-enum-known-second c = search needs
-
-write-union-requires : tie.Need-write-union-requires
-write-union-requires c κs = search needs
-
 enum-told : tie.Need-enum-told
 enum-told c = search needs
-
-enum-told-2 : tie.Need-enum-told-2
-enum-told-2 c = search needs
-
-enum-told-3 : tie.Need-enum-told-3
-enum-told-3 c = search needs
-
-enum-told-4 : tie.Need-enum-told-4
-enum-told-4 c = search needs
 
 returns : tie.Need-returns
 unfolding unionWords _then_ tray
 returns c = rw (← c .before .before .before .before .before .before .before .before .read-record .ensures, c .before .before .before .before .before .before .first .given .1, ← c .before .before .before .before .read-record2 .ensures, c .before .before .second .given .1, lt-leb 13 (length (now (c .before .before .before .before .before .before .before .before .before .before .before .before .args .out))) (omega arith)) (refl, refl)
-
-same-length : tie.Need-same-length
-same-length c = search needs
 
 returns-2 : tie.Need-returns-2
 unfolding unionWords _then_ tray
@@ -67,21 +40,6 @@ returns-6 c = rw (← c .before .before .read-record .ensures, c .enum-told4 .gi
 
 pub bounds-union-spec : {M : Type 1} → statement M
 bounds-union-spec =
-    tie.close
-    (tie.spec
-    read-record-requires
-    enum-known-first
-    read-record-requires-2
-    enum-known-second
-    write-union-requires
-    enum-told
-    enum-told-2
-    enum-told-3
-    enum-told-4
-    returns
-    same-length
-    returns-2
-    returns-3
-    returns-4
-    returns-5
-    returns-6)
+    tie.close (tie.spec (λ c κs. search needs) (λ c. search needs) (λ c κs. search needs) (λ c. search needs) (λ c κs. search needs)
+      enum-told (λ c. search needs) (λ c. search needs) (λ c. search needs) returns (λ c. search needs) returns-2 returns-3 returns-4
+      returns-5 returns-6)

@@ -5,29 +5,8 @@ use borrow.Author.Needs.{needs}
 use Rattle.bounds_c.proofs.bounds_validate.Statement.{statement}
 use Rattle.bounds_c.proofs.bounds_validate.Tie as tie
 
-read-record-requires : tie.Need-read-record-requires
-read-record-requires c κs = search needs
-
-enum-known-whole : tie.Need-enum-known-whole
-enum-known-whole c = search needs
-
-validate-requires : tie.Need-validate-requires
-validate-requires c κs = search needs
-
 enum-told : tie.Need-enum-told
 enum-told c = search needs
-
-enum-known-why : tie.Need-enum-known-why
-enum-known-why c = search needs
-
-refusal-number-requires : tie.Need-refusal-number-requires
-refusal-number-requires c κs = search needs
-
-enum-told-2 : tie.Need-enum-told-2
-enum-told-2 c = search needs
-
-enum-told-3 : tie.Need-enum-told-3
-enum-told-3 c = search needs
 
 returns : tie.Need-returns
 unfolding validateWords _then_
@@ -47,17 +26,5 @@ returns-4 c = rw (← c .before .before .read-record .ensures, c .enum-told3 .gi
 
 pub bounds-validate-spec : {M : Type 1} → statement M
 bounds-validate-spec =
-    tie.close
-    (tie.spec
-    read-record-requires
-    enum-known-whole
-    validate-requires
-    enum-told
-    enum-known-why
-    refusal-number-requires
-    enum-told-2
-    enum-told-3
-    returns
-    returns-2
-    returns-3
-    returns-4)
+    tie.close (tie.spec (λ c κs. search needs) (λ c. search needs) (λ c κs. search needs) enum-told (λ c. search needs)
+      (λ c κs. search needs) (λ c. search needs) (λ c. search needs) returns returns-2 returns-3 returns-4)

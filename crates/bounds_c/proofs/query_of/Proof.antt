@@ -4,15 +4,10 @@ use Rattle.bounds_c.specs.Codes.{queryOf}
 use Rattle.bounds_c.proofs.query_of.Statement.{statement}
 use Rattle.bounds_c.proofs.query_of.Tie as tie
 
-vec-at-requires : tie.Need-vec-at-requires
-vec-at-requires c κs = search needs
-
-vec-at-requires-2 : tie.Need-vec-at-requires-2
-vec-at-requires-2 c κs = search needs
-
 returns : tie.Need-returns
 unfolding queryOf
 returns c = rw (← c .before .vec-at .ensures, ← c .vec-at2 .ensures)
 
 pub query-of-spec : {M : Type 1} → statement M
-query-of-spec = tie.close (tie.spec vec-at-requires vec-at-requires-2 returns)
+query-of-spec =
+    tie.close (tie.spec (λ c κs. search needs) (λ c κs. search needs) returns)

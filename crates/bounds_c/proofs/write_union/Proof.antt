@@ -9,33 +9,9 @@ use borrow.Author.Needs.{needs}
 use Rattle.bounds_c.proofs.write_union.Statement.{statement}
 use Rattle.bounds_c.proofs.write_union.Tie as tie
 
-union-requires : tie.Need-union-requires
-union-requires c κs = search needs
-
-enum-known-record : tie.Need-enum-known-record
-enum-known-record c = search needs
-
-write-record-requires : tie.Need-write-record-requires
-write-record-requires c κs = search needs
-
-enum-known-why : tie.Need-enum-known-why
-enum-known-why c = search needs
-
-fill-words-requires : tie.Need-fill-words-requires
-fill-words-requires c κs = search needs
-
-refusal-number-requires : tie.Need-refusal-number-requires
-refusal-number-requires c κs = search needs
-
-same-length : tie.Need-same-length
-same-length c = search needs
-
 returns : tie.Need-returns
 returns c = rw (sym (c .before .before .before .before .before .before .before .union .ensures) ∙ ap joined (c .before .before .before .before .before .«record» .given .1))
     (refl, c .before .before .write-record .ensures ∙ written-front _ (now (c .before .before .before .before .before .before .before .before .before .args .out)) (omega arith))
-
-same-length-2 : tie.Need-same-length-2
-same-length-2 c = search needs
 
 returns-2 : tie.Need-returns-2
 returns-2 c = rw (sym (c .before .before .before .before .before .before .before .before .union .ensures) ∙ ap joined (c .before .before .before .before .before .before .why .given .1))
@@ -43,15 +19,5 @@ returns-2 c = rw (sym (c .before .before .before .before .before .before .before
 
 pub write-union-spec : {M : Type 1} → statement M
 write-union-spec =
-    tie.close
-    (tie.spec
-    union-requires
-    enum-known-record
-    write-record-requires
-    enum-known-why
-    fill-words-requires
-    refusal-number-requires
-    same-length
-    returns
-    same-length-2
-    returns-2)
+    tie.close (tie.spec (λ c κs. search needs) (λ c. search needs) (λ c κs. search needs) (λ c. search needs) (λ c κs. search needs)
+      (λ c κs. search needs) (λ c. search needs) returns (λ c. search needs) returns-2)

@@ -5,18 +5,9 @@ use borrow.Author.Needs.{needs}
 use Rattle.floats_c.proofs.words_bytes_of_words.Statement.{statement}
 use Rattle.floats_c.proofs.words_bytes_of_words.Tie as tie
 
-bytes-of-words-requires : tie.Need-bytes-of-words-requires
-bytes-of-words-requires c κs = search needs
-
-code-of-requires : tie.Need-code-of-requires
-code-of-requires c κs = search needs
-
-same-length : tie.Need-same-length
-same-length c = search needs
-
 returns : tie.Need-returns
 returns c = (c .code-of .ensures ∙ ap code (c .before .before .before .bytes-of-words .ensures .0), c .before .before .before .bytes-of-words .ensures .1)
 
 pub words-bytes-of-words-spec : {M : Type 1} → statement M
 words-bytes-of-words-spec =
-    tie.close (tie.spec bytes-of-words-requires code-of-requires same-length returns)
+    tie.close (tie.spec (λ c κs. search needs) (λ c κs. search needs) (λ c. search needs) returns)

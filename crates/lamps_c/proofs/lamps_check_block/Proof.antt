@@ -6,18 +6,6 @@ use Rattle.lamps.specs.Block.{counted}
 use Rattle.lamps_c.proofs.lamps_check_block.Statement.{statement}
 use Rattle.lamps_c.proofs.lamps_check_block.Tie as tie
 
-check-block-requires : tie.Need-check-block-requires
-check-block-requires c κs = search needs
-
-enum-known-m : tie.Need-enum-known-m
-enum-known-m c = search needs
-
-enum-known-why : tie.Need-enum-known-why
-enum-known-why c = search needs
-
-refusal-number-requires : tie.Need-refusal-number-requires
-refusal-number-requires c κs = search needs
-
 returns : tie.Need-returns
 returns c = ap code (sym (ap counted (c .before .m .given .1)) ∙ c .before .before .before .check-block .ensures)
 
@@ -26,11 +14,4 @@ returns-2 c = c .refusal-number .ensures ∙ ap code (sym (ap counted (c .before
 
 pub lamps-check-block-spec : {M : Type 1} → statement M
 lamps-check-block-spec =
-    tie.close
-    (tie.spec
-    check-block-requires
-    enum-known-m
-    enum-known-why
-    refusal-number-requires
-    returns
-    returns-2)
+    tie.close (tie.spec (λ c κs. search needs) (λ c. search needs) (λ c. search needs) (λ c κs. search needs) returns returns-2)

@@ -32,9 +32,6 @@ Inv-loop case from given place₀ i₀ place i = (i ≤ length given) × (sameFr
 abbrev μ-loop : tie.MeasureT-loop
 μ-loop case from given place₀ i₀ place i = length given - i
 
-returns : tie.Need-returns Inv-loop μ-loop
-returns c = sym (c .before .before .loop .inv .1 ∙ past _ _ _ _ (c .before .loop-test .taken) (c .if1 .taken))
-
 returns-2 : tie.Need-returns-2 Inv-loop μ-loop
 returns-2 c =
     let at = c .before .before .before .before in
@@ -53,6 +50,7 @@ returns-3 c =
 
 pub same-spec : {M : Type 1} → statement M
 same-spec =
-    tie.close
-    (tie.spec Inv-loop μ-loop (λ c. (omega arith, refl)) returns (λ c. search needs) (λ c. search needs) (λ c. search needs)
-    (λ c. search needs) returns-2 (λ c. search needs) (λ c. search needs) (λ c. search needs) loop-again returns-3)
+    tie.close (tie.spec Inv-loop μ-loop (λ c. (omega arith, refl))
+      (λ c. sym (c .before .before .loop .inv .1 ∙ past _ _ _ _ (c .before .loop-test .taken) (c .if1 .taken))) (λ c. search needs)
+      (λ c. search needs) (λ c. search needs) (λ c. search needs) returns-2 (λ c. search needs) (λ c. search needs) (λ c. search needs)
+      loop-again returns-3)

@@ -27,41 +27,17 @@ large : (c : tie.Else2) → le (fabs (c .before .before .before .before .args .x
 unfolding ofBits
 large c = subst (λ (v : Float). le v half ≡ false) (c .before .before .before .abs .ensures) (c .if2 .left)
 
-abs-requires : tie.Need-abs-requires
-abs-requires c κs = search needs
-
-widen-requires : tie.Need-widen-requires
-widen-requires c κs = search needs
-
-arc-requires : tie.Need-arc-requires
-arc-requires c κs = search needs
-
-narrow-requires : tie.Need-narrow-requires
-narrow-requires c κs = search needs
-
 returns : tie.Need-returns
 unfolding acos
 returns c =
     let t = c .before .before in
     rw (inside (t .before .before), small t) (c .narrow .ensures ∙ ap (λ (v : Float). narrow (sub binary64 halfPi v)) (c .before .arc .ensures ∙ ap arc (t .before .widen .ensures)))
 
-twice-arc-requires : tie.Need-twice-arc-requires
-twice-arc-requires c κs = search needs
-
-narrow-requires-2 : tie.Need-narrow-requires-2
-narrow-requires-2 c κs = search needs
-
 returns-2 : tie.Need-returns-2
 unfolding acos ofBits
 returns-2 c =
     let t = c .before .before in
     rw (inside (t .before .before .before), large (t .before), t .if3 .taken) (c .narrow2 .ensures ∙ ap narrow (c .before .twice-arc .ensures ∙ ap twiceArc (t .before .before .widen .ensures)))
-
-twice-arc-requires-2 : tie.Need-twice-arc-requires-2
-twice-arc-requires-2 c κs = search needs
-
-narrow-requires-3 : tie.Need-narrow-requires-3
-narrow-requires-3 c κs = search needs
 
 returns-3 : tie.Need-returns-3
 unfolding acos ofBits
@@ -74,4 +50,6 @@ unfolding acos div ofBits
 returns-4 c = rw (outside c)
 
 pub acos-spec : {M : Type 1} → statement M
-acos-spec = tie.close (tie.spec abs-requires widen-requires arc-requires narrow-requires returns twice-arc-requires narrow-requires-2 returns-2 twice-arc-requires-2 narrow-requires-3 returns-3 returns-4)
+acos-spec =
+    tie.close (tie.spec (λ c κs. search needs) (λ c κs. search needs) (λ c κs. search needs) (λ c κs. search needs) returns
+      (λ c κs. search needs) (λ c κs. search needs) returns-2 (λ c κs. search needs) (λ c κs. search needs) returns-3 returns-4)

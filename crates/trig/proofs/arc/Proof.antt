@@ -14,18 +14,6 @@ Inv-loop x z p₀ m₀ p m = (turns (arcStep z) m p ≡ turns (arcStep z) 16 one
 abbrev μ-loop : tie.MeasureT-loop
 μ-loop x z p₀ m₀ p m = m
 
-loop-holds : tie.Need-loop-holds Inv-loop μ-loop
-loop-holds c = (refl, omega arith)
-
-arc-step-requires : tie.Need-arc-step-requires Inv-loop μ-loop
-arc-step-requires c κs = omega arith
-
-sub-m : tie.Need-sub-m Inv-loop μ-loop
-sub-m c = omega arith
-
-loop-less : tie.Need-loop-less Inv-loop μ-loop
-loop-less c = omega arith
-
 loop-again : tie.Need-loop-again Inv-loop μ-loop
 loop-again c =
     let x = c .before .before .before .args .x in
@@ -42,4 +30,6 @@ returns c =
     ap (mul binary64 x) (sym (spent (arcStep z) (l .m) (l .p) (omega arith)) ∙ l .inv .0)
 
 pub arc-spec : {M : Type 1} → statement M
-arc-spec = tie.close (tie.spec Inv-loop μ-loop loop-holds arc-step-requires sub-m loop-less loop-again returns)
+arc-spec =
+    tie.close (tie.spec Inv-loop μ-loop (λ c. (refl, omega arith)) (λ c κs. omega arith) (λ c. omega arith) (λ c. omega arith) loop-again
+      returns)

@@ -31,32 +31,11 @@ large c = subst (λ (v : Float). le v half ≡ false) (c .before .before .abs .e
 magnitude : (c : tie.After-twice-arc) → c .twice-arc .result ≡ twiceArc (fabs (c .before .before .before .before .before .args .x))
 magnitude c = c .twice-arc .ensures ∙ ap twiceArc (c .before .widen2 .ensures ∙ c .before .before .before .before .abs .ensures)
 
-abs-requires : tie.Need-abs-requires
-abs-requires c κs = search needs
-
-widen-requires : tie.Need-widen-requires
-widen-requires c κs = search needs
-
-arc-requires : tie.Need-arc-requires
-arc-requires c κs = search needs
-
-narrow-requires : tie.Need-narrow-requires
-narrow-requires c κs = search needs
-
 returns : tie.Need-returns
 unfolding asin
 returns c =
     let t = c .before .before .before in
     rw (inside (t .before), small t) (c .narrow .ensures ∙ ap narrow (c .before .arc .ensures ∙ ap arc (c .before .before .widen .ensures)))
-
-widen-requires-2 : tie.Need-widen-requires-2
-widen-requires-2 c κs = search needs
-
-twice-arc-requires : tie.Need-twice-arc-requires
-twice-arc-requires c κs = search needs
-
-narrow-requires-2 : tie.Need-narrow-requires-2
-narrow-requires-2 c κs = search needs
 
 returns-2 : tie.Need-returns-2
 unfolding asin ofBits
@@ -64,9 +43,6 @@ returns-2 c =
     let t = c .before .before in
     let l = t .before .before in
     rw (inside (l .before), large l, c .before .if3 .taken) (c .narrow2 .ensures ∙ ap (λ (v : Float). narrow (neg (sub binary64 halfPi v))) (magnitude t))
-
-narrow-requires-3 : tie.Need-narrow-requires-3
-narrow-requires-3 c κs = search needs
 
 returns-3 : tie.Need-returns-3
 unfolding asin ofBits
@@ -80,4 +56,6 @@ unfolding asin div ofBits
 returns-4 c = rw (outside c)
 
 pub asin-spec : {M : Type 1} → statement M
-asin-spec = tie.close (tie.spec abs-requires widen-requires arc-requires narrow-requires returns widen-requires-2 twice-arc-requires narrow-requires-2 returns-2 narrow-requires-3 returns-3 returns-4)
+asin-spec =
+    tie.close (tie.spec (λ c κs. search needs) (λ c κs. search needs) (λ c κs. search needs) (λ c κs. search needs) returns
+      (λ c κs. search needs) (λ c κs. search needs) (λ c κs. search needs) returns-2 (λ c κs. search needs) returns-3 returns-4)

@@ -19,18 +19,6 @@ far : (c : tie.Else1) → le (fabs (c .before .before .args .x)) eight ≡ false
 unfolding ofBits
 far c = subst (λ (v : Float). le v eight ≡ false) (c .before .abs .ensures) (c .if1 .left)
 
-abs-requires : tie.Need-abs-requires
-abs-requires c κs = search needs
-
-widen-requires : tie.Need-widen-requires
-widen-requires c κs = search needs
-
-series-requires : tie.Need-series-requires
-series-requires c κs = search needs
-
-narrow-requires : tie.Need-narrow-requires
-narrow-requires c κs = search needs
-
 returns : tie.Need-returns
 unfolding cos
 returns c = rw (near (c .before .before .before)) (c .narrow .ensures ∙ ap narrow (c .before .series .ensures ∙ ap (λ (w : Float). series 1 (mul binary64 w w)) (c .before .before .widen .ensures)))
@@ -40,4 +28,5 @@ unfolding cos div ofBits
 returns-2 c = rw (far c)
 
 pub cos-spec : {M : Type 1} → statement M
-cos-spec = tie.close (tie.spec abs-requires widen-requires series-requires narrow-requires returns returns-2)
+cos-spec =
+    tie.close (tie.spec (λ c κs. search needs) (λ c κs. search needs) (λ c κs. search needs) (λ c κs. search needs) returns returns-2)

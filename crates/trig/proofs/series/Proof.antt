@@ -14,18 +14,6 @@ Inv-loop s z q₀ m₀ q m = (turns (seriesStep s z) m q ≡ turns (seriesStep s
 abbrev μ-loop : tie.MeasureT-loop
 μ-loop s z q₀ m₀ q m = m
 
-loop-holds : tie.Need-loop-holds Inv-loop μ-loop
-loop-holds c = (refl, omega arith)
-
-series-step-requires : tie.Need-series-step-requires Inv-loop μ-loop
-series-step-requires c κs = omega arith
-
-sub-m : tie.Need-sub-m Inv-loop μ-loop
-sub-m c = omega arith
-
-loop-less : tie.Need-loop-less Inv-loop μ-loop
-loop-less c = omega arith
-
 loop-again : tie.Need-loop-again Inv-loop μ-loop
 loop-again c =
     let a = c .before .before .before .args in
@@ -40,4 +28,6 @@ returns c =
     sym (spent (seriesStep (a .s) (a .z)) (l .m) (l .q) (omega arith)) ∙ l .inv .0
 
 pub series-spec : {M : Type 1} → statement M
-series-spec = tie.close (tie.spec Inv-loop μ-loop loop-holds series-step-requires sub-m loop-less loop-again returns)
+series-spec =
+    tie.close (tie.spec Inv-loop μ-loop (λ c. (refl, omega arith)) (λ c κs. omega arith) (λ c. omega arith) (λ c. omega arith) loop-again
+      returns)

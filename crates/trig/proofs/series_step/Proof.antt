@@ -8,29 +8,11 @@ use Rattle.trig.specs.Series.{seriesStep}
 use Rattle.trig.proofs.series_step.Statement.{statement}
 use Rattle.trig.proofs.series_step.Tie as tie
 
-mul-divisor : tie.Need-mul-divisor
-mul-divisor c = search needs
-
-sub-divisor : tie.Need-sub-divisor
-sub-divisor c = search needs
-
-mul-divisor-2 : tie.Need-mul-divisor-2
-mul-divisor-2 c = search needs
-
-add-divisor : tie.Need-add-divisor
-add-divisor c = search needs
-
-sub-divisor-2 : tie.Need-sub-divisor-2
-sub-divisor-2 c = search needs
-
 mul-divisor-3 : tie.Need-mul-divisor-3
 mul-divisor-3 c =
     let a : 2 * c .args .m - c .args .s ≤ 40 = omega arith in
     let b : 2 * c .args .m + 1 - c .args .s ≤ 41 = omega arith in
     omega (arith, mul-le-mul a b)
-
-int-to-float-divisor : tie.Need-int-to-float-divisor
-int-to-float-divisor c = search needs
 
 returns : tie.Need-returns
 unfolding seriesStep
@@ -38,5 +20,5 @@ returns c = refl
 
 pub series-step-spec : {M : Type 1} → statement M
 series-step-spec =
-    tie.close
-    (tie.spec mul-divisor sub-divisor mul-divisor-2 add-divisor sub-divisor-2 mul-divisor-3 int-to-float-divisor returns)
+    tie.close (tie.spec (λ c. search needs) (λ c. search needs) (λ c. search needs) (λ c. search needs) (λ c. search needs) mul-divisor-3
+      (λ c. search needs) returns)

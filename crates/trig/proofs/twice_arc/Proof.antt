@@ -7,15 +7,10 @@ use Rattle.trig.specs.Trig.{two, twiceArc}
 use Rattle.trig.proofs.twice_arc.Statement.{statement}
 use Rattle.trig.proofs.twice_arc.Tie as tie
 
-sqrt64-requires : tie.Need-sqrt64-requires
-sqrt64-requires c κs = search needs
-
-arc-requires : tie.Need-arc-requires
-arc-requires c κs = search needs
-
 returns : tie.Need-returns
 unfolding twiceArc
 returns c = ap (mul binary64 two) (c .arc .ensures ∙ ap arc (c .before .sqrt64 .ensures))
 
 pub twice-arc-spec : {M : Type 1} → statement M
-twice-arc-spec = tie.close (tie.spec sqrt64-requires arc-requires returns)
+twice-arc-spec =
+    tie.close (tie.spec (λ c κs. search needs) (λ c κs. search needs) returns)

@@ -7,15 +7,6 @@ use Rattle.ieee.specs.Patterns.{by-words}
 use Rattle.floats.proofs.narrow.narrow.Statement.{statement}
 use Rattle.floats.proofs.narrow.narrow.Tie as tie
 
-word-of-f64-requires : tie.Need-word-of-f64-requires
-word-of-f64-requires c κs = search needs
-
-narrow-word-requires : tie.Need-narrow-word-requires
-narrow-word-requires c κs = search needs
-
-f32-of-word-requires : tie.Need-f32-of-word-requires
-f32-of-word-requires c κs = search needs
-
 returns : tie.Need-returns
 returns c =
     let start = c .before .before .before in
@@ -24,4 +15,4 @@ returns c =
 
 pub narrow-spec : {M : Type 1} → statement M
 narrow-spec =
-    tie.close (tie.spec word-of-f64-requires narrow-word-requires f32-of-word-requires returns)
+    tie.close (tie.spec (λ c κs. search needs) (λ c κs. search needs) (λ c κs. search needs) returns)

@@ -18,8 +18,6 @@ returns : tie.Need-returns
 unfolding div ofBits
 returns c = sym (a-nan (c .before .args .x) (c .if1 .taken))
 
-returns-2 : tie.Need-returns-2
-returns-2 c = search needs
-
 pub widen-spec : {M : Type 1} → statement M
-widen-spec = tie.close (tie.spec float-to-float-result returns returns-2)
+widen-spec =
+    tie.close (tie.spec float-to-float-result returns (λ c. search needs))

@@ -22,29 +22,8 @@ same-end n low range h =
 square-fits : (k : ℕ) → k ≤ 2 ^ 27 → k * k < 2 ^ 64
 square-fits k h = omega (arith, mul-le-mul h h)
 
-loop-holds : tie.Need-loop-holds Inv-loop μ-loop
-loop-holds c = omega arith
-
-add-middle : tie.Need-add-middle Inv-loop μ-loop
-add-middle c = omega arith
-
-mul-if1 : tie.Need-mul-if1 Inv-loop μ-loop
-mul-if1 c = record { fits = square-fits (c .before .loop .low + c .before .loop .range / 2) (omega arith) }
-
-sub-range : tie.Need-sub-range Inv-loop μ-loop
-sub-range c = omega arith
-
-loop-less : tie.Need-loop-less Inv-loop μ-loop
-loop-less c = omega arith
-
 loop-again : tie.Need-loop-again Inv-loop μ-loop
 loop-again c = (c .if1 .taken, same-end (c .before .before .before .args .n) (c .before .before .loop .low) (c .before .before .loop .range) (c .before .before .loop .inv .1), omega arith, omega arith)
-
-loop-less-2 : tie.Need-loop-less-2 Inv-loop μ-loop
-loop-less-2 c = omega arith
-
-loop-again-2 : tie.Need-loop-again-2 Inv-loop μ-loop
-loop-again-2 c = (c .before .before .loop .inv .0, c .if1 .left, omega arith, omega arith)
 
 returns : tie.Need-returns Inv-loop μ-loop
 returns c =
@@ -53,4 +32,8 @@ returns c =
     root-unique (c .before .before .args .n) (at .low) (record { at-most = at .inv .0; below = subst (λ (z : ℕ). c .before .before .args .n < z * z) one (at .inv .1) })
 
 pub halving-root-spec : {M : Type 1} → statement M
-halving-root-spec = tie.close (tie.spec Inv-loop μ-loop loop-holds add-middle mul-if1 sub-range loop-less loop-again loop-less-2 loop-again-2 returns)
+halving-root-spec =
+    tie.close (tie.spec Inv-loop μ-loop (λ c. omega arith) (λ c. omega arith)
+      (λ c. record { fits = square-fits (c .before .loop .low + c .before .loop .range / 2) (omega arith) }) (λ c. omega arith)
+      (λ c. omega arith) loop-again (λ c. omega arith) (λ c. (c .before .before .loop .inv .0, c .if1 .left, omega arith, omega arith))
+      returns)

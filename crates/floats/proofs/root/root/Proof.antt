@@ -18,22 +18,10 @@ positive : (k n : ℕ) → n < k * k → 1 ≤ k
 positive zero n h = absurd (omega arith)
 positive (suc k) n h = omega arith
 
-guess-requires : tie.Need-guess-requires
-guess-requires c κs = search needs
-
-mul-square : tie.Need-mul-square
-mul-square c = omega (arith, square-fits (c .guess .result) (c .guess .ensures))
-
 returns : tie.Need-returns
 returns c =
     let q = c .before .before .guess .result in
     root-unique (c .before .before .before .args .n) q (record { at-most = c .before .if1 .taken; below = omega arith })
-
-sub-p : tie.Need-sub-p
-sub-p c = positive (c .before .guess .result) (c .before .before .args .n) (c .if1 .left)
-
-mul-if3 : tie.Need-mul-if3
-mul-if3 c = omega (arith, square-fits (c .before .guess .result - 1) (omega (arith, c .before .guess .ensures)))
 
 returns-2 : tie.Need-returns-2
 returns-2 c =
@@ -42,16 +30,9 @@ returns-2 c =
     let e : suc (q - 1) ≡ q = omega (arith, positive q n (c .before .if1 .left)) in
     root-unique n (q - 1) (record { at-most = c .if3 .taken; below = rw e (c .before .if1 .left) })
 
-mul-if2 : tie.Need-mul-if2
-mul-if2 c = search needs
-
-halving-root-requires : tie.Need-halving-root-requires
-halving-root-requires c κs = search needs
-
-returns-3 : tie.Need-returns-3
-returns-3 c = search needs
-
 pub root-spec : {M : Type 1} → statement M
 root-spec =
-    tie.close
-    (tie.spec guess-requires mul-square mul-if2 returns sub-p mul-if3 returns-2 halving-root-requires returns-3)
+    tie.close (tie.spec (λ c κs. search needs) (λ c. omega (arith, square-fits (c .guess .result) (c .guess .ensures))) (λ c. search needs)
+      returns (λ c. positive (c .before .guess .result) (c .before .before .args .n) (c .if1 .left))
+      (λ c. omega (arith, square-fits (c .before .guess .result - 1) (omega (arith, c .before .guess .ensures)))) returns-2
+      (λ c κs. search needs) (λ c. search needs))

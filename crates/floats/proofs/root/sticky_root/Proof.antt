@@ -13,26 +13,11 @@ found c = root-of (c .before .args .n) (c .root .result) (c .root .ensures)
 short : (c : tie.After-root) → c .root .result < 2 ^ 27
 short c = root-below (c .before .args .n) (c .root .result) (2 ^ 27) (found c) (c .before .pre)
 
-root-requires : tie.Need-root-requires
-root-requires c κs = search needs
-
-mul-if1 : tie.Need-mul-if1
-mul-if1 c = omega (arith, found c .at-most)
-
-mul-result : tie.Need-mul-result
-mul-result c = omega (arith, short (c .before))
-
-mul-result-2 : tie.Need-mul-result-2
-mul-result-2 c = omega (arith, short (c .before))
-
-add-result : tie.Need-add-result
-add-result c = omega (arith, short (c .before))
-
-returns : tie.Need-returns
-returns c = sticky-exact (c .before .before .args .n) (c .before .root .result) (c .if1 .taken)
-
 returns-2 : tie.Need-returns-2
 returns-2 c = sticky-rest (c .before .before .args .n) (c .before .root .result) (found (c .before)) (c .if1 .left)
 
 pub sticky-root-spec : {M : Type 1} → statement M
-sticky-root-spec = tie.close (tie.spec root-requires mul-if1 mul-result mul-result-2 add-result returns returns-2)
+sticky-root-spec =
+    tie.close (tie.spec (λ c κs. search needs) (λ c. omega (arith, found c .at-most)) (λ c. omega (arith, short (c .before)))
+      (λ c. omega (arith, short (c .before))) (λ c. omega (arith, short (c .before)))
+      (λ c. sticky-exact (c .before .before .args .n) (c .before .root .result) (c .if1 .taken)) returns-2)

@@ -41,57 +41,6 @@ halves c =
 wide : (c : tie.After-root) → 2 ^ 27 ≤ 2 * c .root .result
 wide c = omega (arith, halves c .from)
 
-root-requires : tie.Need-root-requires
-root-requires c κs = search needs
-
-mul-rest : tie.Need-mul-rest
-mul-rest c = omega (arith, halves c .upper .at-most)
-
-sub-rest : tie.Need-sub-rest
-sub-rest c = halves c .upper .at-most
-
-mul-rest-2 : tie.Need-mul-rest-2
-mul-rest-2 c = omega (arith, halves c .rest, halves c .to)
-
-mul-lower : tie.Need-mul-lower
-mul-lower c = omega (arith, halves c .to)
-
-div-lower : tie.Need-div-lower
-div-lower c = omega (arith, halves c .from)
-
-mul-over : tie.Need-mul-over
-mul-over c = omega (arith, halves c .to)
-
-rem-over : tie.Need-rem-over
-rem-over c = omega (arith, halves c .from)
-
-mul-over-2 : tie.Need-mul-over-2
-mul-over-2 c = omega (arith, halves c .over-to, halves c .to)
-
-mul-whole : tie.Need-mul-whole
-mul-whole c = omega (arith, halves c .to)
-
-add-whole : tie.Need-add-whole
-add-whole c = omega (arith, halves c .to, halves c .lower-to)
-
-mul-square : tie.Need-mul-square
-mul-square c = omega (arith, halves c .square-to)
-
-mul-result : tie.Need-mul-result
-mul-result c = omega (arith, halves (c .before) .to, halves (c .before) .lower-to)
-
-mul-result-2 : tie.Need-mul-result-2
-mul-result-2 c = omega (arith, halves (c .before .before) .to, halves (c .before .before) .lower-to)
-
-sub-result : tie.Need-sub-result
-sub-result c = omega (arith, halves (c .before .before) .from)
-
-mul-result-3 : tie.Need-mul-result-3
-mul-result-3 c = omega (arith, halves (c .before .before) .to, halves (c .before .before) .lower-to)
-
-add-result : tie.Need-add-result
-add-result c = omega (arith, halves (c .before .before) .to, halves (c .before .before) .lower-to)
-
 returns : tie.Need-returns
 unfolding lower over whole-root
 returns c = wide-exact (c .before .before .args .n) (c .before .root .result) (2 ^ 27) (halves (c .before) .upper) (wide (c .before)) (lit< tt) (c .if1 .taken)
@@ -110,25 +59,12 @@ returns-3 c =
 
 pub wide-sticky-root-spec : {M : Type 1} → statement M
 wide-sticky-root-spec =
-    tie.close
-    (tie.spec
-    root-requires
-    mul-rest
-    sub-rest
-    mul-rest-2
-    mul-lower
-    div-lower
-    mul-over
-    rem-over
-    mul-over-2
-    mul-whole
-    add-whole
-    mul-square
-    mul-result
-    mul-result-2
-    sub-result
-    mul-result-3
-    add-result
-    returns
-    returns-2
-    returns-3)
+    tie.close (tie.spec (λ c κs. search needs) (λ c. omega (arith, halves c .upper .at-most)) (λ c. halves c .upper .at-most)
+      (λ c. omega (arith, halves c .rest, halves c .to)) (λ c. omega (arith, halves c .to)) (λ c. omega (arith, halves c .from))
+      (λ c. omega (arith, halves c .to)) (λ c. omega (arith, halves c .from)) (λ c. omega (arith, halves c .over-to, halves c .to))
+      (λ c. omega (arith, halves c .to)) (λ c. omega (arith, halves c .to, halves c .lower-to)) (λ c. omega (arith, halves c .square-to))
+      (λ c. omega (arith, halves (c .before) .to, halves (c .before) .lower-to))
+      (λ c. omega (arith, halves (c .before .before) .to, halves (c .before .before) .lower-to))
+      (λ c. omega (arith, halves (c .before .before) .from))
+      (λ c. omega (arith, halves (c .before .before) .to, halves (c .before .before) .lower-to))
+      (λ c. omega (arith, halves (c .before .before) .to, halves (c .before .before) .lower-to)) returns returns-2 returns-3)

@@ -17,31 +17,8 @@ half c = one-shifted (c .args .gone - 1) 64 (omega arith)
 half-lt : (c : tie.Start) → 2 ^ (c .args .gone - 1) < 2 ^ 62
 half-lt c = pow-lt {i = c .args .gone - 1} {j = 62} (omega arith)
 
-sub-half : tie.Need-sub-half
-sub-half c = search needs
-
-shl-half : tie.Need-shl-half
-shl-half c = search needs
-
-sub-result : tie.Need-sub-result
-sub-result c = rw (half c) (pow-pos (c .args .gone - 1))
-
-add-result : tie.Need-add-result
-add-result c = rw (half c) (omega (arith, half-lt c))
-
-shr-result : tie.Need-shr-result
-shr-result c = search needs
-
-add-result-2 : tie.Need-add-result-2
-add-result-2 c = rw (half c) (omega (arith, half-lt c))
-
-shr-result-2 : tie.Need-shr-result-2
-shr-result-2 c = search needs
-
-returns : tie.Need-returns
-returns c = rw (half c) (closest-gone (c .args .a) (c .args .gone) (omega arith))
-
 pub shifted-to-even-spec : {M : Type 1} → statement M
 shifted-to-even-spec =
-    tie.close
-    (tie.spec sub-half shl-half sub-result add-result shr-result add-result-2 shr-result-2 returns)
+    tie.close (tie.spec (λ c. search needs) (λ c. search needs) (λ c. rw (half c) (pow-pos (c .args .gone - 1)))
+      (λ c. rw (half c) (omega (arith, half-lt c))) (λ c. search needs) (λ c. rw (half c) (omega (arith, half-lt c))) (λ c. search needs)
+      (λ c. rw (half c) (closest-gone (c .args .a) (c .args .gone) (omega arith))))

@@ -20,29 +20,11 @@ kept-le c =
     let s = c .before .before .normalised in
     rw (kept c) (root-kept binary32 2 (s .result .half) (s .result .digits) (s .ensures .1 .0) (s .ensures .1 .1 .0))
 
-normalised-requires : tie.Need-normalised-requires
-normalised-requires c κs = search needs
-
-sticky-root-requires : tie.Need-sticky-root-requires
-sticky-root-requires c κs = search needs
-
 shifted-to-even-requires : tie.Need-shifted-to-even-requires
 shifted-to-even-requires c κs =
     let s = c .before .normalised in
     let l : sticky (s .result .digits) < 2 ^ 28 = sticky-lt (s .result .digits) (2 ^ 27) (s .ensures .1 .1 .0) in
     (omega (arith, c .sticky-root .ensures), (lit≤ tt, lit≤ tt))
-
-add-result : tie.Need-add-result
-add-result c = search needs
-
-mul-result : tie.Need-mul-result
-mul-result c = search needs
-
-add-result-2 : tie.Need-add-result-2
-add-result-2 c = omega (arith, kept-le c)
-
-cast-result : tie.Need-cast-result
-cast-result c = omega (arith, kept-le c)
 
 returns : tie.Need-returns
 returns c =
@@ -53,13 +35,5 @@ returns c =
 
 pub digits-root-spec : {M : Type 1} → statement M
 digits-root-spec =
-    tie.close
-    (tie.spec
-    normalised-requires
-    sticky-root-requires
-    shifted-to-even-requires
-    add-result
-    mul-result
-    add-result-2
-    cast-result
-    returns)
+    tie.close (tie.spec (λ c κs. search needs) (λ c κs. search needs) shifted-to-even-requires (λ c. search needs) (λ c. search needs)
+      (λ c. omega (arith, kept-le c)) (λ c. omega (arith, kept-le c)) returns)

@@ -29,26 +29,11 @@ kept-le c =
     let s = c .before .before .normalised in
     rw (kept c) (root-kept binary64 0 (s .result .half - 27) (s .result .digits * 2 ^ 54) (from (s .result .digits) (s .ensures .1 .0)) (to (s .result .digits) (s .ensures .1 .1 .0)))
 
-normalised-requires : tie.Need-normalised-requires
-normalised-requires c κs = search needs
-
-wide-sticky-root-requires : tie.Need-wide-sticky-root-requires
-wide-sticky-root-requires c κs = search needs
-
 shifted-to-even-requires : tie.Need-shifted-to-even-requires
 shifted-to-even-requires c κs =
     let s = c .before .normalised in
     let l : sticky (s .result .digits * 2 ^ 54) < 2 ^ 55 = sticky-lt (s .result .digits * 2 ^ 54) (2 ^ 54) (to (s .result .digits) (s .ensures .1 .1 .0)) in
     (omega (arith, c .wide-sticky-root .ensures), (lit≤ tt, lit≤ tt))
-
-sub-result : tie.Need-sub-result
-sub-result c = search needs
-
-mul-result : tie.Need-mul-result
-mul-result c = search needs
-
-add-result : tie.Need-add-result
-add-result c = omega (arith, kept-le c)
 
 returns : tie.Need-returns
 returns c =
@@ -64,5 +49,5 @@ returns c =
 
 pub digits-root64-spec : {M : Type 1} → statement M
 digits-root64-spec =
-    tie.close
-    (tie.spec normalised-requires wide-sticky-root-requires shifted-to-even-requires sub-result mul-result add-result returns)
+    tie.close (tie.spec (λ c κs. search needs) (λ c κs. search needs) shifted-to-even-requires (λ c. search needs) (λ c. search needs)
+      (λ c. omega (arith, kept-le c)) returns)

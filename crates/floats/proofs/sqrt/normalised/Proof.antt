@@ -41,18 +41,6 @@ bounds c =
 twice-shifted : (c : tie.Start) → last c % 2 ^ 64 ≡ last c
 twice-shifted c = mod-eq-of-lt (lt-of-lt-of-le (bounds c .to) (lit≤ tt))
 
-sub-shift : tie.Need-sub-shift
-sub-shift c = found c .enough
-
-cast-shift : tie.Need-cast-shift
-cast-shift c = omega (arith, found c .few)
-
-shl-normal : tie.Need-shl-normal
-shl-normal c = omega (arith, found c .few)
-
-sub-exponent : tie.Need-sub-exponent
-sub-exponent c = omega (arith, found c .few)
-
 returns : tie.Need-returns
 returns c =
     let n = found c in
@@ -61,8 +49,7 @@ returns c =
     rw (shifted c, twice-shifted c)
     (normal-same (c .args .d) (shift c) (c .args .e) l, (b .from, (b .to, (omega arith, omega arith))))
 
-shl-t9 : tie.Need-shl-t9
-shl-t9 c = search needs
-
 pub normalised-spec : {M : Type 1} → statement M
-normalised-spec = tie.close (tie.spec sub-shift cast-shift shl-normal sub-exponent shl-t9 returns)
+normalised-spec =
+    tie.close (tie.spec (λ c. found c .enough) (λ c. omega (arith, found c .few)) (λ c. omega (arith, found c .few))
+      (λ c. omega (arith, found c .few)) (λ c. search needs) returns)

@@ -10,14 +10,6 @@ one-root : 0x3f80_0000 ≡ toBits binary32 (sqrt binary32 (ofBits binary32 0x3f8
 unfolding sqrt ofBits toBits
 one-root = refl
 
-sqrt-word-requires : tie.Need-sqrt-word-requires
-sqrt-word-requires c κs = search needs
-
-returns : tie.Need-returns
-returns c = rw (c .if1 .taken) one-root
-
-returns-2 : tie.Need-returns-2
-returns-2 c = search needs
-
 pub root-word-spec : {M : Type 1} → statement M
-root-word-spec = tie.close (tie.spec sqrt-word-requires returns returns-2)
+root-word-spec =
+    tie.close (tie.spec (λ c κs. search needs) (λ c. rw (c .if1 .taken) one-root) (λ c. search needs))

@@ -10,15 +10,6 @@ use Rattle.ieee.specs.SqrtWords.{sqrt-fits}
 use Rattle.floats.proofs.sqrt.sqrt.Statement.{statement}
 use Rattle.floats.proofs.sqrt.sqrt.Tie as tie
 
-word-of-f32-requires : tie.Need-word-of-f32-requires
-word-of-f32-requires c κs = search needs
-
-root-word-requires : tie.Need-root-word-requires
-root-word-requires c κs = search needs
-
-f32-of-word-requires : tie.Need-f32-of-word-requires
-f32-of-word-requires c κs = search needs
-
 returns : tie.Need-returns
 returns c =
     let start = c .before .before .before in
@@ -27,4 +18,5 @@ returns c =
     ∙ by-words binary32 binary32 (sqrt binary32) (start .args .x) (start .good .0 .1) (sqrt-fits binary32 (start .args .x) (subst T (sym (start .good .0 .1)) tt))
 
 pub sqrt-spec : {M : Type 1} → statement M
-sqrt-spec = tie.close (tie.spec word-of-f32-requires root-word-requires f32-of-word-requires returns)
+sqrt-spec =
+    tie.close (tie.spec (λ c κs. search needs) (λ c κs. search needs) (λ c κs. search needs) returns)

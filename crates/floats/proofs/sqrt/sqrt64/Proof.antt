@@ -10,15 +10,6 @@ use Rattle.ieee.specs.SqrtWords.{sqrt-fits}
 use Rattle.floats.proofs.sqrt.sqrt64.Statement.{statement}
 use Rattle.floats.proofs.sqrt.sqrt64.Tie as tie
 
-word-of-f64-requires : tie.Need-word-of-f64-requires
-word-of-f64-requires c κs = search needs
-
-sqrt64-word-requires : tie.Need-sqrt64-word-requires
-sqrt64-word-requires c κs = search needs
-
-f64-of-word-requires : tie.Need-f64-of-word-requires
-f64-of-word-requires c κs = search needs
-
 returns : tie.Need-returns
 returns c =
     let start = c .before .before .before in
@@ -27,4 +18,5 @@ returns c =
     ∙ by-words binary64 binary64 (sqrt binary64) (start .args .x) (start .good .0 .1) (sqrt-fits binary64 (start .args .x) (subst T (sym (start .good .0 .1)) tt))
 
 pub sqrt64-spec : {M : Type 1} → statement M
-sqrt64-spec = tie.close (tie.spec word-of-f64-requires sqrt64-word-requires f64-of-word-requires returns)
+sqrt64-spec =
+    tie.close (tie.spec (λ c κs. search needs) (λ c κs. search needs) (λ c κs. search needs) returns)

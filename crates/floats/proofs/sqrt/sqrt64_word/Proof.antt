@@ -12,32 +12,14 @@ use Rattle.floats.proofs.sqrt.sqrt64_word.Tie as tie
 above-zero : (w : ℕ) → (w % 2 ^ 63 ≡ 0 → ⊥) → 0 < w
 above-zero w h = omega arith
 
-returns : tie.Need-returns
-returns c = sqrt-zero binary64 (c .before .args .w) (omega arith) (c .if1 .taken)
-
 returns-2 : tie.Need-returns-2
 unfolding toBits
 returns-2 c = ap (toBits binary64) (sym (sqrt-none binary64 (c .before .before .args .w) (omega arith) (c .before .if1 .left) (c .if2 .taken)))
-
-returns-3 : tie.Need-returns-3
-returns-3 c = sqrt-infinite binary64 (c .before .before .before .args .w) (omega arith) (c .if3 .taken)
-
-digits-root64-requires : tie.Need-digits-root64-requires
-digits-root64-requires c κs = search needs
 
 returns-4 : tie.Need-returns-4
 returns-4 c =
     let w = c .before .before .before .before .before .args .w in
     c .digits-root64 .ensures ∙ sqrt-subnormal binary64 w (omega arith) (above-zero w (c .before .before .before .before .if1 .left)) (omega arith) (c .before .if4 .taken)
-
-add-digits-root64 : tie.Need-add-digits-root64
-add-digits-root64 c = search needs
-
-add-digits-root64-2 : tie.Need-add-digits-root64-2
-add-digits-root64-2 c = search needs
-
-digits-root64-requires-2 : tie.Need-digits-root64-requires-2
-digits-root64-requires-2 c κs = search needs
 
 returns-5 : tie.Need-returns-5
 returns-5 c =
@@ -46,5 +28,6 @@ returns-5 c =
 
 pub sqrt64-word-spec : {M : Type 1} → statement M
 sqrt64-word-spec =
-    tie.close
-    (tie.spec returns returns-2 returns-3 digits-root64-requires returns-4 add-digits-root64 add-digits-root64-2 digits-root64-requires-2 returns-5)
+    tie.close (tie.spec (λ c. sqrt-zero binary64 (c .before .args .w) (omega arith) (c .if1 .taken)) returns-2
+      (λ c. sqrt-infinite binary64 (c .before .before .before .args .w) (omega arith) (c .if3 .taken)) (λ c κs. search needs) returns-4
+      (λ c. search needs) (λ c. search needs) (λ c κs. search needs) returns-5)

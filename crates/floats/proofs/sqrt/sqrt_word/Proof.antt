@@ -12,38 +12,14 @@ use Rattle.floats.proofs.sqrt.sqrt_word.Tie as tie
 above-zero : (w : ℕ) → (w % 2 ^ 31 ≡ 0 → ⊥) → 0 < w
 above-zero w h = omega arith
 
-returns : tie.Need-returns
-returns c = sqrt-zero binary32 (c .before .args .w) (omega arith) (c .if1 .taken)
-
 returns-2 : tie.Need-returns-2
 unfolding toBits
 returns-2 c = ap (toBits binary32) (sym (sqrt-none binary32 (c .before .before .args .w) (omega arith) (c .before .if1 .left) (c .if2 .taken)))
-
-returns-3 : tie.Need-returns-3
-returns-3 c = sqrt-infinite binary32 (c .before .before .before .args .w) (omega arith) (c .if3 .taken)
-
-digits-root-requires : tie.Need-digits-root-requires
-digits-root-requires c κs = search needs
 
 returns-4 : tie.Need-returns-4
 returns-4 c =
     let w = c .before .before .before .before .before .args .w in
     c .digits-root .ensures ∙ sqrt-subnormal binary32 w (omega arith) (above-zero w (c .before .before .before .before .if1 .left)) (omega arith) (c .before .if4 .taken)
-
-add-digits-root : tie.Need-add-digits-root
-add-digits-root c = search needs
-
-cast-digits-root : tie.Need-cast-digits-root
-cast-digits-root c = search needs
-
-add-digits-root-2 : tie.Need-add-digits-root-2
-add-digits-root-2 c = search needs
-
-cast-digits-root-2 : tie.Need-cast-digits-root-2
-cast-digits-root-2 c = search needs
-
-digits-root-requires-2 : tie.Need-digits-root-requires-2
-digits-root-requires-2 c κs = search needs
 
 returns-5 : tie.Need-returns-5
 returns-5 c =
@@ -52,5 +28,6 @@ returns-5 c =
 
 pub sqrt-word-spec : {M : Type 1} → statement M
 sqrt-word-spec =
-    tie.close
-    (tie.spec returns returns-2 returns-3 digits-root-requires returns-4 add-digits-root cast-digits-root add-digits-root-2 cast-digits-root-2 digits-root-requires-2 returns-5)
+    tie.close (tie.spec (λ c. sqrt-zero binary32 (c .before .args .w) (omega arith) (c .if1 .taken)) returns-2
+      (λ c. sqrt-infinite binary32 (c .before .before .before .args .w) (omega arith) (c .if3 .taken)) (λ c κs. search needs) returns-4
+      (λ c. search needs) (λ c. search needs) (λ c. search needs) (λ c. search needs) (λ c κs. search needs) returns-5)

@@ -9,15 +9,6 @@ use Rattle.ieee.specs.WholeLaws.{ceil-fits, ceil-word}
 use Rattle.floats.proofs.whole.ceil.Statement.{statement}
 use Rattle.floats.proofs.whole.ceil.Tie as tie
 
-word-of-f32-requires : tie.Need-word-of-f32-requires
-word-of-f32-requires c κs = search needs
-
-next-whole-word-requires : tie.Need-next-whole-word-requires
-next-whole-word-requires c κs = search needs
-
-f32-of-word-requires : tie.Need-f32-of-word-requires
-f32-of-word-requires c κs = search needs
-
 returns : tie.Need-returns
 returns c =
     let start = c .before .before .before in
@@ -26,4 +17,5 @@ returns c =
     ∙ by-words binary32 binary32 (ceil binary32) (start .args .x) (start .good .0 .1) (ceil-fits binary32 (start .args .x))
 
 pub ceil-spec : {M : Type 1} → statement M
-ceil-spec = tie.close (tie.spec word-of-f32-requires next-whole-word-requires f32-of-word-requires returns)
+ceil-spec =
+    tie.close (tie.spec (λ c κs. search needs) (λ c κs. search needs) (λ c κs. search needs) returns)

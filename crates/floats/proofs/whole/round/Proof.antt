@@ -9,15 +9,6 @@ use Rattle.ieee.specs.WholeLaws.{roundAway-fits}
 use Rattle.floats.proofs.whole.round.Statement.{statement}
 use Rattle.floats.proofs.whole.round.Tie as tie
 
-word-of-f32-requires : tie.Need-word-of-f32-requires
-word-of-f32-requires c κs = search needs
-
-round-word-requires : tie.Need-round-word-requires
-round-word-requires c κs = search needs
-
-f32-of-word-requires : tie.Need-f32-of-word-requires
-f32-of-word-requires c κs = search needs
-
 returns : tie.Need-returns
 returns c =
     let start = c .before .before .before in
@@ -26,4 +17,5 @@ returns c =
     ∙ by-words binary32 binary32 (roundAway binary32) (start .args .x) (start .good .0 .1) (roundAway-fits binary32 (start .args .x))
 
 pub round-spec : {M : Type 1} → statement M
-round-spec = tie.close (tie.spec word-of-f32-requires round-word-requires f32-of-word-requires returns)
+round-spec =
+    tie.close (tie.spec (λ c κs. search needs) (λ c κs. search needs) (λ c κs. search needs) returns)

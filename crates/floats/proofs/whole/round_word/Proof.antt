@@ -21,56 +21,20 @@ returns : tie.Need-returns
 unfolding roundAway toBits
 returns c = rw (nan-bits binary32 (c .before .args .w) (c .if1 .taken))
 
-returns-2 : tie.Need-returns-2
-returns-2 c = roundAway-whole (c .before .before .args .w) (omega arith) (c .if2 .taken) (c .before .if1 .left)
-
-sub-sign : tie.Need-sub-sign
-sub-sign c = search needs
-
 returns-3 : tie.Need-returns-3
 returns-3 c = roundAway-none (c .before .before .before .before .args .w) (omega arith) (c .before .if3 .taken) (c .if4 .taken)
-
-add-result : tie.Need-add-result
-add-result c = search needs
 
 returns-4 : tie.Need-returns-4
 returns-4 c = roundAway-one (c .before .before .before .before .args .w) (omega arith) (c .before .if3 .taken) (c .if4 .left)
 
-sub-power : tie.Need-sub-power
-sub-power c = search needs
-
-power-requires : tie.Need-power-requires
-power-requires c κs = search needs
-
-add-b : tie.Need-add-b
-add-b c = search needs
-
-rem-result : tie.Need-rem-result
-rem-result c = part c .0
-
 sub-result : tie.Need-sub-result
 sub-result c = mod-le (c .before .before .before .before .args .w % 2 ^ 31 + c .power .result / 2) (c .power .result)
-
-add-result-2 : tie.Need-add-result-2
-add-result-2 c = omega (arith, part c)
 
 returns-5 : tie.Need-returns-5
 returns-5 c = rw (c .power .ensures) (roundAway-part (c .before .before .before .before .args .w) (omega arith) (c .before .if3 .left) (c .before .before .if2 .left))
 
 pub round-word-spec : {M : Type 1} → statement M
 round-word-spec =
-    tie.close
-    (tie.spec
-    returns
-    returns-2
-    sub-sign
-    returns-3
-    add-result
-    returns-4
-    sub-power
-    power-requires
-    add-b
-    rem-result
-    sub-result
-    add-result-2
-    returns-5)
+    tie.close (tie.spec returns (λ c. roundAway-whole (c .before .before .args .w) (omega arith) (c .if2 .taken) (c .before .if1 .left))
+      (λ c. search needs) returns-3 (λ c. search needs) returns-4 (λ c. search needs) (λ c κs. search needs) (λ c. search needs)
+      (λ c. part c .0) sub-result (λ c. omega (arith, part c)) returns-5)

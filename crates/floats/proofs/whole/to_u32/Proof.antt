@@ -9,12 +9,6 @@ use Rattle.ieee.specs.Whole.{toU32}
 use Rattle.floats.proofs.whole.to_u32.Statement.{statement}
 use Rattle.floats.proofs.whole.to_u32.Tie as tie
 
-word-of-f32-requires : tie.Need-word-of-f32-requires
-word-of-f32-requires c κs = search needs
-
-to-u32-word-requires : tie.Need-to-u32-word-requires
-to-u32-word-requires c κs = search needs
-
 returns : tie.Need-returns
 returns c =
     let start = c .before .before in
@@ -23,4 +17,5 @@ returns c =
     ∙ ap toU32 (ofBits-toBits binary32 (start .args .x) (subst T (sym (start .good .0 .1)) tt))
 
 pub to-u32-spec : {M : Type 1} → statement M
-to-u32-spec = tie.close (tie.spec word-of-f32-requires to-u32-word-requires returns)
+to-u32-spec =
+    tie.close (tie.spec (λ c κs. search needs) (λ c κs. search needs) returns)

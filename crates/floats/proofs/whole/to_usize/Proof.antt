@@ -9,12 +9,6 @@ use Rattle.ieee.specs.Whole.{toUsize}
 use Rattle.floats.proofs.whole.to_usize.Statement.{statement}
 use Rattle.floats.proofs.whole.to_usize.Tie as tie
 
-word-of-f32-requires : tie.Need-word-of-f32-requires
-word-of-f32-requires c κs = search needs
-
-to-usize-word-requires : tie.Need-to-usize-word-requires
-to-usize-word-requires c κs = search needs
-
 returns : tie.Need-returns
 returns c =
     let start = c .before .before in
@@ -23,4 +17,5 @@ returns c =
     ∙ ap toUsize (ofBits-toBits binary32 (start .args .x) (subst T (sym (start .good .0 .1)) tt))
 
 pub to-usize-spec : {M : Type 1} → statement M
-to-usize-spec = tie.close (tie.spec word-of-f32-requires to-usize-word-requires returns)
+to-usize-spec =
+    tie.close (tie.spec (λ c κs. search needs) (λ c κs. search needs) returns)

@@ -19,24 +19,6 @@ returns-3 : tie.Need-returns-3
 unfolding toUsize
 returns-3 c = cast-above (c .before .before .before .args .w) 64 (c .if3 .taken) (c .before .if2 .left)
 
-add-m : tie.Need-add-m
-add-m c = search needs
-
-cast-m : tie.Need-cast-m
-cast-m c = search needs
-
-cast-field : tie.Need-cast-field
-cast-field c = search needs
-
-sub-result : tie.Need-sub-result
-sub-result c = search needs
-
-shr-result : tie.Need-shr-result
-shr-result c = search needs
-
-shl-result : tie.Need-shl-result
-shl-result c = search needs
-
 returns-4 : tie.Need-returns-4
 unfolding toUsize
 returns-4 c = cast-part (c .before .before .before .before .args .w) 64 (lit≤ tt) (c .before .before .before .if1 .left) (omega arith)
@@ -47,4 +29,5 @@ returns-5 c = cast-shift (c .before .before .before .before .args .w) 64 (lit≤
 
 pub to-usize-word-spec : {M : Type 1} → statement M
 to-usize-word-spec =
-    tie.close (tie.spec returns returns-2 returns-3 add-m cast-m cast-field sub-result shr-result shl-result returns-4 returns-5)
+    tie.close (tie.spec returns returns-2 returns-3 (λ c. search needs) (λ c. search needs) (λ c. search needs) (λ c. search needs)
+      (λ c. search needs) (λ c. search needs) returns-4 returns-5)

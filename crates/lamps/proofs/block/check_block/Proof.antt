@@ -8,12 +8,6 @@ use Rattle.lamps.specs.Block.{blockCheck, blockWords}
 use Rattle.lamps.proofs.block.check_block.Statement.{statement}
 use Rattle.lamps.proofs.block.check_block.Tie as tie
 
-word-or-zero-requires : tie.Need-word-or-zero-requires
-word-or-zero-requires c κs = search needs
-
-cast-m : tie.Need-cast-m
-cast-m c = search needs
-
 returns : tie.Need-returns
 unfolding blockCheck
 returns c = rw (lt-ltb 4096 (getD (now (c .before .before .before .args .block)) 0 0) (omega (arith, c .before .word-or-zero .ensures)))
@@ -26,15 +20,6 @@ returns-2 c =
       le-ltb 4096 (getD (now (args .block)) 0 0) (omega (arith, c .before .before .word-or-zero .ensures)),
       lt-ltb 0x10_0000 (length (now (args .block))) (c .if2 .taken),
     )
-
-mul-if3 : tie.Need-mul-if3
-mul-if3 c = search needs
-
-add-if3 : tie.Need-add-if3
-add-if3 c = search needs
-
-check-records-requires : tie.Need-check-records-requires
-check-records-requires c κs = search needs
 
 returns-3 : tie.Need-returns-3
 unfolding blockCheck
@@ -59,14 +44,5 @@ returns-4 c =
 
 pub check-block-spec : {M : Type 1} → statement M
 check-block-spec =
-    tie.close
-    (tie.spec
-    word-or-zero-requires
-    cast-m
-    returns
-    returns-2
-    mul-if3
-    add-if3
-    check-records-requires
-    returns-3
-    returns-4)
+    tie.close (tie.spec (λ c κs. search needs) (λ c. search needs) returns returns-2 (λ c. search needs) (λ c. search needs)
+      (λ c κs. search needs) returns-3 returns-4)

@@ -21,47 +21,11 @@ loop-holds : tie.Need-loop-holds Inv-loop μ-loop
 unfolding below
 loop-holds c = (omega arith, refl, refl)
 
-mul-is-side : tie.Need-mul-is-side Inv-loop μ-loop
-mul-is-side c = omega (arith, c .before .before .before .pre)
-
-add-is-side : tie.Need-add-is-side Inv-loop μ-loop
-add-is-side c = omega (arith, c .before .before .before .pre)
-
-mul-is-side-2 : tie.Need-mul-is-side-2 Inv-loop μ-loop
-mul-is-side-2 c = omega (arith, c .before .before .before .pre)
-
-shared-slice-read-is-side : tie.Need-shared-slice-read-is-side Inv-loop μ-loop
-shared-slice-read-is-side c = omega (arith, c .before .before .before .before .pre)
-
-is-side-requires : tie.Need-is-side-requires Inv-loop μ-loop
-is-side-requires c κs = search needs
-
-mul-still-placed : tie.Need-mul-still-placed Inv-loop μ-loop
-mul-still-placed c = omega (arith, c .before .before .before .before .before .before .pre)
-
-add-still-placed : tie.Need-add-still-placed Inv-loop μ-loop
-add-still-placed c = omega (arith, c .before .before .before .before .before .before .pre)
-
-mul-still-placed-2 : tie.Need-mul-still-placed-2 Inv-loop μ-loop
-mul-still-placed-2 c = omega (arith, c .before .before .before .before .before .before .pre)
-
-shared-slice-read-still-placed : tie.Need-shared-slice-read-still-placed Inv-loop μ-loop
-shared-slice-read-still-placed c = omega (arith, c .before .before .before .before .before .before .before .pre)
-
-still-placed-requires : tie.Need-still-placed-requires Inv-loop μ-loop
-still-placed-requires c κs = search needs
-
 returns : tie.Need-returns Inv-loop μ-loop
 returns c =
     let args = c .before .before .before .before .before .before .args in
     let loop = c .before .before .before .before .loop in
     rw (below-false (sideAt (now (args .block))) (args .m) (loop .i) (omega arith) (sym (c .before .is-side .ensures) ∙ c .if1 .left))
-
-add-i : tie.Need-add-i Inv-loop μ-loop
-add-i c = omega arith
-
-loop-less : tie.Need-loop-less Inv-loop μ-loop
-loop-less c = omega arith
 
 loop-again : tie.Need-loop-again Inv-loop μ-loop
 loop-again c =
@@ -94,24 +58,11 @@ returns-3 c =
 
 pub check-records-spec : {M : Type 1} → statement M
 check-records-spec =
-    tie.close
-    (tie.spec
-    Inv-loop
-    μ-loop
-    loop-holds
-    mul-is-side
-    add-is-side
-    mul-is-side-2
-    shared-slice-read-is-side
-    is-side-requires
-    mul-still-placed
-    add-still-placed
-    mul-still-placed-2
-    shared-slice-read-still-placed
-    still-placed-requires
-    returns
-    add-i
-    loop-less
-    loop-again
-    returns-2
-    returns-3)
+    tie.close (tie.spec Inv-loop μ-loop loop-holds (λ c. omega (arith, c .before .before .before .pre))
+      (λ c. omega (arith, c .before .before .before .pre)) (λ c. omega (arith, c .before .before .before .pre))
+      (λ c. omega (arith, c .before .before .before .before .pre)) (λ c κs. search needs)
+      (λ c. omega (arith, c .before .before .before .before .before .before .pre))
+      (λ c. omega (arith, c .before .before .before .before .before .before .pre))
+      (λ c. omega (arith, c .before .before .before .before .before .before .pre))
+      (λ c. omega (arith, c .before .before .before .before .before .before .before .pre)) (λ c κs. search needs) returns (λ c. omega arith)
+      (λ c. omega arith) loop-again returns-2 returns-3)

@@ -16,12 +16,6 @@ use Rattle.lamps.specs.LampList.{lampList}
 use Rattle.lamps.proofs.build.build_light_bounds.Statement.{statement}
 use Rattle.lamps.proofs.build.build_light_bounds.Tie as tie
 
-check-list-requires : tie.Need-check-list-requires
-check-list-requires c κs = search needs
-
-enum-known-m : tie.Need-enum-known-m
-enum-known-m c = search needs
-
 mul-if1 : tie.Need-mul-if1
 mul-if1 c =
     let args = c .before .before .before .before .before .before .args in
@@ -44,12 +38,6 @@ write-block-requires c κs =
     let args = c .before .before .before .before .before .before .before .before .args in
     let (rs, read, n, is, limit) = list-counted (now (args .list)) (c .before .before .before .m .given .0 .0) (sym (c .before .before .before .before .before .check-list .ensures) ∙ ap counted (c .before .before .before .m .given .1)) in (omega arith, limit)
 
-enum-known-why : tie.Need-enum-known-why
-enum-known-why c = search needs
-
-same-length : tie.Need-same-length
-same-length c = search needs
-
 returns-2 : tie.Need-returns-2
 returns-2 c =
     let args = c .before .before .before .before .before .before .before .before .before .before .before .args in
@@ -69,15 +57,5 @@ returns-3 c =
 
 pub build-light-bounds-spec : {M : Type 1} → statement M
 build-light-bounds-spec =
-    tie.close
-    (tie.spec
-    check-list-requires
-    enum-known-m
-    mul-if1
-    add-if1
-    returns
-    write-block-requires
-    enum-known-why
-    same-length
-    returns-2
-    returns-3)
+    tie.close (tie.spec (λ c κs. search needs) (λ c. search needs) mul-if1 add-if1 returns write-block-requires (λ c. search needs)
+      (λ c. search needs) returns-2 returns-3)

@@ -30,32 +30,11 @@ loop-holds c =
     let args = c .before .args in
     ([], walked-none (lampAt (now (args .list))) (λ (r : Reading). r) (λ (r : Reading). r .next .at) (λ (end : ℕ). cond (eqb end (length (now (args .list)))) (given []) (refused 1)) (args .m) 1, refl)
 
-next-requires : tie.Need-next-requires Inv-loop μ-loop
-next-requires c κs = search needs
-
-enum-known-reading : tie.Need-enum-known-reading Inv-loop μ-loop
-enum-known-reading c = search needs
-
-handle-of-requires : tie.Need-handle-of-requires Inv-loop μ-loop
-handle-of-requires c κs = search needs
-
-still-placed-requires : tie.Need-still-placed-requires Inv-loop μ-loop
-still-placed-requires c κs = search needs
-
-enum-known-why : tie.Need-enum-known-why Inv-loop μ-loop
-enum-known-why c = search needs
-
 returns : tie.Need-returns Inv-loop μ-loop
 returns c =
     let args = c .before .before .before .before .before .before .before .args in
     let loop = c .before .before .before .before .before .loop in
     rw (placed-refused (now (args .list)) (loop .inv .1) (number (c .before .why .given .0 .0)) (omega arith) (sym (c .before .before .before .next .ensures) ∙ ap step (c .before .why .given .1)))
-
-add-i : tie.Need-add-i Inv-loop μ-loop
-add-i c = omega arith
-
-loop-less : tie.Need-loop-less Inv-loop μ-loop
-loop-less c = omega arith
 
 loop-again : tie.Need-loop-again Inv-loop μ-loop
 loop-again c =
@@ -87,20 +66,5 @@ returns-4 c = rw (placed-ragged (now (c .before .before .before .before .args .l
 
 pub check-lamps-spec : {M : Type 1} → statement M
 check-lamps-spec =
-    tie.close
-    (tie.spec
-    Inv-loop
-    μ-loop
-    loop-holds
-    next-requires
-    enum-known-reading
-    handle-of-requires
-    still-placed-requires
-    enum-known-why
-    returns
-    add-i
-    loop-less
-    loop-again
-    returns-2
-    returns-3
-    returns-4)
+    tie.close (tie.spec Inv-loop μ-loop loop-holds (λ c κs. search needs) (λ c. search needs) (λ c κs. search needs) (λ c κs. search needs)
+      (λ c. search needs) returns (λ c. omega arith) (λ c. omega arith) loop-again returns-2 returns-3 returns-4)

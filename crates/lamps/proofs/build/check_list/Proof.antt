@@ -9,12 +9,6 @@ use Rattle.lamps.specs.Walk.{placedLamps}
 use Rattle.lamps.proofs.build.check_list.Statement.{statement}
 use Rattle.lamps.proofs.build.check_list.Tie as tie
 
-word-or-zero-requires : tie.Need-word-or-zero-requires
-word-or-zero-requires c κs = search needs
-
-cast-m : tie.Need-cast-m
-cast-m c = search needs
-
 returns : tie.Need-returns
 unfolding lampList placedLamps
 returns c = rw (lt-ltb 4096 (getD (now (c .before .before .before .args .list)) 0 0) (omega (arith, c .before .word-or-zero .ensures)))
@@ -28,9 +22,6 @@ returns-2 c =
       lt-ltb 0x10_0000 (length (now (args .list))) (c .if2 .taken),
     )
 
-check-lamps-requires : tie.Need-check-lamps-requires
-check-lamps-requires c κs = search needs
-
 returns-3 : tie.Need-returns-3
 unfolding lampList placedLamps
 returns-3 c =
@@ -43,5 +34,4 @@ returns-3 c =
 
 pub check-list-spec : {M : Type 1} → statement M
 check-list-spec =
-    tie.close
-    (tie.spec word-or-zero-requires cast-m returns returns-2 check-lamps-requires returns-3)
+    tie.close (tie.spec (λ c κs. search needs) (λ c. search needs) returns returns-2 (λ c κs. search needs) returns-3)

@@ -5,27 +5,6 @@ use Rattle.lamps.specs.Walk.{nextBounds}
 use Rattle.lamps.proofs.build.next_bounds.Statement.{statement}
 use Rattle.lamps.proofs.build.next_bounds.Tie as tie
 
-next-requires : tie.Need-next-requires
-next-requires c κs = search needs
-
-enum-known-reading : tie.Need-enum-known-reading
-enum-known-reading c = search needs
-
-triangles-requires : tie.Need-triangles-requires
-triangles-requires c κs = search needs
-
-light-bounds-for-input-requires : tie.Need-light-bounds-for-input-requires
-light-bounds-for-input-requires c κs = search needs
-
-enum-known-record : tie.Need-enum-known-record
-enum-known-record c = search needs
-
-enum-known-why : tie.Need-enum-known-why
-enum-known-why c = search needs
-
-enum-known-why-2 : tie.Need-enum-known-why-2
-enum-known-why-2 c = search needs
-
 returns : tie.Need-returns
 unfolding nextBounds _then_
 returns c =
@@ -53,15 +32,5 @@ returns-3 c = rw (← c .before .before .before .next .ensures, c .before .why2 
 
 pub next-bounds-spec : {M : Type 1} → statement M
 next-bounds-spec =
-    tie.close
-    (tie.spec
-    next-requires
-    enum-known-reading
-    triangles-requires
-    light-bounds-for-input-requires
-    enum-known-record
-    enum-known-why
-    enum-known-why-2
-    returns
-    returns-2
-    returns-3)
+    tie.close (tie.spec (λ c κs. search needs) (λ c. search needs) (λ c κs. search needs) (λ c κs. search needs) (λ c. search needs)
+      (λ c. search needs) (λ c. search needs) returns returns-2 returns-3)

@@ -21,23 +21,11 @@ Inv-loop list m block₀ place₀ at₀ block place at = (done : List LightBound
 abbrev μ-loop : tie.MeasureT-loop
 μ-loop list m block₀ place₀ at₀ block place at = m - place
 
-cast-block : tie.Need-cast-block Inv-loop μ-loop
-cast-block c = omega (arith, c .before .before .pre .0, c .before .before .pre .1)
-
-slice-write-block : tie.Need-slice-write-block Inv-loop μ-loop
-slice-write-block c = omega (arith, c .before .before .pre .0, c .before .before .pre .1)
-
 loop-holds : tie.Need-loop-holds Inv-loop μ-loop
 loop-holds c =
     let args = c .before .before .args in
     let pre = c .before .before .pre in
     ([], walked-none (nextBounds (now (args .list))) (λ (p : Passed). p .bounds) (λ (p : Passed). p .past) (λ (end : ℕ). given []) (args .m) 1, packed-none (args .m) (now (args .block)) (omega (arith, pre .0)))
-
-next-bounds-requires : tie.Need-next-bounds-requires Inv-loop μ-loop
-next-bounds-requires c κs = search needs
-
-enum-known-record : tie.Need-enum-known-record Inv-loop μ-loop
-enum-known-record c = search needs
 
 cast-block-2 : tie.Need-cast-block-2 Inv-loop μ-loop
 cast-block-2 c =
@@ -88,12 +76,6 @@ add-write-record c =
     let args = c .before .before .before .before .before .before .before .before .before .args in
     omega (arith, pre .0, pre .1, loop .inv .2 .same, length-set (now (args .block)) 0 (args .m))
 
-write-record-requires : tie.Need-write-record-requires Inv-loop μ-loop
-write-record-requires c κs = search needs
-
-enum-known-why : tie.Need-enum-known-why Inv-loop μ-loop
-enum-known-why c = search needs
-
 mul-zero-words : tie.Need-mul-zero-words Inv-loop μ-loop
 mul-zero-words c =
     let pre = c .before .before .before .before .before .before .before .before .before .pre in
@@ -107,9 +89,6 @@ add-zero-words c =
     let loop = c .before .before .before .before .before .before .loop in
     let args = c .before .before .before .before .before .before .before .before .before .args in
     omega (arith, pre .0, pre .1, loop .inv .2 .same, length-set (now (args .block)) 0 (args .m))
-
-zero-words-requires : tie.Need-zero-words-requires Inv-loop μ-loop
-zero-words-requires c κs = search needs
 
 same-length : tie.Need-same-length Inv-loop μ-loop
 same-length c =
@@ -133,9 +112,6 @@ add-place c =
     let loop = c .before .before .before .before .before .before .before .before .before .loop in
     let args = c .before .before .before .before .before .before .before .before .before .before .before .before .args in
     omega (arith, pre .0, pre .1, loop .inv .2 .same, length-set (now (args .block)) 0 (args .m))
-
-loop-less : tie.Need-loop-less Inv-loop μ-loop
-loop-less c = omega arith
 
 loop-again : tie.Need-loop-again Inv-loop μ-loop
 loop-again c =
@@ -164,31 +140,8 @@ returns-2 c =
 
 pub write-block-spec : {M : Type 1} → statement M
 write-block-spec =
-    tie.close
-    (tie.spec
-    Inv-loop
-    μ-loop
-    cast-block
-    slice-write-block
-    loop-holds
-    next-bounds-requires
-    enum-known-record
-    cast-block-2
-    mul-block
-    add-block
-    mul-block-2
-    slice-write-block-2
-    mul-write-record
-    add-write-record
-    write-record-requires
-    enum-known-why
-    mul-zero-words
-    add-zero-words
-    zero-words-requires
-    same-length
-    returns
-    add-place
-    loop-less
-    loop-again
-    same-length-2
-    returns-2)
+    tie.close (tie.spec Inv-loop μ-loop (λ c. omega (arith, c .before .before .pre .0, c .before .before .pre .1))
+      (λ c. omega (arith, c .before .before .pre .0, c .before .before .pre .1)) loop-holds (λ c κs. search needs) (λ c. search needs)
+      cast-block-2 mul-block add-block mul-block-2 slice-write-block-2 mul-write-record add-write-record (λ c κs. search needs)
+      (λ c. search needs) mul-zero-words add-zero-words (λ c κs. search needs) same-length returns add-place (λ c. omega arith) loop-again
+      same-length-2 returns-2)

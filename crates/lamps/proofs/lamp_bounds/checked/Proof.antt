@@ -5,14 +5,8 @@ use Rattle.lamps.specs.LampBounds.{checked}
 use Rattle.lamps.proofs.lamp_bounds.checked.Statement.{statement}
 use Rattle.lamps.proofs.lamp_bounds.checked.Tie as tie
 
-validate-requires : tie.Need-validate-requires
-validate-requires c κs = search needs
-
 enum-told : tie.Need-enum-told
 enum-told c = search needs
-
-enum-known-why : tie.Need-enum-known-why
-enum-known-why c = search needs
 
 returns : tie.Need-returns
 unfolding checked _then_
@@ -23,4 +17,5 @@ unfolding checked _then_
 returns-2 c = rw (← c .before .before .before .validate .ensures, c .before .why .given .1)
 
 pub checked-spec : {M : Type 1} → statement M
-checked-spec = tie.close (tie.spec validate-requires enum-told enum-known-why returns returns-2)
+checked-spec =
+    tie.close (tie.spec (λ c κs. search needs) enum-told (λ c. search needs) returns returns-2)

@@ -6,18 +6,6 @@ use Rattle.lamps.specs.LampBounds.{facedRecord}
 use Rattle.lamps.proofs.lamp_bounds.faced_record.Statement.{statement}
 use Rattle.lamps.proofs.lamp_bounds.faced_record.Tie as tie
 
-normalize-requires : tie.Need-normalize-requires
-normalize-requires c κs = search needs
-
-enum-known-direction : tie.Need-enum-known-direction
-enum-known-direction c = search needs
-
-is-finite-vec-requires : tie.Need-is-finite-vec-requires
-is-finite-vec-requires c κs = search needs
-
-checked-requires : tie.Need-checked-requires
-checked-requires c κs = search needs
-
 returns : tie.Need-returns
 unfolding facedRecord _then_
 returns c = rw (
@@ -27,9 +15,6 @@ returns c = rw (
   c .before .if1 .taken,
   cos-half-pi,
 ) (c .checked .ensures)
-
-enum-known-why : tie.Need-enum-known-why
-enum-known-why c = search needs
 
 returns-2 : tie.Need-returns-2
 unfolding facedRecord _then_
@@ -46,13 +31,5 @@ returns-3 c = rw (← c .before .before .before .normalize .ensures, c .before .
 
 pub faced-record-spec : {M : Type 1} → statement M
 faced-record-spec =
-    tie.close
-    (tie.spec
-    normalize-requires
-    enum-known-direction
-    is-finite-vec-requires
-    checked-requires
-    returns
-    enum-known-why
-    returns-2
-    returns-3)
+    tie.close (tie.spec (λ c κs. search needs) (λ c. search needs) (λ c κs. search needs) (λ c κs. search needs) returns (λ c. search needs)
+      returns-2 returns-3)

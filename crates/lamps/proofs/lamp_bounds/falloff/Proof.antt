@@ -4,15 +4,6 @@ use Rattle.lamps.specs.LampBounds.{falloff}
 use Rattle.lamps.proofs.lamp_bounds.falloff.Statement.{statement}
 use Rattle.lamps.proofs.lamp_bounds.falloff.Tie as tie
 
-acos-requires : tie.Need-acos-requires
-acos-requires c κs = search needs
-
-acos-requires-2 : tie.Need-acos-requires-2
-acos-requires-2 c κs = search needs
-
-cos-requires : tie.Need-cos-requires
-cos-requires c κs = search needs
-
 returns : tie.Need-returns
 unfolding falloff
 returns c = rw (
@@ -39,4 +30,4 @@ returns-3 c = rw (← c .before .before .before .acos .ensures, ← c .before .b
 
 pub falloff-spec : {M : Type 1} → statement M
 falloff-spec =
-    tie.close (tie.spec acos-requires acos-requires-2 cos-requires returns returns-2 returns-3)
+    tie.close (tie.spec (λ c κs. search needs) (λ c κs. search needs) (λ c κs. search needs) returns returns-2 returns-3)

@@ -10,9 +10,6 @@ use Rattle.lamps.specs.LampBoundsLaws.{unionFrom-first, unionFrom-end}
 use Rattle.lamps.proofs.lamp_bounds.group_bounds.Statement.{statement}
 use Rattle.lamps.proofs.lamp_bounds.group_bounds.Tie as tie
 
-validate-emission-requires : tie.Need-validate-emission-requires
-validate-emission-requires c κs = search needs
-
 enum-told : tie.Need-enum-told
 enum-told c = search needs
 
@@ -25,24 +22,6 @@ returns c =
       c .before .enum-told .given .1,
       unionFrom-end (args .emission-max) (args .scale) (args .two-sided) (now (args .triangles)) 0 (length (now (args .triangles)) / 13) (refused 9) (c .if1 .taken),
     )
-
-triangle-at-requires : tie.Need-triangle-at-requires
-triangle-at-requires c κs = search needs
-
-triangle-record-requires : tie.Need-triangle-record-requires
-triangle-record-requires c κs = search needs
-
-enum-known-first : tie.Need-enum-known-first
-enum-known-first c = search needs
-
-union-rest-requires : tie.Need-union-rest-requires
-union-rest-requires c κs = search needs
-
-enum-known-why : tie.Need-enum-known-why
-enum-known-why c = search needs
-
-enum-known-why-2 : tie.Need-enum-known-why-2
-enum-known-why-2 c = search needs
 
 returns-2 : tie.Need-returns-2
 unfolding groupBounds _then_
@@ -76,17 +55,5 @@ returns-4 c = rw (← c .before .before .before .validate-emission .ensures, c .
 
 pub group-bounds-spec : {M : Type 1} → statement M
 group-bounds-spec =
-    tie.close
-    (tie.spec
-    validate-emission-requires
-    enum-told
-    returns
-    triangle-at-requires
-    triangle-record-requires
-    enum-known-first
-    union-rest-requires
-    enum-known-why
-    enum-known-why-2
-    returns-2
-    returns-3
-    returns-4)
+    tie.close (tie.spec (λ c κs. search needs) enum-told returns (λ c κs. search needs) (λ c κs. search needs) (λ c. search needs)
+      (λ c κs. search needs) (λ c. search needs) (λ c. search needs) returns-2 returns-3 returns-4)

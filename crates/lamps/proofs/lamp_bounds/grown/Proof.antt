@@ -4,24 +4,6 @@ use Rattle.words.specs.Answers.{_then_}
 use Rattle.lamps.proofs.lamp_bounds.grown.Statement.{statement}
 use Rattle.lamps.proofs.lamp_bounds.grown.Tie as tie
 
-triangle-record-requires : tie.Need-triangle-record-requires
-triangle-record-requires c κs = search needs
-
-enum-known-current : tie.Need-enum-known-current
-enum-known-current c = search needs
-
-union-requires : tie.Need-union-requires
-union-requires c κs = search needs
-
-enum-known-record : tie.Need-enum-known-record
-enum-known-record c = search needs
-
-enum-known-why : tie.Need-enum-known-why
-enum-known-why c = search needs
-
-enum-known-why-2 : tie.Need-enum-known-why-2
-enum-known-why-2 c = search needs
-
 returns : tie.Need-returns
 unfolding _then_
 returns c = rw (
@@ -46,14 +28,5 @@ returns-3 c = rw (← c .before .before .before .triangle-record .ensures, c .be
 
 pub grown-spec : {M : Type 1} → statement M
 grown-spec =
-    tie.close
-    (tie.spec
-    triangle-record-requires
-    enum-known-current
-    union-requires
-    enum-known-record
-    enum-known-why
-    enum-known-why-2
-    returns
-    returns-2
-    returns-3)
+    tie.close (tie.spec (λ c κs. search needs) (λ c. search needs) (λ c κs. search needs) (λ c. search needs) (λ c. search needs)
+      (λ c. search needs) returns returns-2 returns-3)

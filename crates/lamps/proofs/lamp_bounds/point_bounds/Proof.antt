@@ -6,29 +6,8 @@ use Rattle.lamps.specs.LampBounds.{pointBounds}
 use Rattle.lamps.proofs.lamp_bounds.point_bounds.Statement.{statement}
 use Rattle.lamps.proofs.lamp_bounds.point_bounds.Tie as tie
 
-validate-emission-requires : tie.Need-validate-emission-requires
-validate-emission-requires c κs = search needs
-
 enum-told : tie.Need-enum-told
 enum-told c = search needs
-
-check-requires : tie.Need-check-requires
-check-requires c κs = search needs
-
-enum-told-2 : tie.Need-enum-told-2
-enum-told-2 c = search needs
-
-point-phi-requires : tie.Need-point-phi-requires
-point-phi-requires c κs = search needs
-
-checked-requires : tie.Need-checked-requires
-checked-requires c κs = search needs
-
-enum-known-why : tie.Need-enum-known-why
-enum-known-why c = search needs
-
-enum-known-why-2 : tie.Need-enum-known-why-2
-enum-known-why-2 c = search needs
 
 returns : tie.Need-returns
 unfolding pointBounds _then_
@@ -58,16 +37,5 @@ returns-3 c = rw (← c .before .before .before .validate-emission .ensures, c .
 
 pub point-bounds-spec : {M : Type 1} → statement M
 point-bounds-spec =
-    tie.close
-    (tie.spec
-    validate-emission-requires
-    enum-told
-    check-requires
-    enum-told-2
-    point-phi-requires
-    checked-requires
-    enum-known-why
-    enum-known-why-2
-    returns
-    returns-2
-    returns-3)
+    tie.close (tie.spec (λ c κs. search needs) enum-told (λ c κs. search needs) (λ c. search needs) (λ c κs. search needs)
+      (λ c κs. search needs) (λ c. search needs) (λ c. search needs) returns returns-2 returns-3)

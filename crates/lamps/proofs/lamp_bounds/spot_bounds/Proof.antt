@@ -5,23 +5,8 @@ use Rattle.lamps.specs.LampBounds.{spotBounds}
 use Rattle.lamps.proofs.lamp_bounds.spot_bounds.Statement.{statement}
 use Rattle.lamps.proofs.lamp_bounds.spot_bounds.Tie as tie
 
-validate-emission-requires : tie.Need-validate-emission-requires
-validate-emission-requires c κs = search needs
-
 enum-told : tie.Need-enum-told
 enum-told c = search needs
-
-is-cosine-requires : tie.Need-is-cosine-requires
-is-cosine-requires c κs = search needs
-
-is-cosine-requires-2 : tie.Need-is-cosine-requires-2
-is-cosine-requires-2 c κs = search needs
-
-point-phi-requires : tie.Need-point-phi-requires
-point-phi-requires c κs = search needs
-
-spot-record-requires : tie.Need-spot-record-requires
-spot-record-requires c κs = search needs
 
 returns : tie.Need-returns
 unfolding spotBounds _then_
@@ -35,9 +20,6 @@ returns c =
       c .before .before .if2 .taken,
       ← c .before .point-phi .ensures,
     ) (c .spot-record .ensures)
-
-enum-known-why : tie.Need-enum-known-why
-enum-known-why c = search needs
 
 returns-2 : tie.Need-returns-2
 unfolding spotBounds _then_
@@ -65,16 +47,5 @@ returns-4 c = rw (← c .before .before .before .validate-emission .ensures, c .
 
 pub spot-bounds-spec : {M : Type 1} → statement M
 spot-bounds-spec =
-    tie.close
-    (tie.spec
-    validate-emission-requires
-    enum-told
-    is-cosine-requires
-    is-cosine-requires-2
-    point-phi-requires
-    spot-record-requires
-    returns
-    enum-known-why
-    returns-2
-    returns-3
-    returns-4)
+    tie.close (tie.spec (λ c κs. search needs) enum-told (λ c κs. search needs) (λ c κs. search needs) (λ c κs. search needs)
+      (λ c κs. search needs) returns (λ c. search needs) returns-2 returns-3 returns-4)

@@ -5,17 +5,8 @@ use Rattle.lamps.specs.LampBounds.{triangleRecord}
 use Rattle.lamps.proofs.lamp_bounds.triangle_record.Statement.{statement}
 use Rattle.lamps.proofs.lamp_bounds.triangle_record.Tie as tie
 
-triangle-bounds-requires : tie.Need-triangle-bounds-requires
-triangle-bounds-requires c κs = search needs
-
-check-requires : tie.Need-check-requires
-check-requires c κs = search needs
-
 enum-told : tie.Need-enum-told
 enum-told c = search needs
-
-is-finite-requires : tie.Need-is-finite-requires
-is-finite-requires c κs = search needs
 
 returns : tie.Need-returns
 unfolding triangleRecord _then_
@@ -27,12 +18,6 @@ returns c = rw (
   c .before .before .if1 .taken,
   c .if2 .taken,
 )
-
-group-phi-requires : tie.Need-group-phi-requires
-group-phi-requires c κs = search needs
-
-faced-record-requires : tie.Need-faced-record-requires
-faced-record-requires c κs = search needs
 
 returns-2 : tie.Need-returns-2
 unfolding triangleRecord _then_
@@ -46,9 +31,6 @@ returns-2 c =
       c .before .before .if2 .left,
       ← c .before .group-phi .ensures,
     ) (c .faced-record .ensures)
-
-enum-known-why : tie.Need-enum-known-why
-enum-known-why c = search needs
 
 returns-3 : tie.Need-returns-3
 unfolding triangleRecord _then_
@@ -66,16 +48,5 @@ returns-4 c = rw (← c .before .before .before .before .triangle-bounds .ensure
 
 pub triangle-record-spec : {M : Type 1} → statement M
 triangle-record-spec =
-    tie.close
-    (tie.spec
-    triangle-bounds-requires
-    check-requires
-    enum-told
-    is-finite-requires
-    returns
-    group-phi-requires
-    faced-record-requires
-    returns-2
-    enum-known-why
-    returns-3
-    returns-4)
+    tie.close (tie.spec (λ c κs. search needs) (λ c κs. search needs) enum-told (λ c κs. search needs) returns (λ c κs. search needs)
+      (λ c κs. search needs) returns-2 (λ c. search needs) returns-3 returns-4)

@@ -16,24 +16,6 @@ Inv-loop emission-max scale two-sided triangles n result₀ k₀ result k = (1 �
 abbrev μ-loop : tie.MeasureT-loop
 μ-loop emission-max scale two-sided triangles n result₀ k₀ result k = n - k
 
-loop-holds : tie.Need-loop-holds Inv-loop μ-loop
-loop-holds c = (omega arith, omega arith, refl)
-
-mul-triangle-at : tie.Need-mul-triangle-at Inv-loop μ-loop
-mul-triangle-at c = omega arith
-
-triangle-at-requires : tie.Need-triangle-at-requires Inv-loop μ-loop
-triangle-at-requires c κs = search needs
-
-grown-requires : tie.Need-grown-requires Inv-loop μ-loop
-grown-requires c κs = search needs
-
-enum-known-record : tie.Need-enum-known-record Inv-loop μ-loop
-enum-known-record c = search needs
-
-enum-known-why : tie.Need-enum-known-why Inv-loop μ-loop
-enum-known-why c = search needs
-
 returns : tie.Need-returns Inv-loop μ-loop
 unfolding _then_
 returns c =
@@ -46,12 +28,6 @@ returns c =
       ← c .before .before .before .grown .ensures,
       c .before .why .given .1,
     )
-
-add-k : tie.Need-add-k Inv-loop μ-loop
-add-k c = search needs
-
-loop-less : tie.Need-loop-less Inv-loop μ-loop
-loop-less c = omega arith
 
 loop-again : tie.Need-loop-again Inv-loop μ-loop
 unfolding _then_
@@ -81,18 +57,5 @@ returns-2 c =
 
 pub union-rest-spec : {M : Type 1} → statement M
 union-rest-spec =
-    tie.close
-    (tie.spec
-    Inv-loop
-    μ-loop
-    loop-holds
-    mul-triangle-at
-    triangle-at-requires
-    grown-requires
-    enum-known-record
-    enum-known-why
-    returns
-    add-k
-    loop-less
-    loop-again
-    returns-2)
+    tie.close (tie.spec Inv-loop μ-loop (λ c. (omega arith, omega arith, refl)) (λ c. omega arith) (λ c κs. search needs)
+      (λ c κs. search needs) (λ c. search needs) (λ c. search needs) returns (λ c. search needs) (λ c. omega arith) loop-again returns-2)

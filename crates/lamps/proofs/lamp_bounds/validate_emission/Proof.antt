@@ -4,12 +4,6 @@ use Rattle.lamps.specs.LampBounds.{validateEmission}
 use Rattle.lamps.proofs.lamp_bounds.validate_emission.Statement.{statement}
 use Rattle.lamps.proofs.lamp_bounds.validate_emission.Tie as tie
 
-is-finite-requires : tie.Need-is-finite-requires
-is-finite-requires c κs = search needs
-
-is-finite-requires-2 : tie.Need-is-finite-requires-2
-is-finite-requires-2 c κs = search needs
-
 returns : tie.Need-returns
 unfolding validateEmission
 returns c = rw (
@@ -52,12 +46,4 @@ returns-5 c = rw (← c .before .is-finite .ensures, c .if1 .left)
 
 pub validate-emission-spec : {M : Type 1} → statement M
 validate-emission-spec =
-    tie.close
-    (tie.spec
-    is-finite-requires
-    is-finite-requires-2
-    returns
-    returns-2
-    returns-3
-    returns-4
-    returns-5)
+    tie.close (tie.spec (λ c κs. search needs) (λ c κs. search needs) returns returns-2 returns-3 returns-4 returns-5)

@@ -9,4 +9,5 @@ unfolding centroid
 returns c = refl
 
 pub centroid-spec : {M : Type 1} → statement M
-centroid-spec = tie.close (tie.spec returns)
+centroid-spec =
+    tie.close (tie.spec returns)

@@ -13,15 +13,9 @@ low c = sym (c .is-finite-vec .ensures)
 high : (c : tie.After-is-finite-vec2) → finiteVec (c .before .before .before .args .b .max) ≡ c .is-finite-vec2 .result
 high c = sym (c .is-finite-vec2 .ensures)
 
-is-finite-vec-requires : tie.Need-is-finite-vec-requires
-is-finite-vec-requires c κs = search needs
-
 returns : tie.Need-returns
 unfolding boxCheck
 returns c = rw (low (c .before), not-true (c .before .is-finite-vec .result) (c .if1 .taken))
-
-is-finite-vec-requires-2 : tie.Need-is-finite-vec-requires-2
-is-finite-vec-requires-2 c κs = search needs
 
 returns-2 : tie.Need-returns-2
 unfolding boxCheck
@@ -45,13 +39,4 @@ returns-6 c = rw (low (c .before .before .before .before .before .before .before
 
 pub check-spec : {M : Type 1} → statement M
 check-spec =
-    tie.close
-    (tie.spec
-    is-finite-vec-requires
-    returns
-    is-finite-vec-requires-2
-    returns-2
-    returns-3
-    returns-4
-    returns-5
-    returns-6)
+    tie.close (tie.spec (λ c κs. search needs) returns (λ c κs. search needs) returns-2 returns-3 returns-4 returns-5 returns-6)

@@ -4,18 +4,10 @@ use borrow.Author.Needs.{needs}
 use Rattle.light_bounds.proofs.bounds.greater.Statement.{statement}
 use Rattle.light_bounds.proofs.bounds.greater.Tie as tie
 
-max-requires : tie.Need-max-requires
-max-requires c κs = search needs
-
-max-requires-2 : tie.Need-max-requires-2
-max-requires-2 c κs = search needs
-
-max-requires-3 : tie.Need-max-requires-3
-max-requires-3 c κs = search needs
-
 returns : tie.Need-returns
 unfolding greatestOf
 returns c = λ i. record { x = c .before .before .max .ensures i; y = c .before .max2 .ensures i; z = c .max3 .ensures i }
 
 pub greater-spec : {M : Type 1} → statement M
-greater-spec = tie.close (tie.spec max-requires max-requires-2 max-requires-3 returns)
+greater-spec =
+    tie.close (tie.spec (λ c κs. search needs) (λ c κs. search needs) (λ c κs. search needs) returns)

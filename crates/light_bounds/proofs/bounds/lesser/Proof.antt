@@ -4,18 +4,10 @@ use borrow.Author.Needs.{needs}
 use Rattle.light_bounds.proofs.bounds.lesser.Statement.{statement}
 use Rattle.light_bounds.proofs.bounds.lesser.Tie as tie
 
-min-requires : tie.Need-min-requires
-min-requires c κs = search needs
-
-min-requires-2 : tie.Need-min-requires-2
-min-requires-2 c κs = search needs
-
-min-requires-3 : tie.Need-min-requires-3
-min-requires-3 c κs = search needs
-
 returns : tie.Need-returns
 unfolding leastOf
 returns c = λ i. record { x = c .before .before .min .ensures i; y = c .before .min2 .ensures i; z = c .min3 .ensures i }
 
 pub lesser-spec : {M : Type 1} → statement M
-lesser-spec = tie.close (tie.spec min-requires min-requires-2 min-requires-3 returns)
+lesser-spec =
+    tie.close (tie.spec (λ c κs. search needs) (λ c κs. search needs) (λ c κs. search needs) returns)

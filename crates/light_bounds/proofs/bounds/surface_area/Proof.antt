@@ -7,12 +7,10 @@ use borrow.Author.Needs.{needs}
 use Rattle.light_bounds.proofs.bounds.surface_area.Statement.{statement}
 use Rattle.light_bounds.proofs.bounds.surface_area.Tie as tie
 
-diagonal-requires : tie.Need-diagonal-requires
-diagonal-requires c κs = search needs
-
 returns : tie.Need-returns
 unfolding surfaceArea
 returns c = ap (λ (d : Vec3). two ⊗ (d .x ⊗ d .y ⊕ d .y ⊗ d .z ⊕ d .z ⊗ d .x)) (c .before .before .before .diagonal .ensures)
 
 pub surface-area-spec : {M : Type 1} → statement M
-surface-area-spec = tie.close (tie.spec diagonal-requires returns)
+surface-area-spec =
+    tie.close (tie.spec (λ c κs. search needs) returns)

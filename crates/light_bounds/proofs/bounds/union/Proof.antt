@@ -4,15 +4,10 @@ use borrow.Author.Needs.{needs}
 use Rattle.light_bounds.proofs.bounds.union.Statement.{statement}
 use Rattle.light_bounds.proofs.bounds.union.Tie as tie
 
-lesser-requires : tie.Need-lesser-requires
-lesser-requires c κs = search needs
-
-greater-requires : tie.Need-greater-requires
-greater-requires c κs = search needs
-
 returns : tie.Need-returns
 unfolding boxUnion
 returns c = λ i. record { min = c .before .lesser .ensures i; max = c .greater .ensures i }
 
 pub union-spec : {M : Type 1} → statement M
-union-spec = tie.close (tie.spec lesser-requires greater-requires returns)
+union-spec =
+    tie.close (tie.spec (λ c κs. search needs) (λ c κs. search needs) returns)

@@ -12,4 +12,5 @@ unfolding cosSubClamped
 returns-2 c = rw (c .if1 .left)
 
 pub cos-sub-clamped-spec : {M : Type 1} → statement M
-cos-sub-clamped-spec = tie.close (tie.spec returns returns-2)
+cos-sub-clamped-spec =
+    tie.close (tie.spec returns returns-2)

@@ -9,4 +9,5 @@ unfolding neg ofBits
 returns c = refl
 
 pub everywhere-spec : {M : Type 1} → statement M
-everywhere-spec = tie.close (tie.spec returns)
+everywhere-spec =
+    tie.close (tie.spec returns)

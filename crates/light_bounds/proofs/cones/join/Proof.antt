@@ -11,37 +11,13 @@ use Rattle.light_bounds.proofs.cones.join.Tie as tie
 parallel : (c : tie.After-dot) → (let s = c .before .before .before .args in dot (cross (s .a) (s .b)) (cross (s .a) (s .b))) ≡ c .dot .result
 parallel c = sym (c .dot .ensures ∙ ap (λ (v : Vec3). dot v v) (c .before .cross .ensures))
 
-everywhere-requires : tie.Need-everywhere-requires
-everywhere-requires c κs = search needs
-
 returns : tie.Need-returns
 unfolding joined
 returns c = rw (c .before .if1 .taken) (c .everywhere .ensures)
 
-cross-requires : tie.Need-cross-requires
-cross-requires c κs = search needs
-
-dot-requires : tie.Need-dot-requires
-dot-requires c κs = search needs
-
-everywhere-requires-2 : tie.Need-everywhere-requires-2
-everywhere-requires-2 c κs = search needs
-
 returns-2 : tie.Need-returns-2
 unfolding joined
 returns-2 c = rw (c .before .before .before .before .if1 .left, parallel (c .before .before), c .before .if2 .taken) (c .everywhere2 .ensures)
-
-normalize-requires : tie.Need-normalize-requires
-normalize-requires c κs = search needs
-
-unit-or-z-requires : tie.Need-unit-or-z-requires
-unit-or-z-requires c κs = search needs
-
-rotate-requires : tie.Need-rotate-requires
-rotate-requires c κs = search needs
-
-cos-requires : tie.Need-cos-requires
-cos-requires c κs = search needs
 
 returns-3 : tie.Need-returns-3
 unfolding joined
@@ -52,16 +28,5 @@ returns-3 c =
 
 pub join-spec : {M : Type 1} → statement M
 join-spec =
-    tie.close
-    (tie.spec
-    everywhere-requires
-    returns
-    cross-requires
-    dot-requires
-    everywhere-requires-2
-    returns-2
-    normalize-requires
-    unit-or-z-requires
-    rotate-requires
-    cos-requires
-    returns-3)
+    tie.close (tie.spec (λ c κs. search needs) returns (λ c κs. search needs) (λ c κs. search needs) (λ c κs. search needs) returns-2
+      (λ c κs. search needs) (λ c κs. search needs) (λ c κs. search needs) (λ c κs. search needs) returns-3)

@@ -7,15 +7,10 @@ use borrow.Author.Needs.{needs}
 use Rattle.light_bounds.proofs.cones.safe_sqrt.Statement.{statement}
 use Rattle.light_bounds.proofs.cones.safe_sqrt.Tie as tie
 
-max-requires : tie.Need-max-requires
-max-requires c κs = search needs
-
-sqrt-requires : tie.Need-sqrt-requires
-sqrt-requires c κs = search needs
-
 returns : tie.Need-returns
 unfolding safeSqrt
 returns c = c .sqrt .ensures ∙ ap (sqrt binary32) (c .before .max .ensures)
 
 pub safe-sqrt-spec : {M : Type 1} → statement M
-safe-sqrt-spec = tie.close (tie.spec max-requires sqrt-requires returns)
+safe-sqrt-spec =
+    tie.close (tie.spec (λ c κs. search needs) (λ c κs. search needs) returns)

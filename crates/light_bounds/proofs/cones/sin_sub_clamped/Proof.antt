@@ -12,4 +12,5 @@ unfolding sinSubClamped
 returns-2 c = rw (c .if1 .left)
 
 pub sin-sub-clamped-spec : {M : Type 1} → statement M
-sin-sub-clamped-spec = tie.close (tie.spec returns returns-2)
+sin-sub-clamped-spec =
+    tie.close (tie.spec returns returns-2)

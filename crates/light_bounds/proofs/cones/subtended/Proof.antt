@@ -18,15 +18,6 @@ distance c =
     let p = c .before .before .before .args .p in
     sym (c .dot .ensures ∙ ap (λ (v : Vec3). dot v v) (c .before .sub .ensures ∙ ap (λ (v : Vec3). minus v p) (c .before .before .centroid .ensures)))
 
-centroid-requires : tie.Need-centroid-requires
-centroid-requires c κs = search needs
-
-sub-requires : tie.Need-sub-requires
-sub-requires c κs = search needs
-
-dot-requires : tie.Need-dot-requires
-dot-requires c κs = search needs
-
 returns : tie.Need-returns
 unfolding boundSubtendedDirections neg ofBits
 returns c = rw (size (c .before .before .before .before), distance (c .before), c .if1 .taken)
@@ -35,21 +26,11 @@ returns-2 : tie.Need-returns-2
 unfolding boundSubtendedDirections neg ofBits
 returns-2 c = rw (size (c .before .before .before .before .before), distance (c .before .before), c .before .if1 .left, c .if2 .taken)
 
-safe-sqrt-requires : tie.Need-safe-sqrt-requires
-safe-sqrt-requires c κs = search needs
-
 returns-3 : tie.Need-returns-3
 unfolding boundSubtendedDirections
 returns-3 c = rw (size (c .before .before .before .before .before .before), distance (c .before .before .before), c .before .before .if1 .left, c .before .if2 .left) (c .safe-sqrt .ensures)
 
 pub subtended-spec : {M : Type 1} → statement M
 subtended-spec =
-    tie.close
-    (tie.spec
-    centroid-requires
-    sub-requires
-    dot-requires
-    returns
-    returns-2
-    safe-sqrt-requires
-    returns-3)
+    tie.close (tie.spec (λ c κs. search needs) (λ c κs. search needs) (λ c κs. search needs) returns returns-2 (λ c κs. search needs)
+      returns-3)

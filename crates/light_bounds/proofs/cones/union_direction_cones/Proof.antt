@@ -29,37 +29,13 @@ first c = sym (c .min .ensures)
 second : (c : tie.After-min2) → fmin (c .before .before .before .angle-between .result ⊕ c .before .before .before .before .before .before .acos .result) pi ≡ c .min2 .result
 second c = sym (c .min2 .ensures)
 
-clamp-requires : tie.Need-clamp-requires
-clamp-requires c κs = search needs
-
-acos-requires : tie.Need-acos-requires
-acos-requires c κs = search needs
-
-clamp-requires-2 : tie.Need-clamp-requires-2
-clamp-requires-2 c κs = search needs
-
-acos-requires-2 : tie.Need-acos-requires-2
-acos-requires-2 c κs = search needs
-
-angle-between-requires : tie.Need-angle-between-requires
-angle-between-requires c κs = search needs
-
-min-requires : tie.Need-min-requires
-min-requires c κs = search needs
-
 returns : tie.Need-returns
 unfolding unionDirectionCones
 returns c = rw (theta-a (c .before .before .before .before .before), theta-b (c .before .before .before), theta-d (c .before .before), first (c .before), c .if1 .taken)
 
-min-requires-2 : tie.Need-min-requires-2
-min-requires-2 c κs = search needs
-
 returns-2 : tie.Need-returns-2
 unfolding unionDirectionCones
 returns-2 c = rw (theta-a (c .before .before .before .before .before .before .before), theta-b (c .before .before .before .before .before), theta-d (c .before .before .before .before), first (c .before .before .before), c .before .before .if1 .left, second (c .before), c .if2 .taken)
-
-join-requires : tie.Need-join-requires
-join-requires c κs = search needs
 
 returns-3 : tie.Need-returns-3
 unfolding unionDirectionCones
@@ -67,16 +43,5 @@ returns-3 c = rw (theta-a (c .before .before .before .before .before .before .be
 
 pub union-direction-cones-spec : {M : Type 1} → statement M
 union-direction-cones-spec =
-    tie.close
-    (tie.spec
-    clamp-requires
-    acos-requires
-    clamp-requires-2
-    acos-requires-2
-    angle-between-requires
-    min-requires
-    returns
-    min-requires-2
-    returns-2
-    join-requires
-    returns-3)
+    tie.close (tie.spec (λ c κs. search needs) (λ c κs. search needs) (λ c κs. search needs) (λ c κs. search needs) (λ c κs. search needs)
+      (λ c κs. search needs) returns (λ c κs. search needs) returns-2 (λ c κs. search needs) returns-3)

@@ -7,17 +7,10 @@ use Rattle.light_bounds.specs.declared.vecmath.Direction.{Direction}
 use Rattle.light_bounds.proofs.cones.unit_or_z.Statement.{statement}
 use Rattle.light_bounds.proofs.cones.unit_or_z.Tie as tie
 
-enum-known-unit : tie.Need-enum-known-unit
-enum-known-unit c = search needs
-
 enum-told : tie.Need-enum-told
 enum-told c = search needs
 
-returns : tie.Need-returns
-returns c = search needs
-
-returns-2 : tie.Need-returns-2
-returns-2 c = sym (ap (λ (d : Direction). axisOr (normalized d)) (c .enum-told .given .1))
-
 pub unit-or-z-spec : {M : Type 1} → statement M
-unit-or-z-spec = tie.close (tie.spec enum-known-unit enum-told returns returns-2)
+unit-or-z-spec =
+    tie.close (tie.spec (λ c. search needs) enum-told (λ c. search needs)
+      (λ c. sym (ap (λ (d : Direction). axisOr (normalized d)) (c .enum-told .given .1))))

@@ -6,12 +6,6 @@ use borrow.Author.Needs.{needs}
 use Rattle.light_bounds.proofs.light_bounds.cos_w.Statement.{statement}
 use Rattle.light_bounds.proofs.light_bounds.cos_w.Tie as tie
 
-dot-requires : tie.Need-dot-requires
-dot-requires c κs = search needs
-
-abs-requires : tie.Need-abs-requires
-abs-requires c κs = search needs
-
 returns : tie.Need-returns
 unfolding cosW
 returns c = rw (c .before .if1 .taken) (c .abs .ensures ∙ ap fabs (c .before .before .dot .ensures))
@@ -21,4 +15,5 @@ unfolding cosW
 returns-2 c = rw (c .if1 .left) (c .before .dot .ensures)
 
 pub cos-w-spec : {M : Type 1} → statement M
-cos-w-spec = tie.close (tie.spec dot-requires abs-requires returns returns-2)
+cos-w-spec =
+    tie.close (tie.spec (λ c κs. search needs) (λ c κs. search needs) returns returns-2)

@@ -8,15 +8,6 @@ use borrow.Author.Needs.{needs}
 use Rattle.light_bounds.proofs.light_bounds.facing.Statement.{statement}
 use Rattle.light_bounds.proofs.light_bounds.facing.Tie as tie
 
-abs-requires : tie.Need-abs-requires
-abs-requires c κs = search needs
-
-sine-requires : tie.Need-sine-requires
-sine-requires c κs = search needs
-
-sine-requires-2 : tie.Need-sine-requires-2
-sine-requires-2 c κs = search needs
-
 returns : tie.Need-returns
 unfolding normalFactor cosSubClamped
 returns c = rw (← c .before .abs .ensures, c .if1 .taken)
@@ -29,4 +20,5 @@ returns-2 c =
     rw (← c .before .before .before .abs .ensures, c .before .before .if1 .left) (ap₂ (λ (s t : Float). i ⊗ k ⊕ s ⊗ t) (c .before .sine .ensures) (c .sine2 .ensures))
 
 pub facing-spec : {M : Type 1} → statement M
-facing-spec = tie.close (tie.spec abs-requires sine-requires sine-requires-2 returns returns-2)
+facing-spec =
+    tie.close (tie.spec (λ c κs. search needs) (λ c κs. search needs) (λ c κs. search needs) returns returns-2)

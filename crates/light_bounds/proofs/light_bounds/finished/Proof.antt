@@ -9,21 +9,6 @@ use Rattle.light_bounds.proofs.light_bounds.finished.Tie as tie
 enum-told : tie.Need-enum-told
 enum-told c = search needs
 
-enum-known-view : tie.Need-enum-known-view
-enum-known-view c = search needs
-
-max-requires : tie.Need-max-requires
-max-requires c κs = search needs
-
-enum-known-view-2 : tie.Need-enum-known-view-2
-enum-known-view-2 c = search needs
-
-max-requires-2 : tie.Need-max-requires-2
-max-requires-2 c κs = search needs
-
-enum-known-view-3 : tie.Need-enum-known-view-3
-enum-known-view-3 c = search needs
-
 returns : tie.Need-returns
 unfolding finish _then_
 returns c = rw (c .enum-told .given .1)
@@ -42,15 +27,5 @@ returns-4 c = rw (c .before .view3 .given .1)
 
 pub finished-spec : {M : Type 1} → statement M
 finished-spec =
-    tie.close
-    (tie.spec
-    enum-told
-    enum-known-view
-    max-requires
-    enum-known-view-2
-    max-requires-2
-    enum-known-view-3
-    returns
-    returns-2
-    returns-3
-    returns-4)
+    tie.close (tie.spec enum-told (λ c. search needs) (λ c κs. search needs) (λ c. search needs) (λ c κs. search needs) (λ c. search needs)
+      returns returns-2 returns-3 returns-4)

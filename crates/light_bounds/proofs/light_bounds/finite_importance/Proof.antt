@@ -5,18 +5,6 @@ use borrow.Author.Needs.{needs}
 use Rattle.light_bounds.proofs.light_bounds.finite_importance.Statement.{statement}
 use Rattle.light_bounds.proofs.light_bounds.finite_importance.Tie as tie
 
-is-finite-vec-requires : tie.Need-is-finite-vec-requires
-is-finite-vec-requires c κs = search needs
-
-is-finite-vec-requires-2 : tie.Need-is-finite-vec-requires-2
-is-finite-vec-requires-2 c κs = search needs
-
-geometry-requires : tie.Need-geometry-requires
-geometry-requires c κs = search needs
-
-finished-requires : tie.Need-finished-requires
-finished-requires c κs = search needs
-
 returns : tie.Need-returns
 unfolding checkedImportance
 returns c = rw (← c .before .before .before .before .before .is-finite-vec .ensures, c .before .before .before .before .if1 .taken, ← c .before .before .before .is-finite-vec2 .ensures, c .before .before .if2 .taken) (c .finished .ensures ∙ ap (finishView (c .before .before .before .before .before .before .args .record .phi)) (c .before .geometry .ensures))
@@ -31,12 +19,5 @@ returns-3 c = rw (← c .before .is-finite-vec .ensures, c .if1 .left)
 
 pub finite-importance-spec : {M : Type 1} → statement M
 finite-importance-spec =
-    tie.close
-    (tie.spec
-    is-finite-vec-requires
-    is-finite-vec-requires-2
-    geometry-requires
-    finished-requires
-    returns
-    returns-2
-    returns-3)
+    tie.close (tie.spec (λ c κs. search needs) (λ c κs. search needs) (λ c κs. search needs) (λ c κs. search needs) returns returns-2
+      returns-3)

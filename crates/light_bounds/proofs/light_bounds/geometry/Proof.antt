@@ -16,39 +16,9 @@ delta c = sym (c .sub .ensures ∙ ap (λ (v : Vec3). minus (c .before .before .
 size : (c : tie.After-length) → diagonalLength (c .before .before .before .before .args .record) ≡ c .length .result
 size c = sym (c .length .ensures ∙ ap length (c .before .diagonal .ensures))
 
-centroid-requires : tie.Need-centroid-requires
-centroid-requires c κs = search needs
-
-sub-requires : tie.Need-sub-requires
-sub-requires c κs = search needs
-
-diagonal-requires : tie.Need-diagonal-requires
-diagonal-requires c κs = search needs
-
-length-requires : tie.Need-length-requires
-length-requires c κs = search needs
-
-dot-requires : tie.Need-dot-requires
-dot-requires c κs = search needs
-
-max-requires : tie.Need-max-requires
-max-requires c κs = search needs
-
 returns : tie.Need-returns
 unfolding geometry distance2
 returns c = rw (delta (c .before .before .before .before .before), size (c .before .before .before), ← c .before .before .dot .ensures, ← c .before .max .ensures, c .if1 .taken)
-
-normalize-requires : tie.Need-normalize-requires
-normalize-requires c κs = search needs
-
-enum-known-wi : tie.Need-enum-known-wi
-enum-known-wi c = search needs
-
-toward-requires : tie.Need-toward-requires
-toward-requires c κs = sym (size (c .before .before .before .before .before .before .before))
-
-enum-known-why : tie.Need-enum-known-why
-enum-known-why c = search needs
 
 returns-2 : tie.Need-returns-2
 unfolding geometry distance2 _then_
@@ -60,18 +30,6 @@ returns-3 c = rw (delta (c .before .before .before .before .before .before .befo
 
 pub geometry-spec : {M : Type 1} → statement M
 geometry-spec =
-    tie.close
-    (tie.spec
-    centroid-requires
-    sub-requires
-    diagonal-requires
-    length-requires
-    dot-requires
-    max-requires
-    returns
-    normalize-requires
-    enum-known-wi
-    toward-requires
-    enum-known-why
-    returns-2
-    returns-3)
+    tie.close (tie.spec (λ c κs. search needs) (λ c κs. search needs) (λ c κs. search needs) (λ c κs. search needs) (λ c κs. search needs)
+      (λ c κs. search needs) returns (λ c κs. search needs) (λ c. search needs)
+      (λ c κs. sym (size (c .before .before .before .before .before .before .before))) (λ c. search needs) returns-2 returns-3)

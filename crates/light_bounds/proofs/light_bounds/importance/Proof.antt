@@ -5,17 +5,8 @@ use borrow.Author.Needs.{needs}
 use Rattle.light_bounds.proofs.light_bounds.importance.Statement.{statement}
 use Rattle.light_bounds.proofs.light_bounds.importance.Tie as tie
 
-validate-requires : tie.Need-validate-requires
-validate-requires c κs = search needs
-
 enum-told : tie.Need-enum-told
 enum-told c = search needs
-
-finite-importance-requires : tie.Need-finite-importance-requires
-finite-importance-requires c κs = search needs
-
-enum-known-why : tie.Need-enum-known-why
-enum-known-why c = search needs
 
 returns : tie.Need-returns
 unfolding importance _then_
@@ -27,11 +18,4 @@ returns-2 c = rw (← c .before .before .before .validate .ensures, c .before .w
 
 pub importance-spec : {M : Type 1} → statement M
 importance-spec =
-    tie.close
-    (tie.spec
-    validate-requires
-    enum-told
-    finite-importance-requires
-    enum-known-why
-    returns
-    returns-2)
+    tie.close (tie.spec (λ c κs. search needs) enum-told (λ c κs. search needs) (λ c. search needs) returns returns-2)

@@ -13,18 +13,6 @@ returns-2 : tie.Need-returns-2
 unfolding join
 returns-2 c = rw (c .before .before .if1 .left, c .if2 .taken)
 
-union-direction-cones-requires : tie.Need-union-direction-cones-requires
-union-direction-cones-requires c κs = search needs
-
-union-requires : tie.Need-union-requires
-union-requires c κs = search needs
-
-min-requires : tie.Need-min-requires
-min-requires c κs = search needs
-
-either-requires : tie.Need-either-requires
-either-requires c κs = search needs
-
 returns-3 : tie.Need-returns-3
 unfolding join
 returns-3 c =
@@ -42,12 +30,5 @@ returns-3 c =
 
 pub join-spec : {M : Type 1} → statement M
 join-spec =
-    tie.close
-    (tie.spec
-    returns
-    returns-2
-    union-direction-cones-requires
-    union-requires
-    min-requires
-    either-requires
-    returns-3)
+    tie.close (tie.spec returns returns-2 (λ c κs. search needs) (λ c κs. search needs) (λ c κs. search needs) (λ c κs. search needs)
+      returns-3)

@@ -7,9 +7,6 @@ use borrow.Author.Needs.{needs}
 use Rattle.light_bounds.proofs.light_bounds.less_the_box.Statement.{statement}
 use Rattle.light_bounds.proofs.light_bounds.less_the_box.Tie as tie
 
-sine-requires : tie.Need-sine-requires
-sine-requires c κs = search needs
-
 returns : tie.Need-returns
 unfolding cosSubClamped
 returns c = rw (c .if1 .taken)
@@ -21,4 +18,5 @@ returns-2 c =
     rw (c .before .if1 .left) (ap (λ (s : Float). a .cos-x ⊗ a .cos-b ⊕ a .sin-x ⊗ s) (c .sine .ensures))
 
 pub less-the-box-spec : {M : Type 1} → statement M
-less-the-box-spec = tie.close (tie.spec sine-requires returns returns-2)
+less-the-box-spec =
+    tie.close (tie.spec (λ c κs. search needs) returns returns-2)

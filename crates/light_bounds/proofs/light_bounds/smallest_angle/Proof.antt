@@ -5,27 +5,12 @@ use borrow.Author.Needs.{needs}
 use Rattle.light_bounds.proofs.light_bounds.smallest_angle.Statement.{statement}
 use Rattle.light_bounds.proofs.light_bounds.smallest_angle.Tie as tie
 
-cos-w-requires : tie.Need-cos-w-requires
-cos-w-requires c κs = search needs
-
-less-the-box-requires : tie.Need-less-the-box-requires
-less-the-box-requires c κs = search needs
-
 returns : tie.Need-returns
 unfolding cosP
 returns c =
     let w = c .before .before .cos-w .result in
     let o = c .before .before .before .args .record .«cos_theta_o» in
     rw (← c .before .before .cos-w .ensures, cut-sin (sine w) w (sine o) o (c .before .if1 .taken), cut-cos (sine w) w (sine o) o (c .before .if1 .taken)) (c .less-the-box .ensures)
-
-sine-requires : tie.Need-sine-requires
-sine-requires c κs = search needs
-
-sine-requires-2 : tie.Need-sine-requires-2
-sine-requires-2 c κs = search needs
-
-less-the-box-requires-2 : tie.Need-less-the-box-requires-2
-less-the-box-requires-2 c κs = search needs
 
 returns-2 : tie.Need-returns-2
 unfolding cosP
@@ -36,12 +21,5 @@ returns-2 c =
 
 pub smallest-angle-spec : {M : Type 1} → statement M
 smallest-angle-spec =
-    tie.close
-    (tie.spec
-    cos-w-requires
-    less-the-box-requires
-    returns
-    sine-requires
-    sine-requires-2
-    less-the-box-requires-2
-    returns-2)
+    tie.close (tie.spec (λ c κs. search needs) (λ c κs. search needs) returns (λ c κs. search needs) (λ c κs. search needs)
+      (λ c κs. search needs) returns-2)

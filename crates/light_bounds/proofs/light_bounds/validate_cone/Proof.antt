@@ -4,21 +4,6 @@ use borrow.Author.Needs.{needs}
 use Rattle.light_bounds.proofs.light_bounds.validate_cone.Statement.{statement}
 use Rattle.light_bounds.proofs.light_bounds.validate_cone.Tie as tie
 
-is-finite-vec-requires : tie.Need-is-finite-vec-requires
-is-finite-vec-requires c κs = search needs
-
-is-finite-requires : tie.Need-is-finite-requires
-is-finite-requires c κs = search needs
-
-is-finite-requires-2 : tie.Need-is-finite-requires-2
-is-finite-requires-2 c κs = search needs
-
-is-finite-requires-3 : tie.Need-is-finite-requires-3
-is-finite-requires-3 c κs = search needs
-
-validate-range-requires : tie.Need-validate-range-requires
-validate-range-requires c κs = search needs
-
 returns : tie.Need-returns
 unfolding coneCheck
 returns c = rw (← c .before .before .before .before .before .before .before .before .is-finite-vec .ensures, c .before .before .before .before .before .before .before .if1 .taken, ← c .before .before .before .before .before .before .is-finite .ensures, c .before .before .before .before .before .if2 .taken, ← c .before .before .before .before .is-finite2 .ensures, c .before .before .before .if3 .taken, ← c .before .before .is-finite3 .ensures, c .before .if4 .taken) (c .validate-range .ensures)
@@ -41,15 +26,5 @@ returns-5 c = rw (← c .before .is-finite-vec .ensures, c .if1 .left)
 
 pub validate-cone-spec : {M : Type 1} → statement M
 validate-cone-spec =
-    tie.close
-    (tie.spec
-    is-finite-vec-requires
-    is-finite-requires
-    is-finite-requires-2
-    is-finite-requires-3
-    validate-range-requires
-    returns
-    returns-2
-    returns-3
-    returns-4
-    returns-5)
+    tie.close (tie.spec (λ c κs. search needs) (λ c κs. search needs) (λ c κs. search needs) (λ c κs. search needs) (λ c κs. search needs)
+      returns returns-2 returns-3 returns-4 returns-5)

@@ -4,9 +4,6 @@ use borrow.Author.Needs.{needs}
 use Rattle.light_bounds.proofs.light_bounds.validate_range.Statement.{statement}
 use Rattle.light_bounds.proofs.light_bounds.validate_range.Tie as tie
 
-dot-requires : tie.Need-dot-requires
-dot-requires c κs = search needs
-
 returns : tie.Need-returns
 unfolding rangeCheck
 returns c = rw (← c .before .dot .ensures, c .if1 .taken)
@@ -14,12 +11,6 @@ returns c = rw (← c .before .dot .ensures, c .if1 .taken)
 returns-2 : tie.Need-returns-2
 unfolding rangeCheck
 returns-2 c = rw (← c .before .before .before .dot .ensures, c .before .before .if1 .left, c .if2 .taken)
-
-is-cosine-requires : tie.Need-is-cosine-requires
-is-cosine-requires c κs = search needs
-
-is-cosine-requires-2 : tie.Need-is-cosine-requires-2
-is-cosine-requires-2 c κs = search needs
 
 returns-3 : tie.Need-returns-3
 unfolding rangeCheck
@@ -35,13 +26,4 @@ returns-5 c = rw (← c .before .before .before .before .before .dot .ensures, c
 
 pub validate-range-spec : {M : Type 1} → statement M
 validate-range-spec =
-    tie.close
-    (tie.spec
-    dot-requires
-    returns
-    returns-2
-    is-cosine-requires
-    is-cosine-requires-2
-    returns-3
-    returns-4
-    returns-5)
+    tie.close (tie.spec (λ c κs. search needs) returns returns-2 (λ c κs. search needs) (λ c κs. search needs) returns-3 returns-4 returns-5)

@@ -7,27 +7,9 @@ use borrow.Author.Needs.{needs}
 use Rattle.light_bounds.proofs.light_bounds.with_normal.Statement.{statement}
 use Rattle.light_bounds.proofs.light_bounds.with_normal.Tie as tie
 
-dot-requires : tie.Need-dot-requires
-dot-requires c κs = search needs
-
 returns : tie.Need-returns
 unfolding withNormal _then_
 returns c = rw (← c .before .dot .ensures, c .if1 .taken)
-
-normalize-requires : tie.Need-normalize-requires
-normalize-requires c κs = search needs
-
-enum-known-u : tie.Need-enum-known-u
-enum-known-u c = search needs
-
-dot-requires-2 : tie.Need-dot-requires-2
-dot-requires-2 c κs = search needs
-
-facing-requires : tie.Need-facing-requires
-facing-requires c κs = search needs
-
-enum-known-why : tie.Need-enum-known-why
-enum-known-why c = search needs
 
 returns-2 : tie.Need-returns-2
 unfolding withNormal _then_
@@ -42,14 +24,5 @@ returns-3 c = rw (← c .before .before .before .before .before .dot .ensures, c
 
 pub with-normal-spec : {M : Type 1} → statement M
 with-normal-spec =
-    tie.close
-    (tie.spec
-    dot-requires
-    returns
-    normalize-requires
-    enum-known-u
-    dot-requires-2
-    facing-requires
-    enum-known-why
-    returns-2
-    returns-3)
+    tie.close (tie.spec (λ c κs. search needs) returns (λ c κs. search needs) (λ c. search needs) (λ c κs. search needs)
+      (λ c κs. search needs) (λ c. search needs) returns-2 returns-3)

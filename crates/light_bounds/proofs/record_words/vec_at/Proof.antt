@@ -10,33 +10,6 @@ use Rattle.light_bounds.proofs.record_words.vec_at.Tie as tie
 returns : tie.Need-returns
 returns c = sym (vecAt-past (now (c .before .before .args .words)) (c .before .before .args .at) (c .if1 .taken))
 
-mul-f32-of-word : tie.Need-mul-f32-of-word
-mul-f32-of-word c = search needs
-
-shared-slice-read-f32-of-word : tie.Need-shared-slice-read-f32-of-word
-shared-slice-read-f32-of-word c = search needs
-
-f32-of-word-requires : tie.Need-f32-of-word-requires
-f32-of-word-requires c κs = search needs
-
-add-word-or-zero : tie.Need-add-word-or-zero
-add-word-or-zero c = search needs
-
-word-or-zero-requires : tie.Need-word-or-zero-requires
-word-or-zero-requires c κs = search needs
-
-f32-of-word-requires-2 : tie.Need-f32-of-word-requires-2
-f32-of-word-requires-2 c κs = search needs
-
-add-word-or-zero-2 : tie.Need-add-word-or-zero-2
-add-word-or-zero-2 c = search needs
-
-word-or-zero-requires-2 : tie.Need-word-or-zero-requires-2
-word-or-zero-requires-2 c κs = search needs
-
-f32-of-word-requires-3 : tie.Need-f32-of-word-requires-3
-f32-of-word-requires-3 c κs = search needs
-
 returns-2 : tie.Need-returns-2
 unfolding vecAt
 returns-2 c =
@@ -50,16 +23,5 @@ returns-2 c =
 
 pub vec-at-spec : {M : Type 1} → statement M
 vec-at-spec =
-    tie.close
-    (tie.spec
-    returns
-    mul-f32-of-word
-    shared-slice-read-f32-of-word
-    f32-of-word-requires
-    add-word-or-zero
-    word-or-zero-requires
-    f32-of-word-requires-2
-    add-word-or-zero-2
-    word-or-zero-requires-2
-    f32-of-word-requires-3
-    returns-2)
+    tie.close (tie.spec returns (λ c. search needs) (λ c. search needs) (λ c κs. search needs) (λ c. search needs) (λ c κs. search needs)
+      (λ c κs. search needs) (λ c. search needs) (λ c κs. search needs) (λ c κs. search needs) returns-2)

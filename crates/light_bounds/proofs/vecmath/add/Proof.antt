@@ -9,4 +9,5 @@ unfolding plus
 returns c = refl
 
 pub add-spec : {M : Type 1} → statement M
-add-spec = tie.close (tie.spec returns)
+add-spec =
+    tie.close (tie.spec returns)

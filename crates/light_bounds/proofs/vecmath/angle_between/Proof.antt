@@ -8,27 +8,6 @@ use borrow.Author.Needs.{needs}
 use Rattle.light_bounds.proofs.vecmath.angle_between.Statement.{statement}
 use Rattle.light_bounds.proofs.vecmath.angle_between.Tie as tie
 
-dot-requires : tie.Need-dot-requires
-dot-requires c κs = search needs
-
-add-requires : tie.Need-add-requires
-add-requires c κs = search needs
-
-length-requires : tie.Need-length-requires
-length-requires c κs = search needs
-
-asin-requires : tie.Need-asin-requires
-asin-requires c κs = search needs
-
-sub-requires : tie.Need-sub-requires
-sub-requires c κs = search needs
-
-length-requires-2 : tie.Need-length-requires-2
-length-requires-2 c κs = search needs
-
-asin-requires-2 : tie.Need-asin-requires-2
-asin-requires-2 c κs = search needs
-
 returns : tie.Need-returns
 unfolding angleBetween
 returns c = rw (← c .before .before .before .before .dot .ensures, c .before .before .before .if1 .taken) (ap (λ (v : Float). pi ⊖ two ⊗ v) (c .asin .ensures ∙ ap (λ (l : Float). asin (l ⊘ two)) (c .before .length .ensures ∙ ap length (c .before .before .add .ensures))))
@@ -39,14 +18,5 @@ returns-2 c = rw (← c .before .before .before .before .dot .ensures, c .before
 
 pub angle-between-spec : {M : Type 1} → statement M
 angle-between-spec =
-    tie.close
-    (tie.spec
-    dot-requires
-    add-requires
-    length-requires
-    asin-requires
-    sub-requires
-    length-requires-2
-    asin-requires-2
-    returns
-    returns-2)
+    tie.close (tie.spec (λ c κs. search needs) (λ c κs. search needs) (λ c κs. search needs) (λ c κs. search needs) (λ c κs. search needs)
+      (λ c κs. search needs) (λ c κs. search needs) returns returns-2)

@@ -4,15 +4,6 @@ use borrow.Author.Needs.{needs}
 use Rattle.light_bounds.proofs.vecmath.is_finite_vec.Statement.{statement}
 use Rattle.light_bounds.proofs.vecmath.is_finite_vec.Tie as tie
 
-is-finite-requires : tie.Need-is-finite-requires
-is-finite-requires c κs = search needs
-
-is-finite-requires-2 : tie.Need-is-finite-requires-2
-is-finite-requires-2 c κs = search needs
-
-is-finite-requires-3 : tie.Need-is-finite-requires-3
-is-finite-requires-3 c κs = search needs
-
 returns : tie.Need-returns
 unfolding finiteVec
 returns c = rw (← c .before .before .before .before .is-finite .ensures, c .before .before .before .if1 .taken, ← c .before .before .is-finite2 .ensures, c .before .if2 .taken) (c .is-finite3 .ensures)
@@ -27,11 +18,4 @@ returns-3 c = rw (← c .before .is-finite .ensures, c .if1 .left)
 
 pub is-finite-vec-spec : {M : Type 1} → statement M
 is-finite-vec-spec =
-    tie.close
-    (tie.spec
-    is-finite-requires
-    is-finite-requires-2
-    is-finite-requires-3
-    returns
-    returns-2
-    returns-3)
+    tie.close (tie.spec (λ c κs. search needs) (λ c κs. search needs) (λ c κs. search needs) returns returns-2 returns-3)

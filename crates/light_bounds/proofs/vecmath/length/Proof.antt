@@ -7,15 +7,10 @@ use borrow.Author.Needs.{needs}
 use Rattle.light_bounds.proofs.vecmath.length.Statement.{statement}
 use Rattle.light_bounds.proofs.vecmath.length.Tie as tie
 
-dot-requires : tie.Need-dot-requires
-dot-requires c κs = search needs
-
-sqrt-requires : tie.Need-sqrt-requires
-sqrt-requires c κs = search needs
-
 returns : tie.Need-returns
 unfolding length
 returns c = c .sqrt .ensures ∙ ap (sqrt binary32) (c .before .dot .ensures)
 
 pub length-spec : {M : Type 1} → statement M
-length-spec = tie.close (tie.spec dot-requires sqrt-requires returns)
+length-spec =
+    tie.close (tie.spec (λ c κs. search needs) (λ c κs. search needs) returns)

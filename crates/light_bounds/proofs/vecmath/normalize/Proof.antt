@@ -11,12 +11,6 @@ use Rattle.light_bounds.proofs.vecmath.normalize.Tie as tie
 known : (c : tie.After-is-finite) → finite (length (c .before .before .args .v)) ≡ c .is-finite .result
 known c = sym (c .is-finite .ensures ∙ ap finite (c .before .length .ensures))
 
-length-requires : tie.Need-length-requires
-length-requires c κs = search needs
-
-is-finite-requires : tie.Need-is-finite-requires
-is-finite-requires c κs = search needs
-
 returns : tie.Need-returns
 unfolding normalize
 returns c = rw (known (c .before), c .if1 .taken)
@@ -25,14 +19,10 @@ returns-2 : tie.Need-returns-2
 unfolding normalize ofBits
 returns-2 c = rw (known (c .before .before), c .before .if1 .left, ← c .before .before .before .length .ensures, c .if2 .taken)
 
-scale-vector-requires : tie.Need-scale-vector-requires
-scale-vector-requires c κs = search needs
-
 returns-3 : tie.Need-returns-3
 unfolding normalize ofBits
 returns-3 c = rw (known (c .before .before .before), c .before .before .if1 .left, ← c .before .before .before .before .length .ensures, c .before .if2 .left) (ap given (c .scale-vector .ensures))
 
 pub normalize-spec : {M : Type 1} → statement M
 normalize-spec =
-    tie.close
-    (tie.spec length-requires is-finite-requires returns returns-2 scale-vector-requires returns-3)
+    tie.close (tie.spec (λ c κs. search needs) (λ c κs. search needs) returns returns-2 (λ c κs. search needs) returns-3)

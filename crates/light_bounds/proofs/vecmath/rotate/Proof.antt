@@ -7,33 +7,6 @@ use borrow.Author.Needs.{needs}
 use Rattle.light_bounds.proofs.vecmath.rotate.Statement.{statement}
 use Rattle.light_bounds.proofs.vecmath.rotate.Tie as tie
 
-sin-requires : tie.Need-sin-requires
-sin-requires c κs = search needs
-
-cos-requires : tie.Need-cos-requires
-cos-requires c κs = search needs
-
-scale-vector-requires : tie.Need-scale-vector-requires
-scale-vector-requires c κs = search needs
-
-cross-requires : tie.Need-cross-requires
-cross-requires c κs = search needs
-
-scale-vector-requires-2 : tie.Need-scale-vector-requires-2
-scale-vector-requires-2 c κs = search needs
-
-add-requires : tie.Need-add-requires
-add-requires c κs = search needs
-
-dot-requires : tie.Need-dot-requires
-dot-requires c κs = search needs
-
-scale-vector-requires-3 : tie.Need-scale-vector-requires-3
-scale-vector-requires-3 c κs = search needs
-
-add-requires-2 : tie.Need-add-requires-2
-add-requires-2 c κs = search needs
-
 returns : tie.Need-returns
 unfolding rotate
 returns c =
@@ -53,15 +26,5 @@ returns c =
 
 pub rotate-spec : {M : Type 1} → statement M
 rotate-spec =
-    tie.close
-    (tie.spec
-    sin-requires
-    cos-requires
-    scale-vector-requires
-    cross-requires
-    scale-vector-requires-2
-    add-requires
-    dot-requires
-    scale-vector-requires-3
-    add-requires-2
-    returns)
+    tie.close (tie.spec (λ c κs. search needs) (λ c κs. search needs) (λ c κs. search needs) (λ c κs. search needs) (λ c κs. search needs)
+      (λ c κs. search needs) (λ c κs. search needs) (λ c κs. search needs) (λ c κs. search needs) returns)

@@ -9,4 +9,5 @@ unfolding minus
 returns c = refl
 
 pub sub-spec : {M : Type 1} → statement M
-sub-spec = tie.close (tie.spec returns)
+sub-spec =
+    tie.close (tie.spec returns)

@@ -4,11 +4,8 @@ use borrow.Author.Tests.{not-true, not-false}
 use Rattle.stored.proofs.Tally.with.Statement.{statement}
 use Rattle.stored.proofs.Tally.with.Tie as tie
 
-returns : tie.Need-returns
-returns c = rw (not-true (c .before .before .before .args .agrees) (c .before .if1 .taken)) cc
-
-returns-2 : tie.Need-returns-2
-returns-2 c = rw (not-false (c .before .before .args .agrees) (c .if1 .left)) cc
-
 pub with-spec : {M : Type 1} → statement M
-with-spec = tie.close (tie.spec (λ c κs. search needs) (λ c κs. search needs) returns returns-2)
+with-spec =
+    tie.close (tie.spec (λ c κs. search needs) (λ c κs. search needs)
+      (λ c. rw (not-true (c .before .before .before .args .agrees) (c .before .if1 .taken)) cc)
+      (λ c. rw (not-false (c .before .before .args .agrees) (c .if1 .left)) cc))

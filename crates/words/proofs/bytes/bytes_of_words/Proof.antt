@@ -37,31 +37,10 @@ returns c =
     let h : length (args .bytes .now) < 4 * length (args .words .now) = omega arith in
     simp (lt-leb _ _ h) (refl, refl)
 
-loop-holds : tie.Need-loop-holds Inv-loop μ-loop
-loop-holds c = (omega arith, copied-none)
-
-mul-set-word : tie.Need-mul-set-word Inv-loop μ-loop
-mul-set-word c = omega arith
-
-shared-slice-read-set-word : tie.Need-shared-slice-read-set-word Inv-loop μ-loop
-shared-slice-read-set-word c = omega arith
-
-set-word-requires : tie.Need-set-word-requires Inv-loop μ-loop
-set-word-requires c κs = search needs
-
-add-i : tie.Need-add-i Inv-loop μ-loop
-add-i c = omega arith
-
-loop-less : tie.Need-loop-less Inv-loop μ-loop
-loop-less c = omega arith
-
 loop-again : tie.Need-loop-again Inv-loop μ-loop
 loop-again c =
     let inv = c .before .before .before .before .before .before .loop .inv in
     (omega arith, rw (c .before .before .set-word .ensures) (copied-word _ (inv .1) (omega arith) (omega arith)))
-
-same-length : tie.Need-same-length Inv-loop μ-loop
-same-length c = omega arith
 
 returns-2 : tie.Need-returns-2 Inv-loop μ-loop
 unfolding writtenWords
@@ -72,17 +51,5 @@ returns-2 c =
 
 pub bytes-of-words-spec : {M : Type 1} → statement M
 bytes-of-words-spec =
-    tie.close
-    (tie.spec
-    Inv-loop
-    μ-loop
-    returns
-    loop-holds
-    mul-set-word
-    shared-slice-read-set-word
-    set-word-requires
-    add-i
-    loop-less
-    loop-again
-    same-length
-    returns-2)
+    tie.close (tie.spec Inv-loop μ-loop returns (λ c. (omega arith, copied-none)) (λ c. omega arith) (λ c. omega arith)
+      (λ c κs. search needs) (λ c. omega arith) (λ c. omega arith) loop-again (λ c. omega arith) returns-2)

@@ -29,29 +29,8 @@ returns-2 : tie.Need-returns-2 Inv-loop μ-loop
 unfolding readWords wordCount _then_ tray
 returns-2 c = simp (eq-eqb _ _ (c .before .if1 .left), lt-leb _ _ (c .if2 .taken)) (refl, refl)
 
-loop-holds : tie.Need-loop-holds Inv-loop μ-loop
-loop-holds c = (sym (length-wordsOf _), copied-none)
-
-word-at-requires : tie.Need-word-at-requires Inv-loop μ-loop
-word-at-requires c κs = search needs
-
-mul-words : tie.Need-mul-words Inv-loop μ-loop
-mul-words c = omega arith
-
-slice-write-words : tie.Need-slice-write-words Inv-loop μ-loop
-slice-write-words c = omega arith
-
-add-i : tie.Need-add-i Inv-loop μ-loop
-add-i c = omega arith
-
-loop-less : tie.Need-loop-less Inv-loop μ-loop
-loop-less c = omega arith
-
 loop-again : tie.Need-loop-again Inv-loop μ-loop
 loop-again c = (omega arith, copied-one (c .before .before .loop .inv .1) (c .word-at .ensures) (omega arith) (omega arith))
-
-same-length : tie.Need-same-length Inv-loop μ-loop
-same-length c = omega arith
 
 returns-3 : tie.Need-returns-3 Inv-loop μ-loop
 unfolding readWords wordCount _then_
@@ -61,18 +40,5 @@ returns-3 c =
 
 pub words-of-bytes-spec : {M : Type 1} → statement M
 words-of-bytes-spec =
-    tie.close
-    (tie.spec
-    Inv-loop
-    μ-loop
-    returns
-    returns-2
-    loop-holds
-    word-at-requires
-    mul-words
-    slice-write-words
-    add-i
-    loop-less
-    loop-again
-    same-length
-    returns-3)
+    tie.close (tie.spec Inv-loop μ-loop returns returns-2 (λ c. (sym (length-wordsOf _), copied-none)) (λ c κs. search needs)
+      (λ c. omega arith) (λ c. omega arith) (λ c. omega arith) (λ c. omega arith) loop-again (λ c. omega arith) returns-3)

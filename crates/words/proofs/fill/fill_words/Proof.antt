@@ -23,38 +23,8 @@ loop-holds c = (
   filling-none,
 )
 
-mul-s : tie.Need-mul-s Inv-loop μ-loop
-mul-s c = omega arith
-
-slice-write-s : tie.Need-slice-write-s Inv-loop μ-loop
-slice-write-s c = omega arith
-
-add-i : tie.Need-add-i Inv-loop μ-loop
-add-i c = omega arith
-
-loop-less : tie.Need-loop-less Inv-loop μ-loop
-loop-less c = omega arith
-
-loop-again : tie.Need-loop-again Inv-loop μ-loop
-loop-again c = (omega arith, omega arith, omega arith, filling-one (c .before .before .loop .inv .3) (omega arith))
-
-same-length : tie.Need-same-length Inv-loop μ-loop
-same-length c = omega arith
-
-returns : tie.Need-returns Inv-loop μ-loop
-returns c = filling-all _ _ (c .before .loop .inv .3) (omega arith) (omega arith)
-
 pub fill-words-spec : {M : Type 1} → statement M
 fill-words-spec =
-    tie.close
-    (tie.spec
-    Inv-loop
-    μ-loop
-    loop-holds
-    mul-s
-    slice-write-s
-    add-i
-    loop-less
-    loop-again
-    same-length
-    returns)
+    tie.close (tie.spec Inv-loop μ-loop loop-holds (λ c. omega arith) (λ c. omega arith) (λ c. omega arith) (λ c. omega arith)
+      (λ c. (omega arith, omega arith, omega arith, filling-one (c .before .before .loop .inv .3) (omega arith))) (λ c. omega arith)
+      (λ c. filling-all _ _ (c .before .loop .inv .3) (omega arith) (omega arith)))

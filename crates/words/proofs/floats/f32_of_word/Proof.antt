@@ -6,15 +6,10 @@ use Rattle.ieee.specs.Nans.{no-nan-bits, nan-bits}
 use Rattle.words.proofs.floats.f32_of_word.Statement.{statement}
 use Rattle.words.proofs.floats.f32_of_word.Tie as tie
 
-float-from-bits-result : tie.Need-float-from-bits-result
-float-from-bits-result c = no-nan-bits binary32 (c .before .args .w) (c .if1 .left)
-
 returns : tie.Need-returns
 unfolding div ofBits
 returns c = sym (nan-bits binary32 (c .before .args .w) (c .if1 .taken))
 
-returns-2 : tie.Need-returns-2
-returns-2 c = search needs
-
 pub f32-of-word-spec : {M : Type 1} → statement M
-f32-of-word-spec = tie.close (tie.spec float-from-bits-result returns returns-2)
+f32-of-word-spec =
+    tie.close (tie.spec (λ c. no-nan-bits binary32 (c .before .args .w) (c .if1 .left)) returns (λ c. search needs))

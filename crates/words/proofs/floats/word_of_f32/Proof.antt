@@ -6,15 +6,10 @@ use Rattle.ieee.specs.Nans.{no-nan, a-nan}
 use Rattle.words.proofs.floats.word_of_f32.Statement.{statement}
 use Rattle.words.proofs.floats.word_of_f32.Tie as tie
 
-float-to-bits-result : tie.Need-float-to-bits-result
-float-to-bits-result c = no-nan (c .before .args .x) (c .if1 .left)
-
 returns : tie.Need-returns
 unfolding toBits
 returns c = sym (ap (toBits binary32) (a-nan (c .before .args .x) (c .if1 .taken)))
 
-returns-2 : tie.Need-returns-2
-returns-2 c = search needs
-
 pub word-of-f32-spec : {M : Type 1} → statement M
-word-of-f32-spec = tie.close (tie.spec float-to-bits-result returns returns-2)
+word-of-f32-spec =
+    tie.close (tie.spec (λ c. no-nan (c .before .args .x) (c .if1 .left)) returns (λ c. search needs))

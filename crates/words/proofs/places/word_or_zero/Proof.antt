@@ -6,17 +6,7 @@ use lib.ListN.{List·getD-eq-default}
 use Rattle.words.proofs.places.word_or_zero.Statement.{statement}
 use Rattle.words.proofs.places.word_or_zero.Tie as tie
 
-mul-result : tie.Need-mul-result
-mul-result c = search needs
-
-shared-slice-read-result : tie.Need-shared-slice-read-result
-shared-slice-read-result c = search needs
-
-returns : tie.Need-returns
-returns c = search needs
-
-returns-2 : tie.Need-returns-2
-returns-2 c = sym (List·getD-eq-default (now (c .before .args .words)) 0 (c .if1 .left))
-
 pub word-or-zero-spec : {M : Type 1} → statement M
-word-or-zero-spec = tie.close (tie.spec mul-result shared-slice-read-result returns returns-2)
+word-or-zero-spec =
+    tie.close (tie.spec (λ c. search needs) (λ c. search needs) (λ c. search needs)
+      (λ c. sym (List·getD-eq-default (now (c .before .args .words)) 0 (c .if1 .left))))

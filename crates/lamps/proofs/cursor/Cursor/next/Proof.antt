@@ -16,18 +16,9 @@ is {w} k e h = rw (← e) (eq-eqb (kindOf w) k h)
 is-not : {w head : ℕ} (k : ℕ) → w ≡ head → (kindOf w ≡ k → ⊥) → eqb (kindOf head) k ≡ false
 is-not {w} k e h = rw (← e) (ne-eqb (kindOf w) k h)
 
-word-or-zero-requires : tie.Need-word-or-zero-requires
-word-or-zero-requires c κs = search needs
-
-point-at-requires : tie.Need-point-at-requires
-point-at-requires c κs = search needs
-
 returns : tie.Need-returns
 unfolding lampAt
 returns c = rw (is 1 (c .before .before .word-or-zero .ensures) (c .before .if1 .taken)) (c .point-at .ensures)
-
-spot-at-requires : tie.Need-spot-at-requires
-spot-at-requires c κs = search needs
 
 returns-2 : tie.Need-returns-2
 unfolding lampAt
@@ -36,9 +27,6 @@ returns-2 c =
       is-not 1 (c .before .before .before .word-or-zero .ensures) (c .before .before .if1 .left),
       is 2 (c .before .before .before .word-or-zero .ensures) (c .before .if2 .taken),
     ) (c .spot-at .ensures)
-
-group-at-requires : tie.Need-group-at-requires
-group-at-requires c κs = search needs
 
 returns-3 : tie.Need-returns-3
 unfolding lampAt
@@ -60,13 +48,5 @@ returns-4 c =
 
 pub next-spec : {M : Type 1} → statement M
 next-spec =
-    tie.close
-    (tie.spec
-    word-or-zero-requires
-    point-at-requires
-    returns
-    spot-at-requires
-    returns-2
-    group-at-requires
-    returns-3
-    returns-4)
+    tie.close (tie.spec (λ c κs. search needs) (λ c κs. search needs) returns (λ c κs. search needs) returns-2 (λ c κs. search needs)
+      returns-3 returns-4)

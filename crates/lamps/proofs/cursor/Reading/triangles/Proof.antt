@@ -5,21 +5,6 @@ use Rattle.lamps.specs.LampList.{trianglesOf}
 use Rattle.lamps.proofs.cursor.Reading.triangles.Statement.{statement}
 use Rattle.lamps.proofs.cursor.Reading.triangles.Tie as tie
 
-mul-result : tie.Need-mul-result
-mul-result c = search needs
-
-part-result-start : tie.Need-part-result-start
-part-result-start c = search needs
-
-part-result-end : tie.Need-part-result-end
-part-result-end c = search needs
-
-slice-aggregate-result : tie.Need-slice-aggregate-result
-slice-aggregate-result c = search needs
-
-slice-aggregate-result-2 : tie.Need-slice-aggregate-result-2
-slice-aggregate-result-2 c = search needs
-
 returns : tie.Need-returns
 unfolding trianglesOf
 returns c = rw (le-leb _ _ (c .before .before .if1 .taken), le-leb _ _ (c .before .if2 .taken))
@@ -34,13 +19,5 @@ returns-3 c = rw (lt-leb _ _ (c .before .if1 .left))
 
 pub triangles-spec : {M : Type 1} → statement M
 triangles-spec =
-    tie.close
-    (tie.spec
-    mul-result
-    part-result-start
-    part-result-end
-    slice-aggregate-result
-    slice-aggregate-result-2
-    returns
-    returns-2
-    returns-3)
+    tie.close (tie.spec (λ c. search needs) (λ c. search needs) (λ c. search needs) (λ c. search needs) (λ c. search needs) returns
+      returns-2 returns-3)
