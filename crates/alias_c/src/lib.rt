@@ -6,9 +6,8 @@ ghost use lib.ListN.{length};
 ghost use Rattle.words.specs.Answers.{code};
 ghost use Rattle.words.specs.Tray.{tray};
 ghost use Rattle.alias_table.specs.AliasTable.{Bin, buildPowerAliasTable, binWords};
-use alias_table::AliasTable;
 use alias_table::build_power_alias_table;
-use words::refusal::refusal_number;
+use words::answers::counted_code;
 
 // 0, or the refusal's number.
 #[no_mangle]
@@ -21,8 +20,5 @@ pub extern "C" fn alias_build_power_alias_table(
     ensures { λ _. ⌜ now (bins .exit) ≡ tray binWords (3 * length (now (weights .entry))) (buildPowerAliasTable (now (weights .entry)) (length (now (bins .entry))) (length (now (work .entry)))) (now (bins .entry)) ⌝ }
     ensures { λ _. ⌜ now (work .exit) ≡ tray (λ (bs : List Bin). []) (4 * length (now (weights .entry))) (buildPowerAliasTable (now (weights .entry)) (length (now (bins .entry))) (length (now (work .entry)))) (now (work .entry)) ⌝ }
 {
-    match build_power_alias_table(weights, bins, work) {
-        AliasTable::Bins(n) => 0,
-        AliasTable::Refused(why) => refusal_number(why),
-    }
+    counted_code(build_power_alias_table(weights, bins, work))
 }

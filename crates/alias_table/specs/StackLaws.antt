@@ -18,8 +18,8 @@ use lib.ListN.{length, getD, set, take, drop, replicate, length-set, length-map,
 use lib.Seq.{sets, drop-cons, drop-set-lt, getD-set-same, getD-set-other, take-all}
 use Rattle.ieee.specs.Single.{_⊕_, _⊖_, _⊗_, _⊘_, single, zero as zerof, one}
 use Rattle.words.specs.Fill.{filled}
-use Rattle.words.specs.FillLaws.{filled-within}
-use Rattle.words.specs.Stores.{Copied, copied-none, copied-run}
+use Rattle.words.proofs.FillLaws.{filled-within}
+use Rattle.words.proofs.Stores.{Copied, copied-none, copied-run}
 use Rattle.alias_table.specs.AliasTable.{Bin, Entry, State, none, bad, anyBad, sumFrom, total, bin, push, pushAll, start, update, settle, whole, turned, turn, turns, leftover, finish, binWords}
 use Rattle.alias_table.specs.GameLaws.{turns-stay, under-push, over-push, push-bins, start-bins, length-update, length-leftover}
 use Rattle.alias_table.specs.Stacks.{sumsFrom, weighted, entryAt, stackAt, put, top, SoundAt, Sound, Stacks, Game, Room, Started, Playing, Played, Left, Wholed, played}

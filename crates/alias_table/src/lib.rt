@@ -18,7 +18,7 @@ use floats::narrow::widen;
 use words::fill::zero_words;
 use words::floats::f32_of_word;
 use words::floats::word_of_f32;
-use words::refusal::Refusal;
+use words::refusals::Refusal;
 
 // How many bins were written, or why none.
 pub enum AliasTable {
@@ -47,25 +47,25 @@ pub fn build_power_alias_table(weights: &[u32], bins: &mut [u32], work: &mut [u3
 {
     let m = weights.len();
     if m > 4096 {
-        return AliasTable::Refused(Refusal::Crowded);
+        return Counted::Refused(Refusal::Crowded);
     }
     if bins.len() < 3 * m {
-        return AliasTable::Refused(Refusal::ShortTray);
+        return Counted::Refused(Refusal::ShortTray);
     }
     if work.len() < 4 * m {
-        return AliasTable::Refused(Refusal::ShortTray);
+        return Counted::Refused(Refusal::ShortTray);
     }
     let s = add_up(weights);
     match s {
         Sums::Of(single, double) => {
             let flat = single == 0.0;
             build(weights, flat, total(flat, double, m), bins, work);
-            AliasTable::Bins(m)
+            Counted::Count(m)
         }
         Sums::Bad => {
             zero_words(bins, 0, 3 * m);
             zero_words(work, 0, 4 * m);
-            AliasTable::Refused(Refusal::OutOfRange)
+            Counted::Refused(Refusal::OutOfRange)
         }
     }
 }

@@ -5,10 +5,10 @@ use native.Mathlib.Nat.{min-eq-left}
 use borrow.Author.Tests.{lt-leb}
 use mathlib.Core.List.{List, []}
 use lib.ListN.{length}
-use Rattle.words.specs.AnswerLaws.{only-number}
+use Rattle.words.proofs.AnswerLaws.{only-number}
 use Rattle.words.specs.Answers.{given, refused}
 use Rattle.words.specs.Fill.{filled}
-use Rattle.words.specs.Stores.{stored}
+use Rattle.words.proofs.Stores.{stored}
 use Rattle.words.specs.Tray.{tray}
 use Rattle.words.specs.TrayLaws.{tray-full}
 use Rattle.light_bounds.specs.LateLaws.{late-union}

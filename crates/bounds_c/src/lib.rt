@@ -22,7 +22,7 @@ use light_bounds::record_words::vec_at;
 use light_bounds::record_words::write_record;
 use words::fill::fill_words;
 use words::floats::word_of_f32;
-use words::refusal::refusal_number;
+use words::refusals::refusal_number;
 
 #[no_mangle]
 pub extern "C" fn trig_cos(x: f32) -> f32

@@ -8,10 +8,12 @@ ghost use Rattle.ieee.specs.Narrow.{narrow};
 ghost use Rattle.ieee.specs.Sqrt.{sqrt};
 ghost use Rattle.ieee.specs.Whole.{floor, ceil, roundAway, toU32, toUsize};
 ghost use Rattle.words.specs.Fill.{filled};
-ghost use Rattle.words.specs.LittleEndian.{wordsOf, bytesOf, setWord, wordCount, counted, readWords, writtenWords};
+ghost use Rattle.words.specs.LittleEndian.{wordsOf, bytesOf, setWord, wordCount, readWords, writtenWords};
+ghost use Rattle.words.specs.Answers.{counted, code};
 ghost use Rattle.words.specs.Tray.{tray};
-ghost use Rattle.floats_c.specs.Codes.{code, countCode};
-use words::bytes::Words;
+ghost use Rattle.floats_c.specs.Codes.{countCode};
+use words::answers::Counted;
+use words::answers::counted_code;
 
 #[no_mangle]
 pub extern "C" fn floats_min(x: f32, y: f32) -> f32
@@ -136,14 +138,14 @@ pub extern "C" fn words_word_of_f64(x: f64) -> u64
 pub extern "C" fn words_word_at(bytes: &[u8], place: usize) -> u32
     ensures { λ r. ⌜ r ≡ getD (wordsOf (now (bytes .entry))) place 0 ⌝ }
 {
-    words::bytes::word_at(bytes, place)
+    words::little_endian::word_at(bytes, place)
 }
 
 #[no_mangle]
 pub extern "C" fn words_set_word(bytes: &mut [u8], place: usize, w: u32)
     ensures { λ _. ⌜ now (bytes .exit) ≡ setWord (now (bytes .entry)) place w ⌝ }
 {
-    words::bytes::set_word(bytes, place, w);
+    words::little_endian::set_word(bytes, place, w);
 }
 
 #[no_mangle]
@@ -153,21 +155,12 @@ pub extern "C" fn words_fill(s: &mut [u32], from: usize, to: usize, v: u32)
     words::fill::fill_words(s, from, to, v);
 }
 
-fn count_of(answer: Words) -> usize
+fn count_of(answer: Counted) -> usize
     ensures { λ r. ⌜ r ≡ countCode (counted answer) ⌝ }
 {
     match answer {
-        Words::Count(n) => n,
-        Words::Refused(_) => 0xffff_ffff_ffff_ffff,
-    }
-}
-
-fn code_of(answer: Words) -> u32
-    ensures { λ r. ⌜ r ≡ code (counted answer) ⌝ }
-{
-    match answer {
-        Words::Count(_) => 0,
-        Words::Refused(why) => words::refusal::refusal_number(why),
+        Counted::Count(n) => n,
+        Counted::Refused(_) => 0xffff_ffff_ffff_ffff,
     }
 }
 
@@ -176,7 +169,7 @@ fn code_of(answer: Words) -> u32
 pub extern "C" fn words_word_count(bytes: &[u8]) -> usize
     ensures { λ r. ⌜ r ≡ countCode (wordCount (now (bytes .entry))) ⌝ }
 {
-    count_of(words::bytes::word_count(bytes))
+    count_of(words::little_endian::word_count(bytes))
 }
 
 // 0 where it is done, else the refusal's number.
@@ -185,7 +178,7 @@ pub extern "C" fn words_words_of_bytes(bytes: &[u8], words: &mut [u32]) -> u32
     ensures { λ r. ⌜ r ≡ code (readWords (now (bytes .entry)) (length (now (words .entry)))) ⌝ }
     ensures { λ _. ⌜ now (words .exit) ≡ tray (λ (n : ℕ). wordsOf (now (bytes .entry))) (length (now (bytes .entry)) / 4) (readWords (now (bytes .entry)) (length (now (words .entry)))) (now (words .entry)) ⌝ }
 {
-    code_of(words::bytes::words_of_bytes(bytes, words))
+    counted_code(words::little_endian::words_of_bytes(bytes, words))
 }
 
 #[no_mangle]
@@ -193,5 +186,5 @@ pub extern "C" fn words_bytes_of_words(words: &[u32], bytes: &mut [u8]) -> u32
     ensures { λ r. ⌜ r ≡ code (writtenWords (now (words .entry)) (length (now (bytes .entry)))) ⌝ }
     ensures { λ _. ⌜ now (bytes .exit) ≡ tray (λ (n : ℕ). bytesOf (now (words .entry))) (4 * length (now (words .entry))) (writtenWords (now (words .entry)) (length (now (bytes .entry)))) (now (bytes .entry)) ⌝ }
 {
-    code_of(words::bytes::bytes_of_words(words, bytes))
+    counted_code(words::little_endian::bytes_of_words(words, bytes))
 }

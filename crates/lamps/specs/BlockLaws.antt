@@ -7,8 +7,8 @@ use native.Mathlib.Omega.{arith}
 use lib.ListN.{length, set, drop, replicate, length-append, length-set, length-drop, length-replicate}
 use lib.Seq.{length-sets, drop-append-add, drop-drop, drop-set-lt}
 use Rattle.words.specs.Fill.{filled}
-use Rattle.words.specs.FillLaws.{filled-within}
-use Rattle.words.specs.Stores.{stored}
+use Rattle.words.proofs.FillLaws.{filled-within}
+use Rattle.words.proofs.Stores.{stored}
 use Rattle.light_bounds.specs.RecordLaws.{writtenAt-sets}
 use Rattle.light_bounds.specs.RecordWords.{recordList, recordWords, writtenAt}
 use Rattle.light_bounds.specs.declared.light_bounds.LightBounds.{LightBounds}

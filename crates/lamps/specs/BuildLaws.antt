@@ -11,7 +11,7 @@ use lib.Ieee.{Float, lt}
 use lib.Ieee.Scale.{finite}
 use Rattle.ieee.specs.Single.{zero as zerof}
 use lib.ListN.{length, getD, drop}
-use Rattle.words.specs.AnswerLaws.{Early, Late, only-given, only-refused, only-cond, only-then, then-given, given-injective, not-both, count-given}
+use Rattle.words.proofs.AnswerLaws.{Early, Late, only-given, only-refused, only-cond, only-then, then-given, given-injective, not-both, count-given}
 use Rattle.words.specs.Answers.{Answer, given, refused, _then_, count}
 use Rattle.words.specs.Tray.{tray}
 use Rattle.words.specs.TrayLaws.{tray-full}

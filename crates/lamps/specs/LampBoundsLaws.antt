@@ -10,7 +10,7 @@ use Rattle.ieee.specs.Narrow.{narrow}
 use Rattle.ieee.specs.Single.{single}
 use Rattle.trig.specs.Series.{turns, seriesStep, series}
 use Rattle.trig.specs.Trig.{cos}
-use Rattle.words.specs.AnswerLaws.{then-assoc}
+use Rattle.words.proofs.AnswerLaws.{then-assoc}
 use Rattle.words.specs.Answers.{Answer, given, refused, _then_}
 use Rattle.light_bounds.specs.declared.light_bounds.LightBounds.{LightBounds}
 use Rattle.lamps.specs.LampList.{triangleWords}

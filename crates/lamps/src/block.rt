@@ -10,7 +10,7 @@ use light_bounds::record_words::Found;
 use light_bounds::record_words::is_side;
 use light_bounds::record_words::read_record;
 use words::places::word_or_zero;
-use words::refusal::Refusal;
+use words::refusals::Refusal;
 
 // The words of a record in a block, its handle counted.
 pub const EXHAUSTIVE_BOUNDS_WORDS: usize = 14;
@@ -54,7 +54,7 @@ fn check_records(block: &[u32], m: usize) -> Counted
         i += 1;
     }
     if placed {
-        Counted::Lamps(m)
+        Counted::Count(m)
     } else {
         Counted::Refused(Refusal::Misplaced)
     }

@@ -20,7 +20,7 @@ use light_bounds::light_bounds::LightBounds;
 use light_bounds::record_words::write_record;
 use words::fill::zero_words;
 use words::places::word_or_zero;
-use words::refusal::Refusal;
+use words::refusals::Refusal;
 
 // How many lamps a list has: over the limits is refusal 2, a wrong layout, kind or side 1, a handle that is not its place 4. The lamps' figures are not judged.
 pub fn check_list(list: &[u32]) -> Counted
@@ -60,7 +60,7 @@ fn check_lamps(list: &[u32], m: usize) -> Counted
     }
     if at == list.len() {
         if placed {
-            return Counted::Lamps(m);
+            return Counted::Count(m);
         }
         return Counted::Refused(Refusal::Misplaced);
     }
@@ -97,7 +97,7 @@ pub fn build_light_bounds(list: &[u32], block: &mut [u32]) -> Counted
     ensures { λ _. ⌜ now (block .exit) ≡ tray packExhaustiveBounds (blockWords (getD (now (list .entry)) 0 0)) (buildLightBounds (now (list .entry)) (length (now (block .entry)))) (now (block .entry)) ⌝ }
 {
     match check_list(list) {
-        Counted::Lamps(m) => {
+        Counted::Count(m) => {
             if block.len() < 1 + EXHAUSTIVE_BOUNDS_WORDS * m {
                 return Counted::Refused(Refusal::ShortTray);
             }
@@ -131,5 +131,5 @@ fn write_block(list: &[u32], m: usize, block: &mut [u32]) -> Counted
         }
         place += 1;
     }
-    Counted::Lamps(m)
+    Counted::Count(m)
 }

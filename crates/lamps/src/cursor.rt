@@ -12,7 +12,7 @@ use light_bounds::record_words::vec_at;
 use light_bounds::vecmath::Vec3;
 use words::floats::f32_of_word;
 use words::places::word_or_zero;
-use words::refusal::Refusal;
+use words::refusals::Refusal;
 
 // The words of a point, of a spot, of a group before its triangles, and of a triangle.
 const POINT_WORDS: usize = 6;

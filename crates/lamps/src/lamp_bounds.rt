@@ -27,7 +27,7 @@ use light_bounds::vecmath::normalize;
 use trig::acos;
 use trig::cos;
 use words::floats::f32_of_word;
-use words::refusal::Refusal;
+use words::refusals::Refusal;
 
 // π as f32 has it, 40490fdb, and the cosine of its half, b33bbd2e (specs/LampBoundsLaws.antt).
 const PI: f32 = 3.1415927;

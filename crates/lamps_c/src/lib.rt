@@ -5,10 +5,9 @@ ghost use Rattle.words.specs.Answers.{code};
 ghost use Rattle.words.specs.Tray.{tray};
 ghost use Rattle.lamps.specs.Block.{blockCheck, blockWords, packExhaustiveBounds};
 ghost use Rattle.lamps.specs.Build.{buildLightBounds};
-use lamps::block::Counted;
 use lamps::block::check_block;
 use lamps::build::build_light_bounds;
-use words::refusal::refusal_number;
+use words::answers::counted_code;
 
 // 0, or the refusal's number.
 #[no_mangle]
@@ -16,10 +15,7 @@ pub extern "C" fn lamps_build_light_bounds(list: &[u32], block: &mut [u32]) -> u
     ensures { λ r. ⌜ r ≡ code (buildLightBounds (now (list .entry)) (length (now (block .entry)))) ⌝ }
     ensures { λ _. ⌜ now (block .exit) ≡ tray packExhaustiveBounds (blockWords (getD (now (list .entry)) 0 0)) (buildLightBounds (now (list .entry)) (length (now (block .entry)))) (now (block .entry)) ⌝ }
 {
-    match build_light_bounds(list, block) {
-        Counted::Lamps(m) => 0,
-        Counted::Refused(why) => refusal_number(why),
-    }
+    counted_code(build_light_bounds(list, block))
 }
 
 // 0, or the refusal's number.
@@ -27,8 +23,5 @@ pub extern "C" fn lamps_build_light_bounds(list: &[u32], block: &mut [u32]) -> u
 pub extern "C" fn lamps_check_block(block: &[u32]) -> u32
     ensures { λ r. ⌜ r ≡ code (blockCheck (now (block .entry))) ⌝ }
 {
-    match check_block(block) {
-        Counted::Lamps(m) => 0,
-        Counted::Refused(why) => refusal_number(why),
-    }
+    counted_code(check_block(block))
 }

@@ -2,14 +2,14 @@
 // are no whole word make the list ragged (1), unless it is over the limits (2).
 ghost use Prim.Native.Nat.{_≤_};
 ghost use lib.ListN.{length};
-use lamps::block::Counted;
+use words::answers::Counted;
 use lamps::build::build_light_bounds;
 use lamps::build::check_list;
-use words::bytes::Words;
-use words::bytes::bytes_of_words;
-use words::bytes::words_of_bytes;
-use words::refusal::Refusal;
-use words::refusal::refusal_number;
+use words::answers::Counted;
+use words::little_endian::bytes_of_words;
+use words::little_endian::words_of_bytes;
+use words::refusals::Refusal;
+use words::refusals::refusal_number;
 
 // What was read: whole words, and bytes behind them.
 struct Input {
@@ -20,8 +20,8 @@ struct Input {
 // The words of bytes, as far as the list has room.
 fn put_words(bytes: &[u8], list: &mut [u32]) {
     match words_of_bytes(bytes, list) {
-        Words::Count(n) => {}
-        Words::Refused(why) => {}
+        Counted::Count(n) => {}
+        Counted::Refused(why) => {}
     }
 }
 
@@ -50,7 +50,7 @@ fn read_list(list: &mut [u32], chunk: &mut [u8]) -> Input
 // Writes words to standard output, for which the chunk has room; whether all were written.
 fn write_part(words: &[u32], chunk: &mut [u8]) -> bool {
     match bytes_of_words(words, chunk) {
-        Words::Count(n) => {
+        Counted::Count(n) => {
             if n <= chunk.len() / 4 {
                 let end = 4 * n;
                 io::write_all(1, &chunk[0..end])
@@ -58,7 +58,7 @@ fn write_part(words: &[u32], chunk: &mut [u8]) -> bool {
                 false
             }
         }
-        Words::Refused(why) => false,
+        Counted::Refused(why) => false,
     }
 }
 
@@ -91,7 +91,7 @@ fn write_refusal(why: Refusal) -> bool {
 // A list with bytes behind its last word.
 fn refuse_stray(list: &[u32]) -> bool {
     match check_list(list) {
-        Counted::Lamps(m) => write_refusal(Refusal::Ragged),
+        Counted::Count(m) => write_refusal(Refusal::Ragged),
         Counted::Refused(why) => match why {
             Refusal::Crowded => write_refusal(Refusal::Crowded),
             _ => write_refusal(Refusal::Ragged),
@@ -103,7 +103,7 @@ fn convert(list: &[u32], block: &mut [u32], chunk: &mut [u8]) -> bool
     requires { ⌜ 4 ≤ length (now chunk) ⌝ }
 {
     match build_light_bounds(list, block) {
-        Counted::Lamps(m) => {
+        Counted::Count(m) => {
             if m <= 4096 {
                 let end = 1 + 14 * m;
                 if end <= block.len() {

@@ -4,7 +4,7 @@ use native.Mathlib.Omega.{arith}
 use lib.Ieee.{lt, eq}
 use lib.Ieee.Scale.{finite}
 use Rattle.ieee.specs.Single.{zero as zerof}
-use Rattle.words.specs.AnswerLaws.{Late, only-given, only-refused, only-cond, only-then}
+use Rattle.words.proofs.AnswerLaws.{Late, only-given, only-refused, only-cond, only-then}
 use Rattle.words.specs.Answers.{Answer, given, refused}
 use Rattle.light_bounds.specs.Boxes.{boxCheck, inverted}
 use Rattle.light_bounds.specs.Records.{validate, coneCheck, rangeCheck, isCosine, operand, union}

@@ -5,7 +5,7 @@ use super::vecmath::Vec3;
 use super::vecmath::is_finite_vec;
 use floats::choose::max;
 use floats::choose::min;
-use words::refusal::Refusal;
+use words::refusals::Refusal;
 
 pub struct Bounds3 {
     pub min: Vec3,

@@ -26,7 +26,7 @@ use super::vecmath::sub;
 use floats::choose::abs;
 use floats::choose::max;
 use floats::choose::min;
-use words::refusal::Refusal;
+use words::refusals::Refusal;
 
 pub struct LightBounds {
     pub bounds: Bounds3,

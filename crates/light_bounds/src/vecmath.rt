@@ -6,7 +6,7 @@ use floats::sqrt::sqrt as root;
 use trig::asin;
 use trig::cos;
 use trig::sin;
-use words::refusal::Refusal;
+use words::refusals::Refusal;
 
 pub struct Vec3 {
     pub x: f32,

@@ -3,25 +3,16 @@
 // far as the case says, and compared whole after it.
 ghost use Prim.Native.Nat.{_≤_};
 ghost use lib.ListN.{length};
-use alias_table::AliasTable;
 use alias_table::build_power_alias_table;
 use stored::Next;
 use stored::TURNS;
 use stored::Tally;
 use stored::next_case;
 use stored::same;
+use words::answers::counted_code;
 use words::places::word_or_zero;
-use words::refusal::refusal_number;
 
-// 0, or the refusal's number.
-fn table_number(weights: &[u32], bins: &mut [u32], work: &mut [u32]) -> u32 {
-    match build_power_alias_table(weights, bins, work) {
-        AliasTable::Bins(n) => 0,
-        AliasTable::Refused(why) => refusal_number(why),
-    }
-}
-
-// The same with as much lent as the case says. A case that asks for more than there is has no answer: 255.
+// 0, or the refusal's number, with as much lent as the case says. A case that asks for more than there is has no answer: 255.
 fn alias_answer(case: &[u32], bins: &mut [u32], work: &mut [u32]) -> u32
     requires { ⌜ (21 ≤ length (now case)) × (60 ≤ length (now bins)) × (80 ≤ length (now work)) ⌝ }
 {
@@ -38,11 +29,11 @@ fn alias_answer(case: &[u32], bins: &mut [u32], work: &mut [u32]) -> u32
         return 255;
     }
     let end = 4 + m;
-    table_number(
+    counted_code(build_power_alias_table(
         &case[4..end],
         &mut bins[0..bins_room],
         &mut work[0..work_room],
-    )
+    ))
 }
 
 // Whether the stored answer is the proved one.

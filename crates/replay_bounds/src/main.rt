@@ -21,7 +21,7 @@ use stored::same;
 use words::floats::f32_of_word;
 use words::floats::word_of_f32;
 use words::places::word_or_zero;
-use words::refusal::refusal_number;
+use words::refusals::refusal_number;
 
 // Writes the first word.
 fn put(words: &mut [u32], w: u32) {

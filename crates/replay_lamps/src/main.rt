@@ -3,25 +3,16 @@
 // with a5a5a5a5 before the call, lent as far as the case says, and compared whole after it.
 ghost use Prim.Native.Nat.{_≤_};
 ghost use lib.ListN.{length};
-use lamps::block::Counted;
 use lamps::build::build_light_bounds;
 use stored::Next;
 use stored::TURNS;
 use stored::Tally;
 use stored::next_case;
 use stored::same;
+use words::answers::counted_code;
 use words::places::word_or_zero;
-use words::refusal::refusal_number;
 
-// 0, or the refusal's number.
-fn block_number(list: &[u32], block: &mut [u32]) -> u32 {
-    match build_light_bounds(list, block) {
-        Counted::Lamps(m) => 0,
-        Counted::Refused(why) => refusal_number(why),
-    }
-}
-
-// The same with as much lent as the case says. A case that asks for more than there is has no answer: 255.
+// 0, or the refusal's number, with as much lent as the case says. A case that asks for more than there is has no answer: 255.
 fn lamps_answer(case: &[u32], block: &mut [u32]) -> u32
     requires { ⌜ (163 ≤ length (now case)) × (80 ≤ length (now block)) ⌝ }
 {
@@ -34,7 +25,7 @@ fn lamps_answer(case: &[u32], block: &mut [u32]) -> u32
         return 255;
     }
     let end = 3 + n;
-    block_number(&case[3..end], &mut block[0..room])
+    counted_code(build_light_bounds(&case[3..end], &mut block[0..room]))
 }
 
 // Whether the stored answer is the proved one.

@@ -4,9 +4,9 @@ ghost use Prim.Native.Nat.{_+_, _≤_, min};
 ghost use mathlib.Core.Path.{_≡_};
 ghost use lib.ListN.{length, drop};
 ghost use Rattle.stored.specs.Replay.{Within, sameFrom, turns, none, counted, ended};
-use words::bytes::Words;
-use words::bytes::word_at;
-use words::bytes::words_of_bytes;
+use words::answers::Counted;
+use words::little_endian::word_at;
+use words::little_endian::words_of_bytes;
 
 // How often a program looks for a case; the input's end must come within that.
 pub const TURNS: u64 = 100000;
@@ -76,8 +76,8 @@ fn decode(bytes: &[u8], size: usize, case: &mut [u32]) -> bool
 // Writes the bytes' words; whether there is one for each place.
 fn fills(bytes: &[u8], words: &mut [u32]) -> bool {
     match words_of_bytes(bytes, words) {
-        Words::Count(n) => n == words.len(),
-        Words::Refused(why) => false,
+        Counted::Count(n) => n == words.len(),
+        Counted::Refused(why) => false,
     }
 }
 

@@ -1,1 +1,6 @@
+pub mod AnswerLaws
+pub mod FillLaws
 pub mod LittleEndianLaws
+pub mod Reserves
+pub mod RowLaws
+pub mod Stores

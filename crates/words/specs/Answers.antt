@@ -1,8 +1,11 @@
 -- What a definition answers: a value, or the number of a refusal of document 01's table "Refusals and trays".
--- Each enum that code returns is mapped to such an answer by a definition beside it, and the promises speak of the answer. Assumes nothing.
+-- Each enum that code returns is mapped to such an answer by a definition beside it, and the promises speak of the answer. Definitions only. Assumes nothing.
 use Prim.Native.Nat.{ℕ}
 use mathlib.Core.List.{List}
 use lib.ListN.{length}
+use Rattle.words.specs.Refusals.{number}
+use Rattle.words.specs.declared.answers.Counted.{Counted}
+use Rattle.words.specs.declared.answers.Counted.the-variants.{Count, Refused}
 
 infixl 20 _then_
 pub data Answer (A : Type 0) : Type 0 where
@@ -23,3 +26,8 @@ count (refused n) = refused n
 abbrev pub code : {A : Type 0} → Answer A → ℕ
 code (given a) = 0
 code (refused n) = n
+
+-- what the enum `Counted` answers
+abbrev pub counted : Counted → Answer ℕ
+counted (Count n) = given n
+counted (Refused r) = refused (number r)

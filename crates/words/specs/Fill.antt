@@ -1,4 +1,4 @@
--- A stretch of a slice, filled with one value. Assumes nothing.
+-- A stretch of a slice, filled with one value. Definitions only. Assumes nothing.
 use Prim.Native.Nat.{ℕ, _-_, min}
 use mathlib.Core.List.{List, _++_}
 use lib.ListN.{length, take, drop, replicate}

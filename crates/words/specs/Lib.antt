@@ -1,9 +1,9 @@
 pub mod Answers
-pub mod AnswerLaws
 pub mod Refusals
+pub mod Limits
+pub mod Heads
 pub mod LittleEndian
 pub mod Fill
 pub mod Tray
-pub mod Stores
-pub mod FillLaws
 pub mod TrayLaws
+pub mod Rows

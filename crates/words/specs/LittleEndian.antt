@@ -1,4 +1,4 @@
--- 32-bit words as little-endian bytes: the lowest byte first. Assumes nothing.
+-- 32-bit words as little-endian bytes: the lowest byte first. Definitions only. Assumes nothing.
 use Prim.Native.Nat.{ℕ, _+_, _*_, _/_, _%_}
 use mathlib.Core.List.{List, [], _∷_, _++_}
 use mathlib.Core.Bool.{cond}
@@ -6,9 +6,6 @@ use lib.Dec.{ltb, leb, eqb}
 use lib.ListN.{length}
 use lib.Seq.{sets}
 use Rattle.words.specs.Answers.{Answer, given, refused, _then_}
-use Rattle.words.specs.Refusals.{number}
-use Rattle.words.specs.declared.bytes.Words.{Words}
-use Rattle.words.specs.declared.bytes.Words.the-variants.{Count, Refused}
 
 -- the word of four bytes
 abbrev pub wordOf : ℕ → ℕ → ℕ → ℕ → ℕ
@@ -46,8 +43,3 @@ readWords bytes room = wordCount bytes then (λ (n : ℕ). cond (leb n room) (gi
 -- Writing words into a slice of `room` bytes: too little room is refusal 3.
 unfoldable pub writtenWords : List ℕ → ℕ → Answer ℕ
 writtenWords words room = cond (leb (4 * length words) room) (given (length words)) (refused 3)
-
--- what the enum `Words` answers
-abbrev pub counted : Words → Answer ℕ
-counted (Count n) = given n
-counted (Refused r) = refused (number r)

@@ -1,4 +1,4 @@
--- What a tray holds after a call. Assumes nothing.
+-- What a lent slice holds after a call, word by word: the sentences of Tray's header. Assumes nothing.
 use Prim.Native.Nat.{ℕ, _-_, _≤_, _<_}
 use mathlib.Core.Path.{_≡_, refl, _∙_, sym}
 use mathlib.Core.Bool.{Bool, true, false, cond}
@@ -8,10 +8,9 @@ use native.Mathlib.Omega.{arith}
 use borrow.Author.Tests.{le-leb, lt-leb}
 use lib.Dec.{leb}
 use lib.ListN.{length, take, drop, replicate, getD, length-append, length-drop, length-replicate, getD-replicate, take-append-drop, List·getD-append}
-use lib.Seq.{length-take-le, take-all, getD-append-add, getD-drop}
+use lib.Seq.{length-take-le, getD-append-add, getD-drop}
 use Rattle.words.specs.Answers.{Answer, given, refused}
 use Rattle.words.specs.Tray.{front, tray}
-use Rattle.words.specs.Stores.{Copied}
 
 -- an element of the second of two lists
 behind : (p q : List ℕ) (i : ℕ) → length p ≤ i → getD (p ++ q) i 0 ≡ getD q (i - length p) 0
@@ -51,11 +50,6 @@ module _ {A : Type 0} (written : A → List ℕ) (reserve : ℕ) (before : List 
   pub tray-full : (a : A) → length (written a) ≡ reserve → tray written reserve (given a) before ≡ written a ++ drop reserve before
   unfolding tray
   tray-full a e = simp (e, sub-self, append-nil)
-
-  -- as a loop leaves them that copies all of them
-  pub tray-copied : {i : ℕ} {l : List ℕ} (a : A) → Copied (written a) before i l → i ≡ reserve → length (written a) ≡ reserve
-      → l ≡ tray written reserve (given a) before
-  tray-copied a c e h = c .is ∙ simp (e, take-all reserve (written a) (omega arith), tray-full a h)
 
   -- the reserve alone is written
   tray-is : (answer : Answer A) → ((a : A) → answer ≡ given a → length (written a) ≤ reserve) → reserve ≤ length before

@@ -3,7 +3,7 @@ use mathlib.Core.Path.{ap, _∙_}
 use denote.Ref.{now}
 use lib.ListN.{length}
 use Rattle.alias_table.specs.AliasTable.{buildPowerAliasTable}
-use Rattle.words.specs.AnswerLaws.{code-count}
+use Rattle.words.proofs.AnswerLaws.{code-count}
 use Rattle.words.specs.Answers.{code}
 use borrow.Author.Needs.{needs}
 use Rattle.alias_c.proofs.alias_build_power_alias_table.Statement.{statement}

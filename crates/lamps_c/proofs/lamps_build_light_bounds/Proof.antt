@@ -3,7 +3,7 @@ use borrow.Author.Needs.{needs}
 use mathlib.Core.Path.{ap, sym, _∙_}
 use denote.Ref.{now}
 use lib.ListN.{length}
-use Rattle.words.specs.AnswerLaws.{code-count}
+use Rattle.words.proofs.AnswerLaws.{code-count}
 use Rattle.words.specs.Answers.{code}
 use Rattle.lamps.specs.Block.{counted}
 use Rattle.lamps.specs.Build.{buildLightBounds}

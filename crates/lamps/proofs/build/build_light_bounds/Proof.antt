@@ -5,7 +5,7 @@ use mathlib.Core.Path.{refl, ap, sym, _∙_}
 use denote.Ref.{now}
 use native.Mathlib.Omega.{arith}
 use lib.ListN.{length, getD}
-use Rattle.words.specs.AnswerLaws.{only-number, count-refused}
+use Rattle.words.proofs.AnswerLaws.{only-number, count-refused}
 use Rattle.words.specs.Answers.{count}
 use Rattle.words.specs.Refusals.{number}
 use Rattle.words.specs.Tray.{tray}

@@ -5,7 +5,7 @@ use mathlib.Core.Path.{_≡_}
 use mathlib.Core.Logic.{⊎-elim}
 use native.Mathlib.Omega.{arith}
 use lib.ListN.{length}
-use Rattle.words.specs.FillLaws.{Filling, filling-none, filling-one, filling-all}
+use Rattle.words.proofs.FillLaws.{Filling, filling-none, filling-one, filling-all}
 use Rattle.words.proofs.fill.fill_words.Statement.{statement}
 use Rattle.words.proofs.fill.fill_words.Tie as tie
 

@@ -1,4 +1,4 @@
--- `words::bytes::words_of_bytes` meets its contract. The loop's invariant: the words before `i` are those of the bytes, and the others are as they came.
+-- `words::little_endian::words_of_bytes` meets its contract. The loop's invariant: the words before `i` are those of the bytes, and the others are as they came.
 -- Assumes nothing.
 use Prim.Native.Nat.{_-_}
 use mathlib.Core.Path.{_≡_, refl, sym}
@@ -10,10 +10,10 @@ use Rattle.words.specs.Answers.{_then_}
 use Rattle.words.specs.LittleEndian.{wordsOf, wordCount, readWords}
 use Rattle.words.specs.Tray.{tray}
 use Rattle.words.proofs.LittleEndianLaws.{length-wordsOf}
-use Rattle.words.specs.Stores.{Copied, copied-none, copied-one}
-use Rattle.words.specs.TrayLaws.{tray-copied}
-use Rattle.words.proofs.bytes.words_of_bytes.Statement.{statement}
-use Rattle.words.proofs.bytes.words_of_bytes.Tie as tie
+use Rattle.words.proofs.Stores.{Copied, copied-none, copied-one}
+use Rattle.words.proofs.TrayLaws.{tray-copied}
+use Rattle.words.proofs.little_endian.words_of_bytes.Statement.{statement}
+use Rattle.words.proofs.little_endian.words_of_bytes.Tie as tie
 
 abbrev Inv-loop : tie.InvT-loop
 Inv-loop bytes words₀ count i₀ words i = (count ≡ length (wordsOf bytes)) × Copied (wordsOf bytes) words₀ i words

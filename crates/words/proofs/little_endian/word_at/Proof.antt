@@ -1,4 +1,4 @@
--- `words::bytes::word_at` meets its contract: the word of four bytes fits, and past the last word there is none. Assumes nothing.
+-- `words::little_endian::word_at` meets its contract: the word of four bytes fits, and past the last word there is none. Assumes nothing.
 use Prim.Native.Nat.{ℕ, _+_, _*_, _<_}
 use mathlib.Core.Path.{sym}
 use borrow.Author.Needs.{needs}
@@ -7,8 +7,8 @@ use mir.Facts.{fits-widen}
 use lib.ListN.{getD, List·getD-eq-default}
 use Rattle.words.specs.LittleEndian.{wordsOf}
 use Rattle.words.proofs.LittleEndianLaws.{length-wordsOf, wordsOf-at}
-use Rattle.words.proofs.bytes.word_at.Statement.{statement}
-use Rattle.words.proofs.bytes.word_at.Tie as tie
+use Rattle.words.proofs.little_endian.word_at.Statement.{statement}
+use Rattle.words.proofs.little_endian.word_at.Tie as tie
 
 module _ (c : tie.After-shared-slice-known4) where
   abbrev at : ℕ

@@ -1,12 +1,12 @@
--- `words::bytes::set_word` meets its contract: the code's four stores are the definition's. Assumes nothing.
+-- `words::little_endian::set_word` meets its contract: the code's four stores are the definition's. Assumes nothing.
 use borrow.Author.Needs.{needs}
 use borrow.Author.Tests.{lt-ltb, le-ltb}
 use native.Mathlib.Numerals.{towards-suc}
 use native.Mathlib.Omega.{arith}
 use lib.ListN.{length-set}
 use Rattle.words.specs.LittleEndian.{setWord}
-use Rattle.words.proofs.bytes.set_word.Statement.{statement}
-use Rattle.words.proofs.bytes.set_word.Tie as tie
+use Rattle.words.proofs.little_endian.set_word.Statement.{statement}
+use Rattle.words.proofs.little_endian.set_word.Tie as tie
 
 returns : tie.Need-returns
 unfolding setWord

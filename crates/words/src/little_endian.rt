@@ -2,24 +2,20 @@
 ghost use mathlib.Core.Path.{_≡_};
 ghost use Prim.Native.Nat.{ℕ, _*_, _/_};
 ghost use lib.ListN.{getD, length};
-ghost use Rattle.words.specs.LittleEndian.{wordsOf, bytesOf, setWord, wordCount, counted, readWords, writtenWords};
+ghost use Rattle.words.specs.LittleEndian.{wordsOf, bytesOf, setWord, wordCount, readWords, writtenWords};
+ghost use Rattle.words.specs.Answers.{counted};
 ghost use Rattle.words.specs.Tray.{tray};
-use super::refusal::Refusal;
-
-// How many words, or why not.
-pub enum Words {
-    Count(usize),
-    Refused(Refusal),
-}
+use super::answers::Counted;
+use super::refusals::Refusal;
 
 // How many words the bytes hold; a length that is no multiple of four is refused.
-pub fn word_count(bytes: &[u8]) -> Words
+pub fn word_count(bytes: &[u8]) -> Counted
     ensures { λ r. ⌜ counted r ≡ wordCount (now (bytes .entry)) ⌝ }
 {
     if bytes.len() % 4 == 0 {
-        Words::Count(bytes.len() / 4)
+        Counted::Count(bytes.len() / 4)
     } else {
-        Words::Refused(Refusal::Ragged)
+        Counted::Refused(Refusal::Ragged)
     }
 }
 
@@ -53,38 +49,38 @@ pub fn set_word(bytes: &mut [u8], place: usize, w: u32)
 }
 
 // Reads the words of bytes into a lent slice. A length that is no multiple of four is refusal 1, a slice that is too short for the words 3.
-pub fn words_of_bytes(bytes: &[u8], words: &mut [u32]) -> Words
+pub fn words_of_bytes(bytes: &[u8], words: &mut [u32]) -> Counted
     ensures { λ r. ⌜ counted r ≡ readWords (now (bytes .entry)) (length (now (words .entry))) ⌝ }
     ensures { λ _. ⌜ now (words .exit) ≡ tray (λ (n : ℕ). wordsOf (now (bytes .entry))) (length (now (bytes .entry)) / 4) (readWords (now (bytes .entry)) (length (now (words .entry)))) (now (words .entry)) ⌝ }
 {
     if bytes.len() % 4 != 0 {
-        return Words::Refused(Refusal::Ragged);
+        return Counted::Refused(Refusal::Ragged);
     }
     let count = bytes.len() / 4;
     if words.len() < count {
-        return Words::Refused(Refusal::ShortTray);
+        return Counted::Refused(Refusal::ShortTray);
     }
     let mut i = 0;
     while i < count {
         words[i] = word_at(bytes, i);
         i += 1;
     }
-    Words::Count(count)
+    Counted::Count(count)
 }
 
 // Writes words as bytes into a lent slice, which is refused (3) where it is too short for them.
-pub fn bytes_of_words(words: &[u32], bytes: &mut [u8]) -> Words
+pub fn bytes_of_words(words: &[u32], bytes: &mut [u8]) -> Counted
     ensures { λ r. ⌜ counted r ≡ writtenWords (now (words .entry)) (length (now (bytes .entry))) ⌝ }
     ensures { λ _. ⌜ now (bytes .exit) ≡ tray (λ (n : ℕ). bytesOf (now (words .entry))) (4 * length (now (words .entry))) (writtenWords (now (words .entry)) (length (now (bytes .entry)))) (now (bytes .entry)) ⌝ }
 {
     let count = words.len();
     if bytes.len() / 4 < count {
-        return Words::Refused(Refusal::ShortTray);
+        return Counted::Refused(Refusal::ShortTray);
     }
     let mut i = 0;
     while i < count {
         set_word(bytes, i, words[i]);
         i += 1;
     }
-    Words::Count(count)
+    Counted::Count(count)
 }

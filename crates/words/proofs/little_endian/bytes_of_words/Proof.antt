@@ -1,4 +1,4 @@
--- `words::bytes::bytes_of_words` meets its contract. The loop's invariant: the bytes before `4 * i` are those of the words, and the others are as they came.
+-- `words::little_endian::bytes_of_words` meets its contract. The loop's invariant: the bytes before `4 * i` are those of the words, and the others are as they came.
 -- Assumes nothing.
 use Prim.Native.Nat.{ℕ, _+_, _*_, _/_, _-_, _≤_, _<_}
 use mathlib.Core.Path.{_≡_, refl}
@@ -10,10 +10,10 @@ use lib.ListN.{length, getD}
 use Rattle.words.specs.LittleEndian.{bytesOf, bytesOfWord, setWord, writtenWords}
 use Rattle.words.specs.Tray.{tray}
 use Rattle.words.proofs.LittleEndianLaws.{length-bytesOf, bytesOf-at}
-use Rattle.words.specs.Stores.{Copied, copied-none, copied-run}
-use Rattle.words.specs.TrayLaws.{tray-copied}
-use Rattle.words.proofs.bytes.bytes_of_words.Statement.{statement}
-use Rattle.words.proofs.bytes.bytes_of_words.Tie as tie
+use Rattle.words.proofs.Stores.{Copied, copied-none, copied-run}
+use Rattle.words.proofs.TrayLaws.{tray-copied}
+use Rattle.words.proofs.little_endian.bytes_of_words.Statement.{statement}
+use Rattle.words.proofs.little_endian.bytes_of_words.Tie as tie
 
 abbrev Inv-loop : tie.InvT-loop
 Inv-loop words bytes₀ count i₀ bytes i = (i ≤ count) × Copied (bytesOf words) bytes₀ (4 * i) bytes

@@ -1,8 +1,8 @@
--- `words::bytes::word_count` meets its contract: its test is the definition's. Assumes nothing.
+-- `words::little_endian::word_count` meets its contract: its test is the definition's. Assumes nothing.
 use borrow.Author.Tests.{eq-eqb, ne-eqb}
 use Rattle.words.specs.LittleEndian.{wordCount}
-use Rattle.words.proofs.bytes.word_count.Statement.{statement}
-use Rattle.words.proofs.bytes.word_count.Tie as tie
+use Rattle.words.proofs.little_endian.word_count.Statement.{statement}
+use Rattle.words.proofs.little_endian.word_count.Tie as tie
 
 returns : tie.Need-returns
 unfolding wordCount
