@@ -7,6 +7,7 @@ use mathlib.Core.List.{List, [], _∷_, _++_, append-assoc, append-nil}
 use native.Mathlib.Nat.{mul-suc, mul-zero}
 use native.Mathlib.Numerals.{add-one}
 use native.Mathlib.Omega.{arith}
+use lib.Dec.{T}
 use lib.ListN.{length, getD, drop, length-append}
 use lib.Seq.{sets, length-sets, drop-cons, drop-drop, drop-nil, drop-append-add}
 use Rattle.words.specs.Answers.{Answer, given, refused, _then_}
@@ -39,14 +40,7 @@ below-at test n i e h = go (test i) refl
   where
     go : (b : Bool) → test i ≡ b → test i ≡ true
     go true is = is
-    go false is = absurd (true-or-false (sym e ∙ below-false test n i h is))
-      where
-        abbrev Told : Bool → Type 0
-        Told true = Unit
-        Told false = ⊥
-
-        true-or-false : true ≡ false → ⊥
-        true-or-false e = subst Told e tt
+    go false is = absurd (subst T (sym e ∙ below-false test n i h is) tt)
 
 -- ---- rows
 
@@ -59,26 +53,26 @@ module _ {A : Type 0} (row : ℕ → A → List ℕ) where
       rw (rows-snoc (suc i) done a, e) (sym (append-assoc (row i d) (rowsFrom row (suc i) done) (row (i + suc (length done)) a)))
 
   module _ (width : ℕ) (each : (i : ℕ) (a : A) → length (row i a) ≡ width) where
-    pub rows-length : (i : ℕ) (as : List A) → length (rowsFrom row i as) ≡ width * length as
+    pub rows-length : (i : ℕ) (xs : List A) → length (rowsFrom row i xs) ≡ width * length xs
     unfolding rowsFrom
-    rows-length i [] = refl
-    rows-length i (a ∷ as) =
-        length-append (row i a) (rowsFrom row (suc i) as) ∙ omega (arith, each i a, rows-length (suc i) as, mul-suc width (length as))
+    rows-length i [] = sym (mul-zero width)
+    rows-length i (x ∷ xs) =
+        length-append (row i x) (rowsFrom row (suc i) xs) ∙ omega (arith, each i x, rows-length (suc i) xs, mul-suc width (length xs))
 
-    pub rows-drop : (i k : ℕ) (as : List A) → drop (width * k) (rowsFrom row i as) ≡ rowsFrom row (i + k) (drop k as)
+    pub rows-drop : (i k : ℕ) (xs : List A) → drop (width * k) (rowsFrom row i xs) ≡ rowsFrom row (i + k) (drop k xs)
     unfolding rowsFrom
-    rows-drop i zero as = let e : i + 0 ≡ i = omega arith in rw e
+    rows-drop i zero xs = let e : i + 0 ≡ i = omega arith in rw (mul-zero width, e)
     rows-drop i (suc k) [] = drop-nil (width * suc k)
-    rows-drop i (suc k) (a ∷ as) =
-        let e : width * suc k ≡ length (row i a) + width * k = omega (arith, each i a, mul-suc width k) in
+    rows-drop i (suc k) (x ∷ xs) =
+        let e : width * suc k ≡ length (row i x) + width * k = omega (arith, each i x, mul-suc width k) in
         let e′ : suc i + k ≡ i + suc k = omega arith in
-        rw e (drop-append-add (row i a) (rowsFrom row (suc i) as) (width * k)) ∙ rows-drop (suc i) k as ∙ rw e′
+        rw e (drop-append-add (row i x) (rowsFrom row (suc i) xs) (width * k)) ∙ rows-drop (suc i) k xs ∙ rw e′
 
     -- what stands from row k on
-    pub row-at : (i k : ℕ) (as : List A) (d : A) → k < length as
-        → drop (width * k) (rowsFrom row i as) ≡ row (i + k) (getD as k d) ++ rowsFrom row (suc (i + k)) (drop (suc k) as)
+    pub row-at : (i k : ℕ) (xs : List A) (d : A) → k < length xs
+        → drop (width * k) (rowsFrom row i xs) ≡ row (i + k) (getD xs k d) ++ rowsFrom row (suc (i + k)) (drop (suc k) xs)
     unfolding rowsFrom
-    row-at i k as d h = rows-drop i k as ∙ rw (drop-cons as k d h)
+    row-at i k xs d h = rows-drop i k xs ∙ rw (drop-cons xs k d h)
 
     -- l is d with a head and these rows in front
     pub record Written (head : List ℕ) (done : List A) (d l : List ℕ) : Type 0 where
@@ -92,7 +86,8 @@ module _ {A : Type 0} (row : ℕ → A → List ℕ) where
     unfolding rowsFrom
     written-none head d h =
         let e : length head + width * 0 ≡ length head = omega (arith, mul-zero width) in
-        record { same = length-sets d 0 head; is = stored [] d head 0 refl (omega arith) ∙ rw (append-nil head, e) }
+        let z : 0 + length head ≡ length head = omega arith in
+        record { same = length-sets d 0 head; is = stored [] d head 0 refl (omega arith) ∙ rw (append-nil head, e, z) }
 
     pub written-one : {head : List ℕ} {done : List A} {d l : List ℕ} (a : A) (at : ℕ) → Written head done d l → length head + width * length done ≡ at
         → at + width ≤ length d → Written head (done ++ a ∷ []) d (sets l at (row (length done) a))
@@ -102,11 +97,12 @@ module _ {A : Type 0} (row : ℕ → A → List ℕ) where
         let fit : at + length (row (length done) a) ≤ length d = omega (arith, each (length done) a) in
         let end : at + length (row (length done) a) ≡ length head + width * length (done ++ a ∷ []) =
         rw more (omega (arith, each (length done) a, mul-suc width (length done))) in
+        let put : sets l at (row (length done) a) ≡ head ++ rowsFrom row 0 done ++ row (length done) a ++ drop (at + length (row (length done) a)) d =
+        ap (λ (x : List ℕ). sets x at (row (length done) a)) (w .is ∙ rw place)
+        ∙ stored (head ++ rowsFrom row 0 done) d (row (length done) a) at (front-length head done ∙ place) fit in
         record {
           same = length-sets l at (row (length done) a) ∙ w .same;
-          is =
-              rw (w .is, place) (stored (head ++ rowsFrom row 0 done) d (row (length done) a) at (front-length head done ∙ place) fit)
-              ∙ rw (end, rows-snoc 0 done a, z, append-assoc head (rowsFrom row 0 done) (row (length done) a));
+          is = put ∙ rw (end, rows-snoc 0 done a, z, append-assoc head (rowsFrom row 0 done) (row (length done) a));
         }
 
     -- what lies behind the rows stays

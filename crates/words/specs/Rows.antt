@@ -8,7 +8,7 @@ use Rattle.words.specs.Answers.{Answer, given, _then_}
 -- the rows of a list, the first at place i
 unfoldable pub rowsFrom : {A : Type 0} → (ℕ → A → List ℕ) → ℕ → List A → List ℕ
 rowsFrom row i [] = []
-rowsFrom row i (a ∷ as) = row i a ++ rowsFrom row (suc i) as
+rowsFrom row i (x ∷ xs) = row i x ++ rowsFrom row (suc i) xs
 
 -- a test at every place below n
 unfoldable pub below : (ℕ → Bool) → ℕ → Bool

@@ -11,7 +11,7 @@ use Rattle.words.specs.LittleEndian.{bytesOf, bytesOfWord, setWord, writ
 use Rattle.words.specs.Tray.{tray}
 use Rattle.words.proofs.LittleEndianLaws.{length-bytesOf, bytesOf-at}
 use Rattle.words.proofs.Stores.{Copied, copied-none, copied-run}
-use Rattle.words.proofs.TrayLaws.{tray-copied}
+use Rattle.words.proofs.Reserves.{tray-copied}
 use Rattle.words.proofs.little_endian.bytes_of_words.Statement.{statement}
 use Rattle.words.proofs.little_endian.bytes_of_words.Tie as tie
 

@@ -11,7 +11,7 @@ use Rattle.words.specs.LittleEndian.{wordsOf, wordCount, readWords}
 use Rattle.words.specs.Tray.{tray}
 use Rattle.words.proofs.LittleEndianLaws.{length-wordsOf}
 use Rattle.words.proofs.Stores.{Copied, copied-none, copied-one}
-use Rattle.words.proofs.TrayLaws.{tray-copied}
+use Rattle.words.proofs.Reserves.{tray-copied}
 use Rattle.words.proofs.little_endian.words_of_bytes.Statement.{statement}
 use Rattle.words.proofs.little_endian.words_of_bytes.Tie as tie
 
