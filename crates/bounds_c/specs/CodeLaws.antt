@@ -11,8 +11,8 @@ use Rattle.words.specs.Fill.{filled}
 use Rattle.words.proofs.Stores.{stored}
 use Rattle.words.specs.Tray.{tray}
 use Rattle.words.specs.TrayLaws.{tray-full}
-use Rattle.light_bounds.specs.LateLaws.{late-union}
-use Rattle.light_bounds.specs.Records.{union}
+use Rattle.light_bounds.proofs.LateLaws.{late-union}
+use Rattle.light_bounds.specs.LightBounds.{union}
 use Rattle.light_bounds.specs.RecordLaws.{writtenAt-sets}
 use Rattle.light_bounds.specs.RecordWords.{writtenAt, recordList}
 use Rattle.light_bounds.specs.declared.light_bounds.LightBounds.{LightBounds}

@@ -7,10 +7,10 @@ use lib.Ieee.{Float, binary32, toBits}
 use lib.ListN.{length}
 use Rattle.words.specs.Answers.{Answer, given, refused, _then_}
 use Rattle.light_bounds.specs.Importance.{importance}
-use Rattle.light_bounds.specs.Records.{validate, union}
+use Rattle.light_bounds.specs.LightBounds.{validate, union}
 use Rattle.light_bounds.specs.RecordWords.{recordAt, recordWords, vecAt}
 use Rattle.light_bounds.specs.declared.light_bounds.LightBounds.{LightBounds}
-use Rattle.light_bounds.specs.declared.light_bounds.Query.{Query}
+use Rattle.light_bounds.specs.declared.importance.Query.{Query}
 use Rattle.light_bounds.specs.declared.record_words.Found.{Found}
 use Rattle.light_bounds.specs.declared.record_words.Found.the-variants.{Record, UnknownSide, Past}
 

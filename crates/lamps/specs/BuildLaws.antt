@@ -15,10 +15,10 @@ use Rattle.words.proofs.AnswerLaws.{Early, Late, only-given, only-refused, only
 use Rattle.words.specs.Answers.{Answer, given, refused, _then_, count}
 use Rattle.words.specs.Tray.{tray}
 use Rattle.words.specs.TrayLaws.{tray-full}
-use Rattle.light_bounds.specs.LateLaws.{late-box, late-normalize, late-validate, late-union}
-use Rattle.light_bounds.specs.Records.{isCosine}
+use Rattle.light_bounds.proofs.LateLaws.{late-box, late-normalize, late-validate, late-union}
+use Rattle.light_bounds.specs.LightBounds.{isCosine}
 use Rattle.light_bounds.specs.RecordWords.{sideKnown}
-use Rattle.light_bounds.specs.Vectors.{finiteVec}
+use Rattle.light_bounds.specs.Vecmath.{finiteVec}
 use Rattle.light_bounds.specs.declared.light_bounds.LightBounds.{LightBounds}
 use Rattle.light_bounds.specs.declared.vecmath.Vec3.{Vec3}
 use Rattle.lamps.specs.Block.{blockWords, packedFrom, packExhaustiveBounds}

@@ -9,10 +9,10 @@ use Rattle.ieee.specs.Single.{_⊖_, _⊗_, single, zerof, onef, minusOne, pi}
 use Rattle.trig.specs.Trig.{cos, acos}
 use Rattle.words.specs.Answers.{Answer, given, refused, _then_}
 use Rattle.words.specs.Refusals.{number}
-use Rattle.light_bounds.specs.Boxes.{boxCheck, leastOf, greatestOf}
-use Rattle.light_bounds.specs.Records.{isCosine, validate, union}
+use Rattle.light_bounds.specs.Bounds.{boxCheck, leastOf, greatestOf}
+use Rattle.light_bounds.specs.LightBounds.{isCosine, validate, union}
 use Rattle.light_bounds.specs.RecordWords.{vecAt}
-use Rattle.light_bounds.specs.Vectors.{vec, finiteVec, normalize}
+use Rattle.light_bounds.specs.Vecmath.{vec, finiteVec, normalize}
 use Rattle.light_bounds.specs.declared.bounds.Bounds3.{Bounds3}
 use Rattle.light_bounds.specs.declared.light_bounds.LightBounds.{LightBounds}
 use Rattle.light_bounds.specs.declared.vecmath.Vec3.{Vec3}

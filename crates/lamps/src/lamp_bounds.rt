@@ -3,7 +3,7 @@ ghost use mathlib.Core.Path.{_≡_};
 ghost use Prim.Native.Nat.{_+_, _*_, _≤_, _-_};
 ghost use lib.ListN.{length};
 ghost use Rattle.words.specs.Answers.{given, _then_};
-ghost use Rattle.light_bounds.specs.Boxes.{validity};
+ghost use Rattle.light_bounds.specs.Bounds.{validity};
 ghost use Rattle.lamps.specs.LampList.{triangleWords};
 ghost use Rattle.lamps.specs.LampBounds.{bounded, lightBoundsForInput, validateEmission, checked as checkedOf, pointPhi, pointBounds, falloff as falloffOf, spotBounds, triangleAt, triangleBounds, triangleRecord, groupPhi, joinNext, unionFrom, groupBounds, spotRecord, facedRecord};
 use super::cursor::Lamp;

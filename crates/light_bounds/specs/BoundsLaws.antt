@@ -12,14 +12,14 @@ use Rattle.ieee.specs.OperationOrder.{add-positive}
 use Rattle.ieee.specs.OrderLaws.{nonneg, le→nonneg, lt→le, not-eq-of-lt}
 use Rattle.ieee.specs.Single.{_⊕_, _⊗_, _⊘_, zerof}
 use Rattle.words.specs.Answers.{Answer, given, refused, _then_}
-use Rattle.light_bounds.specs.Boxes.{boxCheck, boxUnion, leastOf, greatestOf, inverted}
+use Rattle.light_bounds.specs.Bounds.{boxCheck, boxUnion, leastOf, greatestOf, inverted}
 use Rattle.light_bounds.specs.Cones.{unionDirectionCones}
 use Rattle.light_bounds.specs.Importance.{Seen, dark, lit, facing, finish, geometry, checkedImportance, importance}
-use Rattle.light_bounds.specs.Records.{validate, coneCheck, join, either}
-use Rattle.light_bounds.specs.Vectors.{finiteVec}
+use Rattle.light_bounds.specs.LightBounds.{validate, coneCheck, join, either}
+use Rattle.light_bounds.specs.Vecmath.{finiteVec}
 use Rattle.light_bounds.specs.declared.bounds.Bounds3.{Bounds3}
 use Rattle.light_bounds.specs.declared.light_bounds.LightBounds.{LightBounds}
-use Rattle.light_bounds.specs.declared.light_bounds.Query.{Query}
+use Rattle.light_bounds.specs.declared.importance.Query.{Query}
 
 -- ---- the importance
 

@@ -6,8 +6,8 @@ use Rattle.ieee.specs.Single.{_⊕_, _⊖_, _⊗_, _⊘_, zerof, half, onef, mi
 use Rattle.ieee.specs.Sqrt.{sqrt}
 use Rattle.trig.specs.Trig.{cos, acos}
 use Rattle.words.specs.Answers.{Answer, given, refused}
-use Rattle.light_bounds.specs.Boxes.{diagonal, centroid}
-use Rattle.light_bounds.specs.Vectors.{vec, dot, cross, minus, length, normalize, rotate, angleBetween}
+use Rattle.light_bounds.specs.Bounds.{diagonal, centroid}
+use Rattle.light_bounds.specs.Vecmath.{vec, dot, cross, minus, vecLength, normalize, rotate, angleBetween}
 use Rattle.light_bounds.specs.declared.vecmath.Vec3.{Vec3}
 use Rattle.light_bounds.specs.declared.bounds.Bounds3.{Bounds3}
 use Rattle.light_bounds.specs.declared.cones.Cone.{Cone}
@@ -24,7 +24,7 @@ sinSubClamped sinA cosA sinB cosB = cond (lt cosB cosA) zerof (sinA ⊗ cosB ⊖
 -- d2 is the raw squared distance here; importance takes a maximum
 unfoldable pub boundSubtendedDirections : Bounds3 → Vec3 → Float
 boundSubtendedDirections b p =
-    let radius = half ⊗ length (diagonal b) in
+    let radius = half ⊗ vecLength (diagonal b) in
     let toCenter = minus (centroid b) p in
     let d2 = dot toCenter toCenter in
     cond (lt d2 (radius ⊗ radius) || eq d2 zerof) minusOne (safeSqrt (onef ⊖ radius ⊗ radius ⊘ d2))
@@ -35,7 +35,7 @@ cone v c = record { direction = v; «cos_theta» = c }
 abbrev pub wholeSphere : Cone
 wholeSphere = cone (vec zerof zerof onef) minusOne
 
--- the axis, or z where it has no length to divide by
+-- the axis, or z where it has no vecLength to divide by
 abbrev pub axisOr : Answer Vec3 → Vec3
 axisOr (given v) = v
 axisOr (refused n) = vec zerof zerof onef

@@ -6,17 +6,17 @@ use Rattle.ieee.specs.Choose.{fmax, fabs}
 use Rattle.ieee.specs.Single.{_⊖_, _⊗_, _⊘_, zerof, half, onef}
 use Rattle.words.specs.Answers.{Answer, given, refused, _then_}
 use Rattle.words.specs.Refusals.{number}
-use Rattle.light_bounds.specs.Boxes.{diagonal, centroid}
+use Rattle.light_bounds.specs.Bounds.{diagonal, centroid}
 use Rattle.light_bounds.specs.Cones.{safeSqrt, cosSubClamped, sinSubClamped, boundSubtendedDirections}
-use Rattle.light_bounds.specs.Records.{validate}
-use Rattle.light_bounds.specs.Vectors.{finiteVec, dot, minus, length, normalize}
+use Rattle.light_bounds.specs.LightBounds.{validate}
+use Rattle.light_bounds.specs.Vecmath.{finiteVec, dot, minus, vecLength, normalize}
 use Rattle.light_bounds.specs.declared.vecmath.Vec3.{Vec3}
 use Rattle.light_bounds.specs.declared.light_bounds.LightBounds.{LightBounds}
-use Rattle.light_bounds.specs.declared.light_bounds.Query.{Query}
-use Rattle.light_bounds.specs.declared.light_bounds.Weight.{Weight}
-use Rattle.light_bounds.specs.declared.light_bounds.Weight.the-variants.{Importance, Refused}
-use Rattle.light_bounds.specs.declared.light_bounds.View.{View}
-use Rattle.light_bounds.specs.declared.light_bounds.View.the-variants.{Dark, Lit, Facing, Refused as View·Refused}
+use Rattle.light_bounds.specs.declared.importance.Query.{Query}
+use Rattle.light_bounds.specs.declared.importance.Weight.{Weight}
+use Rattle.light_bounds.specs.declared.importance.Weight.the-variants.{Importance, Refused}
+use Rattle.light_bounds.specs.declared.importance.View.{View}
+use Rattle.light_bounds.specs.declared.importance.View.the-variants.{Dark, Lit, Facing, Refused as View·Refused}
 
 -- how a point sees a record: not at all; with the cosine of the cone's nearest direction, over a squared distance; and with the normal's factor
 pub data Seen : Type 0 where
@@ -56,9 +56,9 @@ toward r q d2 wi =
     cond (le p (r .«cos_theta_e»)) (given dark) (withNormal (q .n) wi cosB p d2)
 
 abbrev pub diagonalLength : LightBounds → Float
-diagonalLength r = length (diagonal (r .bounds))
+diagonalLength r = vecLength (diagonal (r .bounds))
 
--- the squared distance to the centre, at least half the diagonal's length
+-- the squared distance to the centre, at least half the diagonal's vecLength
 unfoldable pub distance2 : LightBounds → Vec3 → Float
 distance2 r delta = fmax (dot delta delta) (diagonalLength r ⊗ half)
 

@@ -15,7 +15,7 @@ use Rattle.light_bounds.specs.declared.light_bounds.LightBounds.{LightBo
 use Rattle.light_bounds.specs.declared.vecmath.Vec3.{Vec3}
 use Rattle.light_bounds.specs.declared.record_words.Found.the-variants.{Record, UnknownSide, Past}
 use Rattle.ieee.specs.Single.{zerof, single}
-use Rattle.light_bounds.specs.Vectors.{vec}
+use Rattle.light_bounds.specs.Vecmath.{vec}
 use Rattle.light_bounds.specs.RecordWords.{recordAt, readRecord, vecAt, writtenAt, putVec, putRest, putRecord, recordList, sideKnown, sideOf, sideWord}
 
 pub vecAt-past : (ws : List ℕ) (at : ℕ) → length ws ≤ at → vecAt ws at ≡ vec zerof zerof zerof

@@ -1,22 +1,32 @@
--- A record as thirteen words: box min 3 and max 3, direction 3, phi, `cos_theta_o`, `cos_theta_e`, side. Assumes nothing.
+-- A record as thirteen words: box min 3 and max 3, direction 3, phi, `cos_theta_o`, `cos_theta_e`, side. The layout of a record is said here alone.
+-- Definitions only. Assumes nothing.
 use Prim.Native.Nat.{ℕ, _+_}
-use mathlib.Core.Bool.{Bool, true, false, cond}
-use mathlib.Core.List.{List, [], _∷_}
+use mathlib.Core.Bool.{Bool, true, false, cond, _&&_}
+use mathlib.Core.List.{List, [], _∷_, _++_}
 use lib.Dec.{leb, eqb}
 use lib.Ieee.{binary32, toBits}
-use lib.ListN.{length, getD, set}
+use lib.ListN.{length, getD}
+use lib.Seq.{sets}
 use Rattle.ieee.specs.Single.{single}
-use Rattle.light_bounds.specs.Vectors.{vec}
-use Rattle.light_bounds.specs.declared.vecmath.Vec3.{Vec3}
+use Rattle.words.specs.Answers.{Answer, given, refused}
+use Rattle.light_bounds.specs.LightBounds.{lightBounds}
+use Rattle.light_bounds.specs.Vecmath.{vec}
+use Rattle.light_bounds.specs.declared.bounds.Bounds3.{Bounds3}
 use Rattle.light_bounds.specs.declared.light_bounds.LightBounds.{LightBounds}
 use Rattle.light_bounds.specs.declared.record_words.Found.{Found}
-use Rattle.light_bounds.specs.declared.record_words.Found.the-variants.{Record, UnknownSide, Past}
+use Rattle.light_bounds.specs.declared.record_words.Found.the-variants.{Record, Nothing}
+use Rattle.light_bounds.specs.declared.vecmath.Vec3.{Vec3}
 
--- the words of a record
+-- `RECORD_WORDS`
 abbrev pub recordWords : ℕ
 recordWords = 13
 
--- the side word: 0 one-sided, 1 two-sided
+-- ---- the side word: 0 one-sided, 1 two-sided
+
+-- its place in a record that starts at a place
+abbrev pub sidePlace : ℕ → ℕ
+sidePlace at = at + 12
+
 abbrev pub sideKnown : ℕ → Bool
 sideKnown w = leb w 1
 
@@ -27,41 +37,42 @@ abbrev pub sideWord : Bool → ℕ
 sideWord true = 1
 sideWord false = 0
 
+-- ---- read, words past the end as 0
+
 unfoldable pub vecAt : List ℕ → ℕ → Vec3
 vecAt ws at = vec (single (getD ws at 0)) (single (getD ws (at + 1) 0)) (single (getD ws (at + 2) 0))
 
+-- the box alone
+abbrev pub boxAt : List ℕ → ℕ → Bounds3
+boxAt ws at = record { min = vecAt ws at; max = vecAt ws (at + 3) }
+
 abbrev pub readRecord : List ℕ → ℕ → LightBounds
-readRecord ws at = record {
-  bounds = record { min = vecAt ws at; max = vecAt ws (at + 3) };
-  direction = vecAt ws (at + 6);
-  phi = single (getD ws (at + 9) 0);
-  «cos_theta_o» = single (getD ws (at + 10) 0);
-  «cos_theta_e» = single (getD ws (at + 11) 0);
-  «two_sided» = sideOf (getD ws (at + 12) 0);
-}
+readRecord ws at =
+    lightBounds (boxAt ws at) (vecAt ws (at + 6)) (single (getD ws (at + 9) 0)) (single (getD ws (at + 10) 0)) (single (getD ws (at + 11) 0))
+    (sideOf (getD ws (sidePlace at) 0))
 
-unfoldable pub recordAt : List ℕ → ℕ → Found
-recordAt ws at = cond (leb (at + recordWords) (length ws)) (cond (sideKnown (getD ws (at + 12) 0)) (Record (readRecord ws at)) UnknownSide) Past
+-- the record at a place; too few words, and a side that is unknown, are refusal n: 1 in a list or a block, 12 in a tree
+unfoldable pub recordAt : ℕ → List ℕ → ℕ → Answer LightBounds
+recordAt n ws at =
+    cond (leb (at + recordWords) (length ws) && sideKnown (getD ws (sidePlace at) 0)) (given (readRecord ws at)) (refused n)
 
--- three words, and a record's thirteen, written from a place on
-unfoldable pub putVec : List ℕ → ℕ → Vec3 → List ℕ
-putVec ws at v = set (set (set ws at (toBits binary32 (v .x))) (at + 1) (toBits binary32 (v .y))) (at + 2) (toBits binary32 (v .z))
+-- what the enum `Found` answers
+abbrev pub found : ℕ → Found → Answer LightBounds
+found n (Record r) = given r
+found n Nothing = refused n
 
-unfoldable pub putRest : List ℕ → ℕ → LightBounds → List ℕ
-putRest ws at r =
-    set (set (set (set ws at (toBits binary32 (r .phi))) (at + 1) (toBits binary32 (r .«cos_theta_o»))) (at + 2) (toBits binary32 (r .«cos_theta_e»))) (at + 3) (sideWord (r .«two_sided»))
+-- ---- written
 
-abbrev pub putRecord : List ℕ → ℕ → LightBounds → List ℕ
-putRecord ws at r = putRest (putVec (putVec (putVec ws at (r .bounds .min)) (at + 3) (r .bounds .max)) (at + 6) (r .direction)) (at + 9) r
+abbrev pub vecWords : Vec3 → List ℕ
+vecWords v = toBits binary32 (v .x) ∷ toBits binary32 (v .y) ∷ toBits binary32 (v .z) ∷ []
 
-unfoldable pub writtenAt : List ℕ → ℕ → LightBounds → List ℕ
-writtenAt ws at r = cond (leb (at + recordWords) (length ws)) (putRecord ws at r) ws
-
--- a record's thirteen words as a list
-abbrev pub vecList : Vec3 → List ℕ → List ℕ
-vecList v rest = toBits binary32 (v .x) ∷ toBits binary32 (v .y) ∷ toBits binary32 (v .z) ∷ rest
+-- what stands behind the vectors
+abbrev pub restWords : LightBounds → List ℕ
+restWords r = toBits binary32 (r .phi) ∷ toBits binary32 (r .«cos_theta_o») ∷ toBits binary32 (r .«cos_theta_e») ∷ sideWord (r .«two_sided») ∷ []
 
 unfoldable pub recordList : LightBounds → List ℕ
-recordList r =
-    vecList (r .bounds .min) (vecList (r .bounds .max) (vecList (r .direction)
-    (toBits binary32 (r .phi) ∷ toBits binary32 (r .«cos_theta_o») ∷ toBits binary32 (r .«cos_theta_e») ∷ sideWord (r .«two_sided») ∷ [])))
+recordList r = vecWords (r .bounds .min) ++ vecWords (r .bounds .max) ++ vecWords (r .direction) ++ restWords r
+
+-- where there are too few words nothing is written
+unfoldable pub writtenAt : List ℕ → ℕ → LightBounds → List ℕ
+writtenAt ws at r = cond (leb (at + recordWords) (length ws)) (sets ws at (recordList r)) ws

@@ -1,7 +1,7 @@
 // Cones of directions (specs/Cones.antt).
 ghost use mathlib.Core.Path.{_≡_};
-ghost use Rattle.light_bounds.specs.Boxes.{diagonal as diagonalOf};
-ghost use Rattle.light_bounds.specs.Vectors.{length as lengthOf, normalized};
+ghost use Rattle.light_bounds.specs.Bounds.{diagonal as diagonalOf};
+ghost use Rattle.light_bounds.specs.Vecmath.{vecLength, normalized};
 ghost use Rattle.light_bounds.specs.Cones.{cosSubClamped, sinSubClamped, safeSqrt, boundSubtendedDirections, unionDirectionCones, axisOr, joined, wholeSphere};
 use super::bounds::Bounds3;
 use super::bounds::centroid;
@@ -65,7 +65,7 @@ pub fn bound_subtended_directions(bounds: Bounds3, p: Vec3) -> f32
 
 // The same where the diagonal's length is at hand.
 pub(crate) fn subtended(bounds: Bounds3, p: Vec3, diagonal_length: f32) -> f32
-    requires { ⌜ «diagonal_length» ≡ lengthOf (diagonalOf bounds) ⌝ }
+    requires { ⌜ «diagonal_length» ≡ vecLength (diagonalOf bounds) ⌝ }
     ensures { λ r. ⌜ r ≡ boundSubtendedDirections bounds p ⌝ }
 {
     let radius = 0.5 * diagonal_length;

@@ -1,30 +1,16 @@
-// Bounds records (specs/Records.antt): the check, the union and the importance of pbrt-r4's LightBounds, refusals in its order.
+// Bounds records (specs/LightBounds.antt): the check and the union of pbrt-r4's LightBounds, refusals in its order.
 ghost use mathlib.Core.Path.{_≡_};
-ghost use Rattle.light_bounds.specs.Boxes.{validity};
-ghost use Rattle.light_bounds.specs.Importance.{importance as importanceOf, checkedImportance, weight, viewed, finishView, geometry as geometryOf, toward as towardOf, diagonalLength, withNormal, normalFactor, cosP, cosW, sine as sineOf};
-ghost use Rattle.light_bounds.specs.Cones.{boundSubtendedDirections, cosSubClamped, sinSubClamped};
-ghost use Rattle.light_bounds.specs.Boxes.{diagonal as diagonalOf};
-ghost use Rattle.light_bounds.specs.Vectors.{length as lengthOf};
-ghost use Rattle.light_bounds.specs.Records.{validate as validateOf, coneCheck, rangeCheck, isCosine, union as unionOf, joined, join as joinOf, either as eitherOf};
+ghost use Rattle.light_bounds.specs.Bounds.{validity};
+ghost use Rattle.light_bounds.specs.LightBounds.{lightBounds, validate as validateOf, coneCheck, rangeCheck, isCosine, union as unionOf, bounded, join as joinOf, either as eitherOf};
 use super::bounds::Bounds3;
 use super::bounds::Validity;
-use super::bounds::centroid;
 use super::bounds::check;
-use super::bounds::diagonal;
 use super::bounds::union as box_union;
-use super::cones::safe_sqrt;
-use super::cones::subtended;
 use super::cones::union_direction_cones;
-use super::vecmath::Direction;
 use super::vecmath::Vec3;
 use super::vecmath::dot;
 use super::vecmath::is_finite;
 use super::vecmath::is_finite_vec;
-use super::vecmath::length;
-use super::vecmath::normalize;
-use super::vecmath::sub;
-use floats::choose::abs;
-use floats::choose::max;
 use floats::choose::min;
 use words::refusals::Refusal;
 
@@ -37,10 +23,33 @@ pub struct LightBounds {
     pub two_sided: bool,
 }
 
-// The point that a lamp is weighed for, and its normal; a normal whose dot with itself is 0 is none.
-pub struct Query {
-    pub p: Vec3,
-    pub n: Vec3,
+impl LightBounds {
+    // A record is put together here alone.
+    pub fn new(
+        bounds: Bounds3,
+        direction: Vec3,
+        phi: f32,
+        cos_theta_o: f32,
+        cos_theta_e: f32,
+        two_sided: bool,
+    ) -> Self
+        ensures { λ r. ⌜ r ≡ lightBounds bounds direction phi «cos_theta_o» «cos_theta_e» «two_sided» ⌝ }
+    {
+        LightBounds {
+            bounds,
+            direction,
+            phi,
+            cos_theta_o,
+            cos_theta_e,
+            two_sided,
+        }
+    }
+}
+
+// A record, or why there is none.
+pub enum Bounded {
+    Bounds(LightBounds),
+    Refused(Refusal),
 }
 
 // The check: 5 or 6 of the box, 5 of any other value, 7 of a direction without length, 8 of a phi or a cosine out of range.
@@ -57,14 +66,12 @@ pub fn validate(record: LightBounds) -> Validity
 fn validate_cone(record: LightBounds) -> Validity
     ensures { λ r. ⌜ validity r ≡ coneCheck «record» ⌝ }
 {
-    if is_finite_vec(record.direction) {
-        if is_finite(record.phi) {
-            if is_finite(record.cos_theta_o) {
-                if is_finite(record.cos_theta_e) {
-                    return validate_range(record);
-                }
-            }
-        }
+    if is_finite_vec(record.direction)
+        && is_finite(record.phi)
+        && is_finite(record.cos_theta_o)
+        && is_finite(record.cos_theta_e)
+    {
+        return validate_range(record);
     }
     Validity::Refused(Refusal::NotFinite)
 }
@@ -75,43 +82,32 @@ fn validate_range(record: LightBounds) -> Validity
     if dot(record.direction, record.direction) == 0.0 {
         return Validity::Refused(Refusal::NoDirection);
     }
-    if record.phi < 0.0 {
+    if record.phi < 0.0 || !is_cosine(record.cos_theta_o) || !is_cosine(record.cos_theta_e) {
         return Validity::Refused(Refusal::OutOfRange);
     }
-    if is_cosine(record.cos_theta_o) {
-        if is_cosine(record.cos_theta_e) {
-            return Validity::Valid;
-        }
-    }
-    Validity::Refused(Refusal::OutOfRange)
+    Validity::Valid
 }
 
 // Whether a cosine lies from -1 to 1.
 pub fn is_cosine(x: f32) -> bool
     ensures { λ r. ⌜ r ≡ isCosine x ⌝ }
 {
-    if -1.0 <= x { x <= 1.0 } else { false }
+    -1.0 <= x && x <= 1.0
 }
 
 // ---- union
 
-// A record around two, or why there is none.
-pub enum Joined {
-    Whole(LightBounds),
-    Refused(Refusal),
-}
-
 // The record around both: an operand that fails its check is refusal 10.
-pub fn union(a: LightBounds, b: LightBounds) -> Joined
-    ensures { λ r. ⌜ joined r ≡ unionOf a b ⌝ }
+pub fn union(a: LightBounds, b: LightBounds) -> Bounded
+    ensures { λ r. ⌜ bounded r ≡ unionOf a b ⌝ }
 {
     let Validity::Valid = validate(a) else {
-        return Joined::Refused(Refusal::LostUnion);
+        return Bounded::Refused(Refusal::LostUnion);
     };
     let Validity::Valid = validate(b) else {
-        return Joined::Refused(Refusal::LostUnion);
+        return Bounded::Refused(Refusal::LostUnion);
     };
-    Joined::Whole(join(a, b))
+    Bounded::Bounds(join(a, b))
 }
 
 // A record of no power drops out whole.
@@ -126,161 +122,19 @@ fn join(a: LightBounds, b: LightBounds) -> LightBounds
     }
     let cone = union_direction_cones(a.direction, a.cos_theta_o, b.direction, b.cos_theta_o);
     let direction = cone.direction;
-    LightBounds {
-        bounds: box_union(a.bounds, b.bounds),
+    LightBounds::new(
+        box_union(a.bounds, b.bounds),
         direction,
-        phi: a.phi + b.phi,
-        cos_theta_o: cone.cos_theta,
-        cos_theta_e: min(a.cos_theta_e, b.cos_theta_e),
-        two_sided: either(a.two_sided, b.two_sided),
-    }
+        a.phi + b.phi,
+        cone.cos_theta,
+        min(a.cos_theta_e, b.cos_theta_e),
+        either(a.two_sided, b.two_sided),
+    )
 }
 
 // The side of a union.
 fn either(a: bool, b: bool) -> bool
     ensures { λ r. ⌜ r ≡ eitherOf a b ⌝ }
 {
-    if a { true } else { b }
-}
-
-// ---- importance
-
-// How much a record weighs for a query, or why it has no weight.
-pub enum Weight {
-    Importance(f32),
-    Refused(Refusal),
-}
-
-// The importance of a record for a query: the check's refusals; 5 where the point or the normal is not finite; 7 where the point is at the centre of a box of
-// some size, or the normal has no length to divide by.
-pub fn importance(record: LightBounds, query: Query) -> Weight
-    ensures { λ r. ⌜ weight r ≡ importanceOf «record» query ⌝ }
-{
-    match validate(record) {
-        Validity::Valid => finite_importance(record, query),
-        Validity::Refused(why) => Weight::Refused(why),
-    }
-}
-
-// Of a record that passed its check.
-fn finite_importance(record: LightBounds, query: Query) -> Weight
-    ensures { λ r. ⌜ weight r ≡ checkedImportance «record» query ⌝ }
-{
-    if is_finite_vec(query.p) {
-        if is_finite_vec(query.n) {
-            return finished(record.phi, geometry(record, query));
-        }
-    }
-    Weight::Refused(Refusal::NotFinite)
-}
-
-// How a query sees a record: `Dark` weighs nothing; `Lit` has a cosine and a squared distance, `Facing` the normal's factor too.
-enum View {
-    Dark,
-    Lit(f32, f32),
-    Facing(f32, f32, f32),
-    Refused(Refusal),
-}
-
-// The power enters here alone.
-fn finished(phi: f32, view: View) -> Weight
-    ensures { λ r. ⌜ weight r ≡ finishView phi (viewed view) ⌝ }
-{
-    match view {
-        View::Dark => Weight::Importance(0.0),
-        View::Lit(p, d2) => Weight::Importance(max(phi * p / d2, 0.0)),
-        View::Facing(p, d2, i) => Weight::Importance(max(phi * p / d2 * i, 0.0)),
-        View::Refused(why) => Weight::Refused(why),
-    }
-}
-
-fn geometry(record: LightBounds, query: Query) -> View
-    ensures { λ r. ⌜ viewed r ≡ geometryOf «record» query ⌝ }
-{
-    let delta = sub(query.p, centroid(record.bounds));
-    let diagonal_length = length(diagonal(record.bounds));
-    let d2 = max(dot(delta, delta), diagonal_length * 0.5);
-    if d2 <= 0.0 {
-        return View::Dark;
-    }
-    match normalize(delta) {
-        Direction::Unit(wi) => toward(record, query, diagonal_length, d2, wi),
-        Direction::Refused(why) => View::Refused(why),
-    }
-}
-
-fn toward(record: LightBounds, query: Query, diagonal_length: f32, d2: f32, wi: Vec3) -> View
-    requires { ⌜ «diagonal_length» ≡ diagonalLength «record» ⌝ }
-    ensures { λ r. ⌜ viewed r ≡ towardOf «record» query d2 wi ⌝ }
-{
-    let cos_b = subtended(record.bounds, query.p, diagonal_length);
-    let cos_p = smallest_angle(record, wi, cos_b);
-    if cos_p <= record.cos_theta_e {
-        return View::Dark;
-    }
-    with_normal(query.n, wi, cos_b, cos_p, d2)
-}
-
-// The sine of an angle by its cosine.
-fn sine(c: f32) -> f32
-    ensures { λ r. ⌜ r ≡ sineOf c ⌝ }
-{
-    safe_sqrt(1.0 - c * c)
-}
-
-fn cos_w(record: LightBounds, wi: Vec3) -> f32
-    ensures { λ r. ⌜ r ≡ cosW «record» wi ⌝ }
-{
-    let c = dot(record.direction, wi);
-    if record.two_sided { abs(c) } else { c }
-}
-
-// The cosine of the smallest angle between the cone's directions and the box's. A sine is taken only where the angle it belongs to is not cut to 0.
-fn smallest_angle(record: LightBounds, wi: Vec3, cos_b: f32) -> f32
-    ensures { λ r. ⌜ r ≡ cosP «record» wi «cos_b» ⌝ }
-{
-    let w = cos_w(record, wi);
-    let o = record.cos_theta_o;
-    if w > o {
-        return less_the_box(0.0, 1.0, cos_b);
-    }
-    let sin_w = sine(w);
-    let sin_o = sine(o);
-    less_the_box(sin_w * o - w * sin_o, w * o + sin_w * sin_o, cos_b)
-}
-
-// The cosine of an angle less the box's.
-fn less_the_box(sin_x: f32, cos_x: f32, cos_b: f32) -> f32
-    ensures { λ r. ⌜ r ≡ cosSubClamped «sin_x» «cos_x» (sineOf «cos_b») «cos_b» ⌝ }
-{
-    if cos_x > cos_b {
-        1.0
-    } else {
-        cos_x * cos_b + sin_x * sine(cos_b)
-    }
-}
-
-// A normal whose dot with itself is 0 is none.
-fn with_normal(n: Vec3, wi: Vec3, cos_b: f32, cos_p: f32, d2: f32) -> View
-    ensures { λ r. ⌜ viewed r ≡ withNormal n wi «cos_b» «cos_p» d2 ⌝ }
-{
-    if dot(n, n) == 0.0 {
-        return View::Lit(cos_p, d2);
-    }
-    match normalize(n) {
-        Direction::Unit(u) => View::Facing(cos_p, d2, facing(dot(wi, u), cos_b)),
-        Direction::Refused(why) => View::Refused(why),
-    }
-}
-
-// The normal's factor, by the cosine between it and the direction.
-fn facing(c: f32, cos_b: f32) -> f32
-    ensures { λ r. ⌜ r ≡ normalFactor c «cos_b» ⌝ }
-{
-    let i = abs(c);
-    if i > cos_b {
-        1.0
-    } else {
-        i * cos_b + sine(i) * sine(cos_b)
-    }
+    a || b
 }

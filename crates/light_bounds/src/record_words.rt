@@ -1,27 +1,55 @@
-// Records as thirteen words (specs/RecordWords.antt): box min and max, direction, phi, the two cosines, side. The side word is read, written and joined in one
-// place each: here, here, and in `either` of light_bounds.
+// Records as words (specs/RecordWords.antt): box min and max, direction, phi, the two cosines, side. The side word is judged, read and written here alone, and
+// joined in `either` of light_bounds.
 ghost use mathlib.Core.Path.{_≡_};
-ghost use Prim.Native.Nat.{_+_, _≤_};
+ghost use Prim.Native.Nat.{ℕ, _+_, _/_, _≤_};
 ghost use lib.ListN.{length};
-ghost use Rattle.light_bounds.specs.RecordWords.{recordAt, writtenAt, vecAt, putVec, putRest, sideKnown, sideWord};
+ghost use lib.Seq.{sets};
+ghost use Rattle.words.specs.LittleEndian.{wordsOf};
+ghost use Rattle.light_bounds.specs.RecordWords.{recordWords, recordAt, found, writtenAt, vecAt, boxAt, vecWords, restWords, recordList, sideKnown, sideOf, sideWord};
 use super::bounds::Bounds3;
 use super::light_bounds::LightBounds;
 use super::vecmath::Vec3;
 use words::floats::f32_of_word;
 use words::floats::word_of_f32;
+use words::limits::fits;
+use words::little_endian::word_at;
 use words::places::word_or_zero;
 
 // The words of a record.
-const RECORD_WORDS: usize = 13;
+pub const RECORD_WORDS: usize = 13;
 
-// What stands at a place: a record, a side word that is neither 0 nor 1, or too few words.
+// What stands at a place: a record, or none, where there are too few words or the side is unknown.
 pub enum Found {
     Record(LightBounds),
-    UnknownSide,
-    Past,
+    Nothing,
 }
 
-// Three words as a vector, words past the end read as 0.
+// ---- the side
+
+// Whether a word is a side: 0 or 1.
+pub fn is_side(w: u32) -> bool
+    ensures { λ r. ⌜ r ≡ sideKnown w ⌝ }
+{
+    w <= 1
+}
+
+// Whether it is two-sided.
+fn side_of(w: u32) -> bool
+    ensures { λ r. ⌜ r ≡ sideOf w ⌝ }
+{
+    w == 1
+}
+
+// The side's word.
+pub fn side_word(two_sided: bool) -> u32
+    ensures { λ r. ⌜ r ≡ sideWord «two_sided» ⌝ }
+{
+    if two_sided { 1 } else { 0 }
+}
+
+// ---- reading, words past the end as 0
+
+// Three words as a vector.
 pub fn vec_at(words: &[u32], at: usize) -> Vec3
     ensures { λ r. ⌜ r ≡ vecAt (now (words .entry)) at ⌝ }
 {
@@ -39,51 +67,92 @@ pub fn vec_at(words: &[u32], at: usize) -> Vec3
     }
 }
 
-// Whether a word is a side: 0 or 1.
-pub fn is_side(w: u32) -> bool
-    ensures { λ r. ⌜ r ≡ sideKnown w ⌝ }
+// The box of the record at a place.
+pub fn box_at(words: &[u32], at: usize) -> Bounds3
+    ensures { λ r. ⌜ r ≡ boxAt (now (words .entry)) at ⌝ }
 {
-    w <= 1
+    let min = vec_at(words, at);
+    if words.len() <= at {
+        return Bounds3 { min, max: min };
+    }
+    let max = vec_at(words, at + 3);
+    Bounds3 { min, max }
 }
 
-// The side's word.
-pub fn side_word(two_sided: bool) -> u32
-    ensures { λ r. ⌜ r ≡ sideWord «two_sided» ⌝ }
-{
-    if two_sided { 1 } else { 0 }
-}
-
+// The record at a place of a slice of words.
 pub fn read_record(words: &[u32], at: usize) -> Found
-    ensures { λ r. ⌜ r ≡ recordAt (now (words .entry)) at ⌝ }
+    ensures { λ r. ⌜ ((n : ℕ) → found n r ≡ recordAt n (now (words .entry)) at) ⌝ }
 {
-    if words.len() < RECORD_WORDS {
-        return Found::Past;
+    if fits(words.len(), at, RECORD_WORDS) {
+        return record_at(words, at);
     }
-    if words.len() - RECORD_WORDS < at {
-        return Found::Past;
-    }
+    Found::Nothing
+}
+
+fn record_at(words: &[u32], at: usize) -> Found
+    requires { ⌜ at + recordWords ≤ length (now words) ⌝ }
+    ensures { λ r. ⌜ ((n : ℕ) → found n r ≡ recordAt n (now (words .entry)) at) ⌝ }
+{
     let side = words[at + 12];
     if is_side(side) {
-        let min = vec_at(words, at);
-        let max = vec_at(words, at + 3);
-        let direction = vec_at(words, at + 6);
-        let bounds = Bounds3 { min, max };
-        Found::Record(LightBounds {
-            bounds,
-            direction,
-            phi: f32_of_word(words[at + 9]),
-            cos_theta_o: f32_of_word(words[at + 10]),
-            cos_theta_e: f32_of_word(words[at + 11]),
-            two_sided: side == 1,
-        })
-    } else {
-        Found::UnknownSide
+        return Found::Record(LightBounds::new(
+            box_at(words, at),
+            vec_at(words, at + 6),
+            f32_of_word(words[at + 9]),
+            f32_of_word(words[at + 10]),
+            f32_of_word(words[at + 11]),
+            side_of(side),
+        ));
+    }
+    Found::Nothing
+}
+
+// The same where the words are little-endian bytes.
+pub fn read_record_bytes(bytes: &[u8], at: usize) -> Found
+    ensures { λ r. ⌜ ((n : ℕ) → found n r ≡ recordAt n (wordsOf (now (bytes .entry))) at) ⌝ }
+{
+    if fits(bytes.len() / 4, at, RECORD_WORDS) {
+        return record_at_bytes(bytes, at);
+    }
+    Found::Nothing
+}
+
+fn record_at_bytes(bytes: &[u8], at: usize) -> Found
+    requires { ⌜ at + recordWords ≤ length (now bytes) / 4 ⌝ }
+    ensures { λ r. ⌜ ((n : ℕ) → found n r ≡ recordAt n (wordsOf (now (bytes .entry))) at) ⌝ }
+{
+    let side = word_at(bytes, at + 12);
+    if is_side(side) {
+        let min = vec_at_bytes(bytes, at);
+        let max = vec_at_bytes(bytes, at + 3);
+        return Found::Record(LightBounds::new(
+            Bounds3 { min, max },
+            vec_at_bytes(bytes, at + 6),
+            f32_of_word(word_at(bytes, at + 9)),
+            f32_of_word(word_at(bytes, at + 10)),
+            f32_of_word(word_at(bytes, at + 11)),
+            side_of(side),
+        ));
+    }
+    Found::Nothing
+}
+
+fn vec_at_bytes(bytes: &[u8], at: usize) -> Vec3
+    requires { ⌜ at + 3 ≤ length (now bytes) / 4 ⌝ }
+    ensures { λ r. ⌜ r ≡ vecAt (wordsOf (now (bytes .entry))) at ⌝ }
+{
+    Vec3 {
+        x: f32_of_word(word_at(bytes, at)),
+        y: f32_of_word(word_at(bytes, at + 1)),
+        z: f32_of_word(word_at(bytes, at + 2)),
     }
 }
+
+// ---- writing
 
 fn write_vec(words: &mut [u32], at: usize, v: Vec3)
     requires { ⌜ at + 3 ≤ length (now words) ⌝ }
-    ensures { λ _. ⌜ now (words .exit) ≡ putVec (now (words .entry)) at v ⌝ }
+    ensures { λ _. ⌜ now (words .exit) ≡ sets (now (words .entry)) at (vecWords v) ⌝ }
 {
     words[at] = word_of_f32(v.x);
     words[at + 1] = word_of_f32(v.y);
@@ -93,7 +162,7 @@ fn write_vec(words: &mut [u32], at: usize, v: Vec3)
 // The four words behind the vectors.
 fn write_rest(words: &mut [u32], at: usize, record: LightBounds)
     requires { ⌜ at + 4 ≤ length (now words) ⌝ }
-    ensures { λ _. ⌜ now (words .exit) ≡ putRest (now (words .entry)) at «record» ⌝ }
+    ensures { λ _. ⌜ now (words .exit) ≡ sets (now (words .entry)) at (restWords «record») ⌝ }
 {
     words[at] = word_of_f32(record.phi);
     words[at + 1] = word_of_f32(record.cos_theta_o);
@@ -101,18 +170,21 @@ fn write_rest(words: &mut [u32], at: usize, record: LightBounds)
     words[at + 3] = side_word(record.two_sided);
 }
 
-// Writes the record; where there are too few words nothing is written.
-pub fn write_record(words: &mut [u32], at: usize, record: LightBounds)
-    ensures { λ _. ⌜ now (words .exit) ≡ writtenAt (now (words .entry)) at «record» ⌝ }
+fn put_record(words: &mut [u32], at: usize, record: LightBounds)
+    requires { ⌜ at + recordWords ≤ length (now words) ⌝ }
+    ensures { λ _. ⌜ now (words .exit) ≡ sets (now (words .entry)) at (recordList «record») ⌝ }
 {
-    if words.len() < RECORD_WORDS {
-        return;
-    }
-    if words.len() - RECORD_WORDS < at {
-        return;
-    }
     write_vec(words, at, record.bounds.min);
     write_vec(words, at + 3, record.bounds.max);
     write_vec(words, at + 6, record.direction);
     write_rest(words, at + 9, record);
+}
+
+// Writes the record; where there are too few words nothing is written.
+pub fn write_record(words: &mut [u32], at: usize, record: LightBounds)
+    ensures { λ _. ⌜ now (words .exit) ≡ writtenAt (now (words .entry)) at «record» ⌝ }
+{
+    if fits(words.len(), at, RECORD_WORDS) {
+        put_record(words, at, record);
+    }
 }

@@ -1,7 +1,7 @@
 // Vectors of three f32, by value (specs/Vectors.antt). Sums run left to right, each step rounded once.
 ghost use mathlib.Core.Path.{_≡_};
 ghost use lib.Ieee.Scale.{finite};
-ghost use Rattle.light_bounds.specs.Vectors.{dot as dotOf, cross as crossOf, plus, minus, scaled, normalized, normalize as normalizeOf, finiteVec, rotate as rotateOf, angleBetween, length as lengthOf};
+ghost use Rattle.light_bounds.specs.Vecmath.{dot as dotOf, cross as crossOf, plus, minus, scaled, normalized, normalize as normalizeOf, finiteVec, rotate as rotateOf, angleBetween, vecLength};
 use floats::sqrt::sqrt as root;
 use trig::asin;
 use trig::cos;
@@ -81,7 +81,7 @@ pub fn scale_vector(v: Vec3, scale: f32) -> Vec3
 }
 
 pub fn length(v: Vec3) -> f32
-    ensures { λ r. ⌜ r ≡ lengthOf v ⌝ }
+    ensures { λ r. ⌜ r ≡ vecLength v ⌝ }
 {
     root(dot(v, v))
 }

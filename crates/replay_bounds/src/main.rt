@@ -4,9 +4,9 @@
 use light_bounds::bounds::Validity;
 use light_bounds::light_bounds::Joined;
 use light_bounds::light_bounds::LightBounds;
-use light_bounds::light_bounds::Query;
-use light_bounds::light_bounds::Weight;
-use light_bounds::light_bounds::importance;
+use light_bounds::importance::Query;
+use light_bounds::importance::Weight;
+use light_bounds::importance::importance;
 use light_bounds::light_bounds::union;
 use light_bounds::light_bounds::validate;
 use light_bounds::record_words::Found;

@@ -3,7 +3,7 @@ use mathlib.Core.Path.{sym, ap, _∙_, refl}
 use Rattle.words.specs.Answers.{given}
 use native.Mathlib.Omega.{arith}
 use denote.Ref.{now}
-use Rattle.light_bounds.specs.Records.{joined}
+use Rattle.light_bounds.specs.LightBounds.{joined}
 use Rattle.bounds_c.specs.CodeLaws.{written-front, zero-front, union-refused}
 use borrow.Author.Needs.{needs}
 use Rattle.bounds_c.proofs.write_union.Statement.{statement}

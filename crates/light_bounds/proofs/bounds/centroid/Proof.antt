@@ -1,6 +1,6 @@
 -- `light_bounds::bounds::centroid` meets its contract: its steps are the definition's. Assumes nothing.
 use mathlib.Core.Path.{refl}
-use Rattle.light_bounds.specs.Boxes.{centroid}
+use Rattle.light_bounds.specs.Bounds.{centroid}
 use Rattle.light_bounds.proofs.bounds.centroid.Statement.{statement}
 use Rattle.light_bounds.proofs.bounds.centroid.Tie as tie
 

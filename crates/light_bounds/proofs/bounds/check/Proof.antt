@@ -1,7 +1,7 @@
 -- `light_bounds::bounds::check` meets its contract: its steps are the definition's. Assumes nothing.
 use mathlib.Core.Path.{_≡_, sym}
-use Rattle.light_bounds.specs.Boxes.{boxCheck}
-use Rattle.light_bounds.specs.Vectors.{finiteVec}
+use Rattle.light_bounds.specs.Bounds.{boxCheck}
+use Rattle.light_bounds.specs.Vecmath.{finiteVec}
 use borrow.Author.Needs.{needs}
 use borrow.Author.Tests.{not-true, not-false}
 use Rattle.light_bounds.proofs.bounds.check.Statement.{statement}

@@ -1,6 +1,6 @@
 -- `light_bounds::bounds::diagonal` meets its contract: its steps are the definition's. Assumes nothing.
 use mathlib.Core.Path.{refl}
-use Rattle.light_bounds.specs.Boxes.{diagonal}
+use Rattle.light_bounds.specs.Bounds.{diagonal}
 use Rattle.light_bounds.proofs.bounds.diagonal.Statement.{statement}
 use Rattle.light_bounds.proofs.bounds.diagonal.Tie as tie
 

@@ -1,5 +1,5 @@
 -- `light_bounds::bounds::greater` meets its contract: its steps are the definition's. Assumes nothing.
-use Rattle.light_bounds.specs.Boxes.{greatestOf}
+use Rattle.light_bounds.specs.Bounds.{greatestOf}
 use borrow.Author.Needs.{needs}
 use Rattle.light_bounds.proofs.bounds.greater.Statement.{statement}
 use Rattle.light_bounds.proofs.bounds.greater.Tie as tie

@@ -1,5 +1,5 @@
 -- `light_bounds::bounds::lesser` meets its contract: its steps are the definition's. Assumes nothing.
-use Rattle.light_bounds.specs.Boxes.{leastOf}
+use Rattle.light_bounds.specs.Bounds.{leastOf}
 use borrow.Author.Needs.{needs}
 use Rattle.light_bounds.proofs.bounds.lesser.Statement.{statement}
 use Rattle.light_bounds.proofs.bounds.lesser.Tie as tie

@@ -1,7 +1,7 @@
 -- `light_bounds::bounds::surface_area` meets its contract: its steps are the definition's. Assumes nothing.
 use mathlib.Core.Path.{ap}
 use Rattle.ieee.specs.Single.{_⊕_, _⊗_, twof}
-use Rattle.light_bounds.specs.Boxes.{surfaceArea}
+use Rattle.light_bounds.specs.Bounds.{surfaceArea}
 use Rattle.light_bounds.specs.declared.vecmath.Vec3.{Vec3}
 use borrow.Author.Needs.{needs}
 use Rattle.light_bounds.proofs.bounds.surface_area.Statement.{statement}

@@ -1,5 +1,5 @@
 -- `light_bounds::bounds::union` meets its contract: its steps are the definition's. Assumes nothing.
-use Rattle.light_bounds.specs.Boxes.{boxUnion}
+use Rattle.light_bounds.specs.Bounds.{boxUnion}
 use borrow.Author.Needs.{needs}
 use Rattle.light_bounds.proofs.bounds.union.Statement.{statement}
 use Rattle.light_bounds.proofs.bounds.union.Tie as tie

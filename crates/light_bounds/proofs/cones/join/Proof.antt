@@ -2,7 +2,7 @@
 use mathlib.Core.Path.{_≡_, sym, _∙_, ap}
 use Rattle.ieee.specs.Single.{_⊖_}
 use Rattle.light_bounds.specs.Cones.{axisOr, joined}
-use Rattle.light_bounds.specs.Vectors.{dot, cross, normalize, rotate}
+use Rattle.light_bounds.specs.Vecmath.{dot, cross, normalize, rotate}
 use Rattle.light_bounds.specs.declared.vecmath.Vec3.{Vec3}
 use borrow.Author.Needs.{needs}
 use Rattle.light_bounds.proofs.cones.join.Statement.{statement}

@@ -1,9 +1,9 @@
 -- `light_bounds::cones::subtended` meets its contract: its steps are the definition's. Assumes nothing.
 use mathlib.Core.Path.{_≡_, sym, _∙_, ap}
 use lib.Ieee.{neg, ofBits}
-use Rattle.light_bounds.specs.Boxes.{centroid, diagonal}
+use Rattle.light_bounds.specs.Bounds.{centroid, diagonal}
 use Rattle.light_bounds.specs.Cones.{boundSubtendedDirections}
-use Rattle.light_bounds.specs.Vectors.{dot, minus, length}
+use Rattle.light_bounds.specs.Vecmath.{dot, minus, vecLength}
 use Rattle.light_bounds.specs.declared.vecmath.Vec3.{Vec3}
 use borrow.Author.Needs.{needs}
 use Rattle.light_bounds.proofs.cones.subtended.Statement.{statement}

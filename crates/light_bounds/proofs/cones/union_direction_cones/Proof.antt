@@ -5,7 +5,7 @@ use Rattle.ieee.specs.Choose.{fmin, clamp}
 use Rattle.ieee.specs.Single.{_⊕_, onef, minusOne, pi}
 use Rattle.trig.specs.Trig.{acos}
 use Rattle.light_bounds.specs.Cones.{unionDirectionCones}
-use Rattle.light_bounds.specs.Vectors.{angleBetween}
+use Rattle.light_bounds.specs.Vecmath.{angleBetween}
 use borrow.Author.Needs.{needs}
 use Rattle.light_bounds.proofs.cones.union_direction_cones.Statement.{statement}
 use Rattle.light_bounds.proofs.cones.union_direction_cones.Tie as tie

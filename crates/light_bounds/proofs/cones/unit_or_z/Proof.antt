@@ -2,7 +2,7 @@
 use mathlib.Core.Path.{sym, ap}
 use borrow.Author.Needs.{needs}
 use Rattle.light_bounds.specs.Cones.{axisOr}
-use Rattle.light_bounds.specs.Vectors.{normalized}
+use Rattle.light_bounds.specs.Vecmath.{normalized}
 use Rattle.light_bounds.specs.declared.vecmath.Direction.{Direction}
 use Rattle.light_bounds.proofs.cones.unit_or_z.Statement.{statement}
 use Rattle.light_bounds.proofs.cones.unit_or_z.Tie as tie

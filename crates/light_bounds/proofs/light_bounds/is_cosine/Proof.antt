@@ -1,5 +1,5 @@
 -- `light_bounds::light_bounds::is_cosine` meets its contract: its steps are the definition's. Assumes nothing.
-use Rattle.light_bounds.specs.Records.{isCosine}
+use Rattle.light_bounds.specs.LightBounds.{isCosine}
 use lib.Ieee.{neg, ofBits}
 use Rattle.light_bounds.proofs.light_bounds.is_cosine.Statement.{statement}
 use Rattle.light_bounds.proofs.light_bounds.is_cosine.Tie as tie

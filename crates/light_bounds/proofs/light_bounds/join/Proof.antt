@@ -1,6 +1,6 @@
 -- `light_bounds::light_bounds::join` meets its contract: its steps are the definition's. Assumes nothing.
 use Rattle.ieee.specs.Single.{_⊕_}
-use Rattle.light_bounds.specs.Records.{join}
+use Rattle.light_bounds.specs.LightBounds.{join}
 use borrow.Author.Needs.{needs}
 use Rattle.light_bounds.proofs.light_bounds.join.Statement.{statement}
 use Rattle.light_bounds.proofs.light_bounds.join.Tie as tie

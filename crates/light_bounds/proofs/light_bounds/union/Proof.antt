@@ -1,7 +1,7 @@
 -- `light_bounds::light_bounds::union` meets its contract: its steps are the definition's. Assumes nothing.
 use mathlib.Core.Path.{ap}
 use Rattle.words.specs.Answers.{_then_, given}
-use Rattle.light_bounds.specs.Records.{union}
+use Rattle.light_bounds.specs.LightBounds.{union}
 use borrow.Author.Needs.{needs}
 use Rattle.light_bounds.proofs.light_bounds.union.Statement.{statement}
 use Rattle.light_bounds.proofs.light_bounds.union.Tie as tie

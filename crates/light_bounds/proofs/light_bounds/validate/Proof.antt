@@ -1,6 +1,6 @@
 -- `light_bounds::light_bounds::validate` meets its contract: its steps are the definition's. Assumes nothing.
 use Rattle.words.specs.Answers.{_then_}
-use Rattle.light_bounds.specs.Records.{validate}
+use Rattle.light_bounds.specs.LightBounds.{validate}
 use borrow.Author.Needs.{needs}
 use Rattle.light_bounds.proofs.light_bounds.validate.Statement.{statement}
 use Rattle.light_bounds.proofs.light_bounds.validate.Tie as tie

@@ -1,5 +1,5 @@
 -- `light_bounds::light_bounds::validate_cone` meets its contract: its steps are the definition's. Assumes nothing.
-use Rattle.light_bounds.specs.Records.{coneCheck}
+use Rattle.light_bounds.specs.LightBounds.{coneCheck}
 use borrow.Author.Needs.{needs}
 use Rattle.light_bounds.proofs.light_bounds.validate_cone.Statement.{statement}
 use Rattle.light_bounds.proofs.light_bounds.validate_cone.Tie as tie

@@ -1,5 +1,5 @@
 -- `light_bounds::light_bounds::validate_range` meets its contract: its steps are the definition's. Assumes nothing.
-use Rattle.light_bounds.specs.Records.{rangeCheck}
+use Rattle.light_bounds.specs.LightBounds.{rangeCheck}
 use borrow.Author.Needs.{needs}
 use Rattle.light_bounds.proofs.light_bounds.validate_range.Statement.{statement}
 use Rattle.light_bounds.proofs.light_bounds.validate_range.Tie as tie

@@ -1,6 +1,6 @@
 -- `light_bounds::vecmath::add` meets its contract: its steps are the definition's. Assumes nothing.
 use mathlib.Core.Path.{refl}
-use Rattle.light_bounds.specs.Vectors.{plus}
+use Rattle.light_bounds.specs.Vecmath.{plus}
 use Rattle.light_bounds.proofs.vecmath.add.Statement.{statement}
 use Rattle.light_bounds.proofs.vecmath.add.Tie as tie
 

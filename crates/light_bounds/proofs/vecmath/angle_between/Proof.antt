@@ -3,7 +3,7 @@ use mathlib.Core.Path.{_∙_, ap}
 use lib.Ieee.{Float}
 use Rattle.ieee.specs.Single.{_⊖_, _⊗_, _⊘_, twof, pi}
 use Rattle.trig.specs.Trig.{asin}
-use Rattle.light_bounds.specs.Vectors.{dot, length, angleBetween}
+use Rattle.light_bounds.specs.Vecmath.{dot, vecLength, angleBetween}
 use borrow.Author.Needs.{needs}
 use Rattle.light_bounds.proofs.vecmath.angle_between.Statement.{statement}
 use Rattle.light_bounds.proofs.vecmath.angle_between.Tie as tie

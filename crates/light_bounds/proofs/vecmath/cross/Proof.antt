@@ -1,6 +1,6 @@
 -- `light_bounds::vecmath::cross` meets its contract: its steps are the definition's. Assumes nothing.
 use mathlib.Core.Path.{refl}
-use Rattle.light_bounds.specs.Vectors.{cross}
+use Rattle.light_bounds.specs.Vecmath.{cross}
 use Rattle.light_bounds.proofs.vecmath.cross.Statement.{statement}
 use Rattle.light_bounds.proofs.vecmath.cross.Tie as tie
 

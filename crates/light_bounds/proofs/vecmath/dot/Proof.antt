@@ -1,6 +1,6 @@
 -- `light_bounds::vecmath::dot` meets its contract: its steps are the definition's. Assumes nothing.
 use mathlib.Core.Path.{refl}
-use Rattle.light_bounds.specs.Vectors.{dot}
+use Rattle.light_bounds.specs.Vecmath.{dot}
 use Rattle.light_bounds.proofs.vecmath.dot.Statement.{statement}
 use Rattle.light_bounds.proofs.vecmath.dot.Tie as tie
 

@@ -1,5 +1,5 @@
 -- `light_bounds::vecmath::is_finite_vec` meets its contract: its steps are the definition's. Assumes nothing.
-use Rattle.light_bounds.specs.Vectors.{finiteVec}
+use Rattle.light_bounds.specs.Vecmath.{finiteVec}
 use borrow.Author.Needs.{needs}
 use Rattle.light_bounds.proofs.vecmath.is_finite_vec.Statement.{statement}
 use Rattle.light_bounds.proofs.vecmath.is_finite_vec.Tie as tie

@@ -2,7 +2,7 @@
 use mathlib.Core.Path.{_∙_, ap}
 use lib.Ieee.{binary32}
 use Rattle.ieee.specs.Sqrt.{sqrt}
-use Rattle.light_bounds.specs.Vectors.{length}
+use Rattle.light_bounds.specs.Vecmath.{vecLength}
 use borrow.Author.Needs.{needs}
 use Rattle.light_bounds.proofs.vecmath.length.Statement.{statement}
 use Rattle.light_bounds.proofs.vecmath.length.Tie as tie

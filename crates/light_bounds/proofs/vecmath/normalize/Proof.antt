@@ -3,7 +3,7 @@ use mathlib.Core.Path.{_≡_, sym, _∙_, ap}
 use lib.Ieee.{ofBits}
 use lib.Ieee.Scale.{finite}
 use Rattle.words.specs.Answers.{given}
-use Rattle.light_bounds.specs.Vectors.{length, normalize}
+use Rattle.light_bounds.specs.Vecmath.{vecLength, normalize}
 use borrow.Author.Needs.{needs}
 use Rattle.light_bounds.proofs.vecmath.normalize.Statement.{statement}
 use Rattle.light_bounds.proofs.vecmath.normalize.Tie as tie

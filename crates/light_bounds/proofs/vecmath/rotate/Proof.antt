@@ -2,7 +2,7 @@
 use mathlib.Core.Path.{_∙_, ap, ap₂}
 use lib.Ieee.{Float}
 use Rattle.ieee.specs.Single.{_⊖_, _⊗_, onef}
-use Rattle.light_bounds.specs.Vectors.{plus, scaled, rotate}
+use Rattle.light_bounds.specs.Vecmath.{plus, scaled, rotate}
 use borrow.Author.Needs.{needs}
 use Rattle.light_bounds.proofs.vecmath.rotate.Statement.{statement}
 use Rattle.light_bounds.proofs.vecmath.rotate.Tie as tie

@@ -1,6 +1,6 @@
 -- `light_bounds::vecmath::scale_vector` meets its contract: its steps are the definition's. Assumes nothing.
 use mathlib.Core.Path.{refl}
-use Rattle.light_bounds.specs.Vectors.{scaled}
+use Rattle.light_bounds.specs.Vecmath.{scaled}
 use Rattle.light_bounds.proofs.vecmath.scale_vector.Statement.{statement}
 use Rattle.light_bounds.proofs.vecmath.scale_vector.Tie as tie
 

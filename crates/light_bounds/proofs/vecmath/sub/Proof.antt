@@ -1,6 +1,6 @@
 -- `light_bounds::vecmath::sub` meets its contract: its steps are the definition's. Assumes nothing.
 use mathlib.Core.Path.{refl}
-use Rattle.light_bounds.specs.Vectors.{minus}
+use Rattle.light_bounds.specs.Vecmath.{minus}
 use Rattle.light_bounds.proofs.vecmath.sub.Statement.{statement}
 use Rattle.light_bounds.proofs.vecmath.sub.Tie as tie
 
