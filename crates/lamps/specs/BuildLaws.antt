@@ -9,7 +9,7 @@ use borrow.Author.Tests.{le-leb, lt-leb, ltb-false}
 use lib.Dec.{leb, ltb, eqb}
 use lib.Ieee.{Float, lt}
 use lib.Ieee.Scale.{finite}
-use Rattle.ieee.specs.Single.{zero as zerof}
+use Rattle.ieee.specs.Single.{zerof}
 use lib.ListN.{length, getD, drop}
 use Rattle.words.proofs.AnswerLaws.{Early, Late, only-given, only-refused, only-cond, only-then, then-given, given-injective, not-both, count-given}
 use Rattle.words.specs.Answers.{Answer, given, refused, _then_, count}

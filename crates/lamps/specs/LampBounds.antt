@@ -5,7 +5,7 @@ use mathlib.Core.List.{List}
 use lib.Ieee.{Float, lt, le, eq}
 use lib.Ieee.Scale.{finite}
 use lib.ListN.{length, getD}
-use Rattle.ieee.specs.Single.{_⊖_, _⊗_, single, zero as zerof, one, minusOne, pi}
+use Rattle.ieee.specs.Single.{_⊖_, _⊗_, single, zerof, onef, minusOne, pi}
 use Rattle.trig.specs.Trig.{cos, acos}
 use Rattle.words.specs.Answers.{Answer, given, refused, _then_}
 use Rattle.words.specs.Refusals.{number}
@@ -55,7 +55,7 @@ pointBounds position intensity scale =
     boxCheck (at position) then λ _.
     checked (record {
       bounds = at position;
-      direction = vec zerof zerof one;
+      direction = vec zerof zerof onef;
       phi = pointPhi intensity scale;
       «cos_theta_o» = minusOne;
       «cos_theta_e» = cos halfPi;
@@ -66,7 +66,7 @@ pointBounds position intensity scale =
 unfoldable pub falloff : Float → Float → Float
 falloff cosO cosEnd =
     let e = cos (acos cosEnd ⊖ acos cosO) in
-    cond (eq e one && not (eq cosO cosEnd)) nearlyOne e
+    cond (eq e onef && not (eq cosO cosEnd)) nearlyOne e
 
 unfoldable pub spotRecord : Vec3 → Vec3 → Float → Float → Float → Answer LightBounds
 spotRecord position direction phi cosO cosEnd =
@@ -119,7 +119,7 @@ facedRecord bounds normal phi side =
       bounds = bounds;
       direction = d;
       phi = phi;
-      «cos_theta_o» = one;
+      «cos_theta_o» = onef;
       «cos_theta_e» = cos halfPi;
       «two_sided» = side;
     }))

@@ -10,7 +10,7 @@ use Rattle.ieee.specs.Choose.{fmin}
 use Rattle.ieee.specs.ChooseOrder.{fmax-nonneg, fmin-le, fmax-le}
 use Rattle.ieee.specs.OperationOrder.{add-positive}
 use Rattle.ieee.specs.OrderLaws.{nonneg, le→nonneg, lt→le, not-eq-of-lt}
-use Rattle.ieee.specs.Single.{_⊕_, _⊗_, _⊘_, zero}
+use Rattle.ieee.specs.Single.{_⊕_, _⊗_, _⊘_, zerof}
 use Rattle.words.specs.Answers.{Answer, given, refused, _then_}
 use Rattle.light_bounds.specs.Boxes.{boxCheck, boxUnion, leastOf, greatestOf, inverted}
 use Rattle.light_bounds.specs.Cones.{unionDirectionCones}
@@ -66,9 +66,9 @@ made a b =
       «two_sided» = either (a .«two_sided») (b .«two_sided»);
     }
 
-join-made : (a b : LightBounds) → T (lt zero (a .phi)) → T (lt zero (b .phi)) → join a b ≡ made a b
+join-made : (a b : LightBounds) → T (lt zerof (a .phi)) → T (lt zerof (b .phi)) → join a b ≡ made a b
 unfolding join
-join-made a b p q = go (eq (a .phi) zero) (eq (b .phi) zero) (not-eq-of-lt zero (a .phi) p) (not-eq-of-lt zero (b .phi) q)
+join-made a b p q = go (eq (a .phi) zerof) (eq (b .phi) zerof) (not-eq-of-lt zerof (a .phi) p) (not-eq-of-lt zerof (b .phi) q)
   where
     go : (c d : Bool) → T (not c) → T (not d) → cond c b (cond d a (made a b)) ≡ made a b
     go true d m n = absurd m
@@ -76,11 +76,11 @@ join-made a b p q = go (eq (a .phi) zero) (eq (b .phi) zero) (not-eq-of-lt zero 
     go false false m n = refl
 
 -- the union of two records with power has power. That the first power is an f32 is asked: a sum rounds to 0 only below the smallest one.
-pub union-power : (a b : LightBounds) → T (fits binary32 (a .phi)) → T (lt zero (a .phi)) → T (lt zero (b .phi)) → T (lt zero (join a b .phi))
+pub union-power : (a b : LightBounds) → T (fits binary32 (a .phi)) → T (lt zerof (a .phi)) → T (lt zerof (b .phi)) → T (lt zerof (join a b .phi))
 unfolding ofBits
 union-power a b f p q =
-    subst (λ (r : LightBounds). T (lt zero (r .phi))) (sym (join-made a b p q))
-    (add-positive binary32 (a .phi) (b .phi) f p (le→nonneg (b .phi) (lt→le zero (b .phi) q)))
+    subst (λ (r : LightBounds). T (lt zerof (r .phi))) (sym (join-made a b p q))
+    (add-positive binary32 (a .phi) (b .phi) f p (le→nonneg (b .phi) (lt→le zerof (b .phi) q)))
 
 -- "One box holds another where on each axis its min is at most the other's and its max at least"
 pub record Holds (outer inner : Bounds3) : Type 0 where
@@ -150,7 +150,7 @@ box-holds a b p q =
     )
 
 -- the union's box holds both
-pub union-holds : (a b : LightBounds) → validate a ≡ given tt → validate b ≡ given tt → T (lt zero (a .phi)) → T (lt zero (b .phi))
+pub union-holds : (a b : LightBounds) → validate a ≡ given tt → validate b ≡ given tt → T (lt zerof (a .phi)) → T (lt zerof (b .phi))
     → Holds (join a b .bounds) (a .bounds) × Holds (join a b .bounds) (b .bounds)
 union-holds a b v w p q =
     subst (λ (r : LightBounds). Holds (r .bounds) (a .bounds) × Holds (r .bounds) (b .bounds)) (sym (join-made a b p q))

@@ -2,7 +2,7 @@
 use mathlib.Core.Bool.{Bool, cond, _&&_, _||_}
 use lib.Ieee.{Float, lt}
 use Rattle.ieee.specs.Choose.{fmin, fmax}
-use Rattle.ieee.specs.Single.{_⊕_, _⊖_, _⊗_, half, two}
+use Rattle.ieee.specs.Single.{_⊕_, _⊖_, _⊗_, half, twof}
 use Rattle.words.specs.Answers.{Answer, given, refused}
 use Rattle.words.specs.Refusals.{number}
 use Rattle.light_bounds.specs.Vectors.{vec, finiteVec}
@@ -38,4 +38,4 @@ unfoldable pub centroid : Bounds3 → Vec3
 centroid b = vec ((b .min .x ⊕ b .max .x) ⊗ half) ((b .min .y ⊕ b .max .y) ⊗ half) ((b .min .z ⊕ b .max .z) ⊗ half)
 
 unfoldable pub surfaceArea : Bounds3 → Float
-surfaceArea b = let d = diagonal b in two ⊗ (d .x ⊗ d .y ⊕ d .y ⊗ d .z ⊕ d .z ⊗ d .x)
+surfaceArea b = let d = diagonal b in twof ⊗ (d .x ⊗ d .y ⊕ d .y ⊗ d .z ⊕ d .z ⊗ d .x)

@@ -3,7 +3,7 @@
 use mathlib.Core.Bool.{cond, _&&_}
 use lib.Ieee.{Float, le, eq}
 use Rattle.ieee.specs.Choose.{fmax, fabs}
-use Rattle.ieee.specs.Single.{_⊖_, _⊗_, _⊘_, zero, half, one}
+use Rattle.ieee.specs.Single.{_⊖_, _⊗_, _⊘_, zerof, half, onef}
 use Rattle.words.specs.Answers.{Answer, given, refused, _then_}
 use Rattle.words.specs.Refusals.{number}
 use Rattle.light_bounds.specs.Boxes.{diagonal, centroid}
@@ -26,7 +26,7 @@ pub data Seen : Type 0 where
 
 -- the sine of an angle by its cosine
 unfoldable pub sine : Float → Float
-sine c = safeSqrt (one ⊖ c ⊗ c)
+sine c = safeSqrt (onef ⊖ c ⊗ c)
 
 -- the cosine between the record's direction and the point's, a two-sided lamp's without its sign
 unfoldable pub cosW : LightBounds → Vec3 → Float
@@ -46,7 +46,7 @@ normalFactor c cosB = let i = fabs c in cosSubClamped (sine i) i (sine cosB) cos
 -- `dot(n, n)` = 0 means no normal
 unfoldable pub withNormal : Vec3 → Vec3 → Float → Float → Float → Answer Seen
 withNormal n wi cosB p d2 =
-    cond (eq (dot n n) zero) (given (lit p d2))
+    cond (eq (dot n n) zerof) (given (lit p d2))
     (normalize n then λ (u : Vec3). given (facing p d2 (normalFactor (dot wi u) cosB)))
 
 unfoldable pub toward : LightBounds → Query → Float → Vec3 → Answer Seen
@@ -66,12 +66,12 @@ unfoldable pub geometry : LightBounds → Query → Answer Seen
 geometry r q =
     let delta = minus (q .p) (centroid (r .bounds)) in
     let d2 = distance2 r delta in
-    cond (le d2 zero) (given dark) (normalize delta then λ (wi : Vec3). toward r q d2 wi)
+    cond (le d2 zerof) (given dark) (normalize delta then λ (wi : Vec3). toward r q d2 wi)
 
 unfoldable pub finish : Float → Seen → Float
-finish phi dark = zero
-finish phi (lit p d2) = fmax (phi ⊗ p ⊘ d2) zero
-finish phi (facing p d2 i) = fmax (phi ⊗ p ⊘ d2 ⊗ i) zero
+finish phi dark = zerof
+finish phi (lit p d2) = fmax (phi ⊗ p ⊘ d2) zerof
+finish phi (facing p d2 i) = fmax (phi ⊗ p ⊘ d2 ⊗ i) zerof
 
 abbrev pub finishView : Float → Answer Seen → Answer Float
 finishView phi v = v then λ (s : Seen). given (finish phi s)

@@ -3,7 +3,7 @@ use mathlib.Core.Bool.{_&&_, _||_, not}
 use native.Mathlib.Omega.{arith}
 use lib.Ieee.{lt, eq}
 use lib.Ieee.Scale.{finite}
-use Rattle.ieee.specs.Single.{zero as zerof}
+use Rattle.ieee.specs.Single.{zerof}
 use Rattle.words.proofs.AnswerLaws.{Late, only-given, only-refused, only-cond, only-then}
 use Rattle.words.specs.Answers.{Answer, given, refused}
 use Rattle.light_bounds.specs.Boxes.{boxCheck, inverted}

@@ -14,11 +14,11 @@ use borrow.Author.Tests.{le-leb, lt-leb}
 use Rattle.light_bounds.specs.declared.light_bounds.LightBounds.{LightBounds}
 use Rattle.light_bounds.specs.declared.vecmath.Vec3.{Vec3}
 use Rattle.light_bounds.specs.declared.record_words.Found.the-variants.{Record, UnknownSide, Past}
-use Rattle.ieee.specs.Single.{zero, single}
+use Rattle.ieee.specs.Single.{zerof, single}
 use Rattle.light_bounds.specs.Vectors.{vec}
 use Rattle.light_bounds.specs.RecordWords.{recordAt, readRecord, vecAt, writtenAt, putVec, putRest, putRecord, recordList, sideKnown, sideOf, sideWord}
 
-pub vecAt-past : (ws : List ℕ) (at : ℕ) → length ws ≤ at → vecAt ws at ≡ vec zero zero zero
+pub vecAt-past : (ws : List ℕ) (at : ℕ) → length ws ≤ at → vecAt ws at ≡ vec zerof zerof zerof
 unfolding vecAt
 vecAt-past ws at h =
     rw (List·getD-eq-default ws 0 {n = at} h, List·getD-eq-default ws 0 {n = at + 1} (omega arith), List·getD-eq-default ws 0 {n = at + 2} (omega arith))

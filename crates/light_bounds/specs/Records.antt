@@ -3,7 +3,7 @@ use mathlib.Core.Bool.{Bool, cond, _&&_, _||_, not}
 use lib.Ieee.{Float, lt, le, eq}
 use lib.Ieee.Scale.{finite}
 use Rattle.ieee.specs.Choose.{fmin}
-use Rattle.ieee.specs.Single.{_⊕_, zero, one, minusOne}
+use Rattle.ieee.specs.Single.{_⊕_, zerof, onef, minusOne}
 use Rattle.words.specs.Answers.{Answer, given, refused, _then_}
 use Rattle.words.specs.Refusals.{number}
 use Rattle.light_bounds.specs.Boxes.{boxCheck, boxUnion}
@@ -15,13 +15,13 @@ use Rattle.light_bounds.specs.declared.light_bounds.Joined.the-variants.
 
 -- a cosine lies from -1 to 1
 unfoldable pub isCosine : Float → Bool
-isCosine x = le minusOne x && le x one
+isCosine x = le minusOne x && le x onef
 
 -- 7, then 8
 unfoldable pub rangeCheck : LightBounds → Answer (Unit {0})
 rangeCheck r =
-    cond (eq (dot (r .direction) (r .direction)) zero) (refused 7)
-    (cond (lt (r .phi) zero || not (isCosine (r .«cos_theta_o») && isCosine (r .«cos_theta_e»))) (refused 8) (given tt))
+    cond (eq (dot (r .direction) (r .direction)) zerof) (refused 7)
+    (cond (lt (r .phi) zerof || not (isCosine (r .«cos_theta_o») && isCosine (r .«cos_theta_e»))) (refused 8) (given tt))
 
 -- 5 of what is not the box
 unfoldable pub coneCheck : LightBounds → Answer (Unit {0})
@@ -45,8 +45,8 @@ either a b = a || b
 unfoldable pub join : LightBounds → LightBounds → LightBounds
 join a b =
     let c = unionDirectionCones (a .direction) (a .«cos_theta_o») (b .direction) (b .«cos_theta_o») in
-    cond (eq (a .phi) zero) b
-    (cond (eq (b .phi) zero) a
+    cond (eq (a .phi) zerof) b
+    (cond (eq (b .phi) zerof) a
     (record {
       bounds = boxUnion (a .bounds) (b .bounds);
       direction = c .direction;

@@ -2,7 +2,7 @@
 use mathlib.Core.Bool.{Bool, cond, not, _&&_, _||_}
 use lib.Ieee.{Float, binary32, eq, lt}
 use lib.Ieee.Scale.{finite}
-use Rattle.ieee.specs.Single.{_⊕_, _⊖_, _⊗_, _⊘_, zero, one, two, pi}
+use Rattle.ieee.specs.Single.{_⊕_, _⊖_, _⊗_, _⊘_, zerof, onef, twof, pi}
 use Rattle.ieee.specs.Sqrt.{sqrt}
 use Rattle.trig.specs.Trig.{cos, sin, asin}
 use Rattle.words.specs.Answers.{Answer, given, refused}
@@ -37,14 +37,14 @@ length v = sqrt binary32 (dot v v)
 
 -- "a length to divide by is 0 or not finite" is refusal 7
 unfoldable pub normalize : Vec3 → Answer Vec3
-normalize v = cond (not (finite (length v)) || eq (length v) zero) (refused 7) (given (scaled v (one ⊘ length v)))
+normalize v = cond (not (finite (length v)) || eq (length v) zerof) (refused 7) (given (scaled v (onef ⊘ length v)))
 
 abbrev pub normalized : Direction → Answer Vec3
 normalized (Unit v) = given v
 normalized (Refused r) = refused (number r)
 
 unfoldable pub rotate : Vec3 → Vec3 → Float → Vec3
-rotate v axis angle = plus (plus (scaled v (cos angle)) (scaled (cross axis v) (sin angle))) (scaled axis (dot axis v ⊗ (one ⊖ cos angle)))
+rotate v axis angle = plus (plus (scaled v (cos angle)) (scaled (cross axis v) (sin angle))) (scaled axis (dot axis v ⊗ (onef ⊖ cos angle)))
 
 unfoldable pub angleBetween : Vec3 → Vec3 → Float
-angleBetween a b = cond (lt (dot a b) zero) (pi ⊖ two ⊗ asin (length (plus a b) ⊘ two)) (two ⊗ asin (length (minus b a) ⊘ two))
+angleBetween a b = cond (lt (dot a b) zerof) (pi ⊖ twof ⊗ asin (length (plus a b) ⊘ twof)) (twof ⊗ asin (length (minus b a) ⊘ twof))

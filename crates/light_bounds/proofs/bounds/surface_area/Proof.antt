@@ -1,6 +1,6 @@
 -- `light_bounds::bounds::surface_area` meets its contract: its steps are the definition's. Assumes nothing.
 use mathlib.Core.Path.{ap}
-use Rattle.ieee.specs.Single.{_⊕_, _⊗_, two}
+use Rattle.ieee.specs.Single.{_⊕_, _⊗_, twof}
 use Rattle.light_bounds.specs.Boxes.{surfaceArea}
 use Rattle.light_bounds.specs.declared.vecmath.Vec3.{Vec3}
 use borrow.Author.Needs.{needs}
@@ -9,7 +9,7 @@ use Rattle.light_bounds.proofs.bounds.surface_area.Tie as tie
 
 returns : tie.Need-returns
 unfolding surfaceArea
-returns c = ap (λ (d : Vec3). two ⊗ (d .x ⊗ d .y ⊕ d .y ⊗ d .z ⊕ d .z ⊗ d .x)) (c .before .before .before .diagonal .ensures)
+returns c = ap (λ (d : Vec3). twof ⊗ (d .x ⊗ d .y ⊕ d .y ⊗ d .z ⊕ d .z ⊗ d .x)) (c .before .before .before .diagonal .ensures)
 
 pub surface-area-spec : {M : Type 1} → statement M
 surface-area-spec =

@@ -2,7 +2,7 @@
 use mathlib.Core.Path.{_≡_, sym, _∙_, ap}
 use lib.Ieee.{neg, ofBits}
 use Rattle.ieee.specs.Choose.{fmin, clamp}
-use Rattle.ieee.specs.Single.{_⊕_, one, minusOne, pi}
+use Rattle.ieee.specs.Single.{_⊕_, onef, minusOne, pi}
 use Rattle.trig.specs.Trig.{acos}
 use Rattle.light_bounds.specs.Cones.{unionDirectionCones}
 use Rattle.light_bounds.specs.Vectors.{angleBetween}
@@ -11,11 +11,11 @@ use Rattle.light_bounds.proofs.cones.union_direction_cones.Statement.{s
 use Rattle.light_bounds.proofs.cones.union_direction_cones.Tie as tie
 
 -- the three angles
-theta-a : (c : tie.After-acos) → acos (clamp (c .before .before .args .cos-a) minusOne one) ≡ c .acos .result
+theta-a : (c : tie.After-acos) → acos (clamp (c .before .before .args .cos-a) minusOne onef) ≡ c .acos .result
 unfolding neg ofBits
 theta-a c = sym (c .acos .ensures ∙ ap acos (c .before .clamp .ensures))
 
-theta-b : (c : tie.After-acos2) → acos (clamp (c .before .before .before .before .args .cos-b) minusOne one) ≡ c .acos2 .result
+theta-b : (c : tie.After-acos2) → acos (clamp (c .before .before .before .before .args .cos-b) minusOne onef) ≡ c .acos2 .result
 unfolding neg ofBits
 theta-b c = sym (c .acos2 .ensures ∙ ap acos (c .before .clamp2 .ensures))
 

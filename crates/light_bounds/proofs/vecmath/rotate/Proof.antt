@@ -1,7 +1,7 @@
 -- `light_bounds::vecmath::rotate` meets its contract: its steps are the definition's. Assumes nothing.
 use mathlib.Core.Path.{_∙_, ap, ap₂}
 use lib.Ieee.{Float}
-use Rattle.ieee.specs.Single.{_⊖_, _⊗_, one}
+use Rattle.ieee.specs.Single.{_⊖_, _⊗_, onef}
 use Rattle.light_bounds.specs.Vectors.{plus, scaled, rotate}
 use borrow.Author.Needs.{needs}
 use Rattle.light_bounds.proofs.vecmath.rotate.Statement.{statement}
@@ -22,7 +22,7 @@ returns c =
     c .add2 .ensures
     ∙ ap₂ plus
     (c6 .add .ensures ∙ ap₂ plus (c3 .scale-vector .ensures ∙ ap (scaled (a .v)) (c2 .cos .ensures)) (c5 .scale-vector2 .ensures ∙ ap₂ scaled (c4 .cross .ensures) (c1 .sin .ensures)))
-    (c8 .scale-vector3 .ensures ∙ ap (scaled (a .axis)) (ap₂ (λ (d k : Float). d ⊗ (one ⊖ k)) (c7 .dot .ensures) (c2 .cos .ensures)))
+    (c8 .scale-vector3 .ensures ∙ ap (scaled (a .axis)) (ap₂ (λ (d k : Float). d ⊗ (onef ⊖ k)) (c7 .dot .ensures) (c2 .cos .ensures)))
 
 pub rotate-spec : {M : Type 1} → statement M
 rotate-spec =
