@@ -12,7 +12,7 @@ use borrow.Author.Tests.{eqb-true, eqb-false}
 use lib.Dec.{eqb}
 use lib.Ieee.{Float}
 use lib.ListN.{length, getD, List·getD-map}
-use Rattle.ieee.specs.Single.{_⊘_, zero as zerof, one}
+use Rattle.ieee.specs.Single.{_⊘_, zerof, onef}
 use Rattle.alias_table.specs.AliasTable.{Bin, Entry, State, none, filledIn, total, bin, start, update, settle, whole, turned, turn, turns, leftover, finish, table}
 use Rattle.alias_table.specs.GameLaws.{push-bins, ends-after, start-bins, length-turns, length-leftover, filledIn-length, start-length, table-length, occurrences, places, settledBy, hit-same, hit-other, occurrences-none, occurrences-cons, occurrences-append, held, heldIn, held-turned, held-turns, held-start, held-past}
 
@@ -253,7 +253,7 @@ settled-q ws n u o us os eu eo =
 -- ---- a leftover's q and alias
 
 -- a bin made whole stays whole
-whole-stays : (bs : List Bin) (i j : ℕ) → binAt bs i .q ≡ one → binAt (update bs j whole) i .q ≡ one
+whole-stays : (bs : List Bin) (i j : ℕ) → binAt bs i .q ≡ onef → binAt (update bs j whole) i .q ≡ onef
 unfolding update
 whole-stays [] i j h = h
 whole-stays (b ∷ bs) zero zero h = refl
@@ -261,18 +261,18 @@ whole-stays (b ∷ bs) zero (suc j) h = h
 whole-stays (b ∷ bs) (suc i) zero h = h
 whole-stays (b ∷ bs) (suc i) (suc j) h = whole-stays bs i j h
 
-leftover-stays : (i : ℕ) (es : List Entry) (bs : List Bin) → binAt bs i .q ≡ one → binAt (leftover es bs) i .q ≡ one
+leftover-stays : (i : ℕ) (es : List Entry) (bs : List Bin) → binAt bs i .q ≡ onef → binAt (leftover es bs) i .q ≡ onef
 unfolding leftover
 leftover-stays i [] bs h = h
 leftover-stays i (e ∷ es) bs h = whole-stays (leftover es bs) i (e .index) (leftover-stays i es bs h)
 
-leftover-whole : (i : ℕ) (es : List Entry) (bs : List Bin) → i < length bs → 1 ≤ occurrences i (places es) → binAt (leftover es bs) i .q ≡ one
+leftover-whole : (i : ℕ) (es : List Entry) (bs : List Bin) → i < length bs → 1 ≤ occurrences i (places es) → binAt (leftover es bs) i .q ≡ onef
 unfolding leftover
 leftover-whole i [] bs h k = absurd (omega (arith, occurrences-none i))
 leftover-whole i (e ∷ es) bs h k = go (eqb i (e .index)) refl (λ l. leftover-whole i es bs h l)
   where
-    go : (b : Bool) → eqb i (e .index) ≡ b → (1 ≤ occurrences i (places es) → binAt (leftover es bs) i .q ≡ one)
-        → binAt (update (leftover es bs) (e .index) whole) i .q ≡ one
+    go : (b : Bool) → eqb i (e .index) ≡ b → (1 ≤ occurrences i (places es) → binAt (leftover es bs) i .q ≡ onef)
+        → binAt (update (leftover es bs) (e .index) whole) i .q ≡ onef
     go true p more =
         ap (λ (j : ℕ). binAt (update (leftover es bs) j whole) i .q) (sym (eqb-true i (e .index) p))
         ∙ ap (λ (b : Bin). b .q) (update-here (leftover es bs) i whole (omega (arith, length-leftover es bs)))
@@ -318,7 +318,7 @@ no-alias sum (w ∷ ws) (suc i) = no-alias sum ws i
 -- a bin that is left over when the game has ended has q 1 and no alias
 pub left-over : (ws : List Float) (i : ℕ) → i < length ws
     → 1 ≤ occurrences i (places (turns (length ws) (start (filledIn ws)) .under) ++ places (turns (length ws) (start (filledIn ws)) .over))
-    → (binAt (table ws) i .q ≡ one) × (binAt (table ws) i .alias ≡ none)
+    → (binAt (table ws) i .q ≡ onef) × (binAt (table ws) i .alias ≡ none)
 unfolding table held
 left-over ws i h k =
     let s = start (filledIn ws) in
@@ -333,7 +333,7 @@ left-over ws i h k =
           ∙ no-alias (total (filledIn ws)) (filledIn ws) i,
     )
   where
-    go : (t : State) → i < length (t .bins) → Dec (1 ≤ occurrences i (places (t .over))) → 1 ≤ heldIn i t → binAt (finish t) i .q ≡ one
+    go : (t : State) → i < length (t .bins) → Dec (1 ≤ occurrences i (places (t .over))) → 1 ≤ heldIn i t → binAt (finish t) i .q ≡ onef
     go t l (yes o) m = leftover-whole i (t .over) (leftover (t .under) (t .bins)) (omega (arith, l, length-leftover (t .under) (t .bins))) o
     go t l (no n) m =
         leftover-stays i (t .over) (leftover (t .under) (t .bins)) (leftover-whole i (t .under) (t .bins) l (omega (arith, lt-of-not-le n)))

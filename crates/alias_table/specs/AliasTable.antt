@@ -9,7 +9,7 @@ use lib.Ieee.{Float, Format, binary32, binary64, toBits, ofInt, add, lt, eq}
 use lib.Ieee.Scale.{finite}
 use lib.ListN.{length, replicate}
 use Rattle.ieee.specs.Narrow.{narrow}
-use Rattle.ieee.specs.Single.{_⊕_, _⊖_, _⊗_, _⊘_, single, zero as zerof, one}
+use Rattle.ieee.specs.Single.{_⊕_, _⊖_, _⊗_, _⊘_, single, zerof, onef}
 use Rattle.words.specs.Answers.{Answer, given, refused}
 use Rattle.words.specs.Refusals.{number}
 use Rattle.alias_table.specs.declared.AliasTable.{AliasTable}
@@ -42,7 +42,7 @@ sumFrom f s (w ∷ ws) = sumFrom f (add f s w) ws
 
 -- where the f32 sum is zero, every weight becomes one
 unfoldable pub filledIn : List Float → List Float
-filledIn ws = cond (eq (sumFrom binary32 zerof ws) zerof) (replicate (length ws) one) ws
+filledIn ws = cond (eq (sumFrom binary32 zerof ws) zerof) (replicate (length ws) onef) ws
 
 -- the sum is taken in f64 and narrowed
 unfoldable pub total : List Float → Float
@@ -67,7 +67,7 @@ pub record State : Type 0 where
 -- below one to `under`, else to `over`
 unfoldable pub push : Entry → State → State
 push e s =
-    cond (lt (e .weight) one)
+    cond (lt (e .weight) onef)
     (record { bins = s .bins; under = e ∷ s .under; over = s .over })
     (record { bins = s .bins; under = s .under; over = e ∷ s .over })
 
@@ -93,13 +93,13 @@ abbrev pub settle : Float → ℕ → Bin → Bin
 settle w a b = record { q = w; p = b .p; alias = a }
 
 abbrev pub whole : Bin → Bin
-whole b = record { q = one; p = b .p; alias = b .alias }
+whole b = record { q = onef; p = b .p; alias = b .alias }
 
 -- one turn: a bin is taken from each stack; the under one is settled, the over one pushed again with what it has left
 unfoldable pub turned : List Bin → List Entry → List Entry → State
 turned bs (u ∷ us) (o ∷ os) =
     push
-    (record { weight = u .weight ⊕ o .weight ⊖ one; index = o .index })
+    (record { weight = u .weight ⊕ o .weight ⊖ onef; index = o .index })
     (record { bins = update bs (u .index) (settle (u .weight) (o .index)); under = us; over = os })
 turned bs [] os = record { bins = bs; under = []; over = os }
 turned bs (u ∷ us) [] = record { bins = bs; under = u ∷ us; over = [] }

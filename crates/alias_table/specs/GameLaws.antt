@@ -12,7 +12,7 @@ use lib.Dec.{eqb}
 use lib.IntN.{pos}
 use lib.Ieee.{Float, binary32, ofInt, eq, lt}
 use lib.ListN.{length, replicate, length-map, length-replicate}
-use Rattle.ieee.specs.Single.{_⊕_, _⊖_, _⊗_, zero as zerof, one}
+use Rattle.ieee.specs.Single.{_⊕_, _⊖_, _⊗_, zerof, onef}
 use Rattle.alias_table.specs.AliasTable.{Bin, Entry, State, sumFrom, filledIn, total, bin, push, pushAll, start, update, settle, whole, turned, turn, turns, leftover, finish, table}
 
 -- ---- pushing
@@ -23,18 +23,18 @@ onUnder e s = record { bins = s .bins; under = e ∷ s .under; over = s .over }
 abbrev onOver : Entry → State → State
 onOver e s = record { bins = s .bins; under = s .under; over = e ∷ s .over }
 
-pub under-push : (e : Entry) (s : State) → lt (e .weight) one ≡ true → push e s ≡ record { bins = s .bins; under = e ∷ s .under; over = s .over }
+pub under-push : (e : Entry) (s : State) → lt (e .weight) onef ≡ true → push e s ≡ record { bins = s .bins; under = e ∷ s .under; over = s .over }
 unfolding push
 under-push e s h = rw h
 
-pub over-push : (e : Entry) (s : State) → lt (e .weight) one ≡ false → push e s ≡ record { bins = s .bins; under = s .under; over = e ∷ s .over }
+pub over-push : (e : Entry) (s : State) → lt (e .weight) onef ≡ false → push e s ≡ record { bins = s .bins; under = s .under; over = e ∷ s .over }
 unfolding push
 over-push e s h = rw h
 
 push-either : (e : Entry) (s : State) → (push e s ≡ onUnder e s) ⊎ (push e s ≡ onOver e s)
-push-either e s = go (lt (e .weight) one) refl
+push-either e s = go (lt (e .weight) onef) refl
   where
-    go : (b : Bool) → lt (e .weight) one ≡ b → (push e s ≡ onUnder e s) ⊎ (push e s ≡ onOver e s)
+    go : (b : Bool) → lt (e .weight) onef ≡ b → (push e s ≡ onUnder e s) ⊎ (push e s ≡ onOver e s)
     go true h = inl (under-push e s h)
     go false h = inr (over-push e s h)
 
@@ -89,7 +89,7 @@ ends-from zero bs (u ∷ us) os h = absurd (omega arith)
 ends-from (suc n) bs [] os h = inl (ap (λ (s : State). s .under) (turns-stay (suc n) (record { bins = bs; under = []; over = os }) (inl refl)))
 ends-from (suc n) bs (u ∷ us) [] h = inr (ap (λ (s : State). s .over) (turns-stay (suc n) (record { bins = bs; under = u ∷ us; over = [] }) (inr refl)))
 ends-from (suc n) bs (u ∷ us) (o ∷ os) h =
-    let e : Entry = record { weight = u .weight ⊕ o .weight ⊖ one; index = o .index } in
+    let e : Entry = record { weight = u .weight ⊕ o .weight ⊖ onef; index = o .index } in
     let rest : State = record { bins = update bs (u .index) (settle (u .weight) (o .index)); under = us; over = os } in
     ends-from n (push e rest .bins) (push e rest .under) (push e rest .over) (omega (arith, height-push e rest))
 
@@ -121,7 +121,7 @@ unfolding turned
 length-turned bs [] os = refl
 length-turned bs (u ∷ us) [] = refl
 length-turned bs (u ∷ us) (o ∷ os) =
-    ap (λ (l : List Bin). length l) (push-bins (record { weight = u .weight ⊕ o .weight ⊖ one; index = o .index })
+    ap (λ (l : List Bin). length l) (push-bins (record { weight = u .weight ⊕ o .weight ⊖ onef; index = o .index })
     (record { bins = update bs (u .index) (settle (u .weight) (o .index)); under = us; over = os }))
     ∙ length-update bs (u .index) (settle (u .weight) (o .index))
 
@@ -142,8 +142,8 @@ pub filledIn-length : (ws : List Float) → length (filledIn ws) ≡ length ws
 unfolding filledIn
 filledIn-length ws = go (eq (sumFrom binary32 zerof ws) zerof)
   where
-    go : (b : Bool) → length (cond b (replicate (length ws) one) ws) ≡ length ws
-    go true = length-replicate (length ws) one
+    go : (b : Bool) → length (cond b (replicate (length ws) onef) ws) ≡ length ws
+    go true = length-replicate (length ws) onef
     go false = refl
 
 pub ends : (ws : List Float) → (turns (length ws) (start (filledIn ws)) .under ≡ []) ⊎ (turns (length ws) (start (filledIn ws)) .over ≡ [])
@@ -232,7 +232,7 @@ held-turned i bs (u ∷ us) [] = omega (arith, occurrences-none i)
 held-turned i bs (u ∷ us) (o ∷ os) =
     omega (
       arith,
-      held-push i (record { weight = u .weight ⊕ o .weight ⊖ one; index = o .index })
+      held-push i (record { weight = u .weight ⊕ o .weight ⊖ onef; index = o .index })
           (record { bins = update bs (u .index) (settle (u .weight) (o .index)); under = us; over = os }),
       occurrences-none i,
       occurrences-cons i (u .index) [],

@@ -16,7 +16,7 @@ use lib.Ieee.Fits.{mul-fits, sub-fits}
 use lib.Ieee.Scale.{finite}
 use lib.ListN.{length, getD, set, take, drop, replicate, length-set, length-map, length-append, length-replicate, getD-replicate, List·getD-map, drop-of-length-le}
 use lib.Seq.{sets, drop-cons, drop-set-lt, getD-set-same, getD-set-other, take-all}
-use Rattle.ieee.specs.Single.{_⊕_, _⊖_, _⊗_, _⊘_, single, zero as zerof, one}
+use Rattle.ieee.specs.Single.{_⊕_, _⊖_, _⊗_, _⊘_, single, zerof, onef}
 use Rattle.words.specs.Fill.{filled}
 use Rattle.words.proofs.FillLaws.{filled-within}
 use Rattle.words.proofs.Stores.{Copied, copied-none, copied-run}
@@ -83,18 +83,18 @@ pub sums-last : (words : List ℕ) (i : ℕ) (s d : Float) {last : Sums} → len
 unfolding sumsFrom anyBad sumFrom
 sums-last words i s d h then = rw (weights-none words i h) at then
 
-pub ones-from : (m i : ℕ) → i < m → replicate (m - i) one ≡ one ∷ replicate (m - (i + 1)) one
+pub ones-from : (m i : ℕ) → i < m → replicate (m - i) onef ≡ onef ∷ replicate (m - (i + 1)) onef
 ones-from m i h =
     let e : m - i ≡ suc (m - (i + 1)) = omega arith in
     rw e
 
-pub ones-none : (m i : ℕ) → m ≤ i → replicate (m - i) one ≡ []
+pub ones-none : (m i : ℕ) → m ≤ i → replicate (m - i) onef ≡ []
 ones-none m i h =
     let e : m - i ≡ 0 = omega arith in
     rw e
 
-module _ (m i : ℕ) (s : Float) {last : Float} (then : sumFrom binary64 s (replicate (m - i) one) ≡ last) where
-  pub ones-next : i < m → sumFrom binary64 (add binary64 s one) (replicate (m - (i + 1)) one) ≡ last
+module _ (m i : ℕ) (s : Float) {last : Float} (then : sumFrom binary64 s (replicate (m - i) onef) ≡ last) where
+  pub ones-next : i < m → sumFrom binary64 (add binary64 s onef) (replicate (m - (i + 1)) onef) ≡ last
   unfolding sumFrom
   ones-next h = rw (ones-from m i h) at then
 
@@ -104,12 +104,12 @@ module _ (m i : ℕ) (s : Float) {last : Float} (then : sumFrom binary64 s (repl
 
 pub weighted-length : (flat : Bool) (words : List ℕ) → length (weighted flat words) ≡ length words
 unfolding weighted
-weighted-length true words = length-replicate (length words) one
+weighted-length true words = length-replicate (length words) onef
 weighted-length false words = length-map words single
 
-pub weighted-one : (words : List ℕ) (i : ℕ) → i < length words → getD (weighted true words) i zerof ≡ one
+pub weighted-one : (words : List ℕ) (i : ℕ) → i < length words → getD (weighted true words) i zerof ≡ onef
 unfolding weighted
-weighted-one words i h = getD-replicate (length words) i one zerof h
+weighted-one words i h = getD-replicate (length words) i onef zerof h
 
 pub weighted-own : (words : List ℕ) (i : ℕ) → getD (weighted false words) i zerof ≡ single (getD words i 0)
 unfolding weighted
@@ -141,7 +141,7 @@ settle-words [] i w a rest h = absurd (omega arith)
 settle-words (b ∷ bs) zero w a rest h = refl
 settle-words (b ∷ bs) (suc i) w a rest h = rw (three-two, three, settle-words bs i w a rest (omega arith))
 
-one-word : toBits binary32 one ≡ 0x3f80_0000
+one-word : toBits binary32 onef ≡ 0x3f80_0000
 unfolding toBits ofBits
 one-word = refl
 
@@ -210,7 +210,7 @@ module _ {m : ℕ} {workRest : List ℕ} {s : State} {work : List ℕ} {under ov
   entry = record { weight = w; index = i }
 
   -- an entry pushed, and its words put on top of its stack
-  pub stacks-push : (below : Bool) → lt w one ≡ below
+  pub stacks-push : (below : Bool) → lt w onef ≡ below
       → Stacks m workRest (push (record { weight = w; index = i }) s) (put work (top m under over below) w i) (cond below (under + 1) under) (cond below over (over + 1))
   unfolding entry
   stacks-push true l =
@@ -288,7 +288,7 @@ overTop m ov = 2 * m + 2 * (ov - 1)
 
 -- what the over bin has left
 abbrev pub left : List ℕ → ℕ → ℕ → Float
-left work u o = single (getD work u 0) ⊕ single (getD work o 0) ⊖ one
+left work u o = single (getD work u 0) ⊕ single (getD work o 0) ⊖ onef
 
 -- the settled bin's words
 abbrev pub settled : List ℕ → List ℕ → ℕ → ℕ → List ℕ
@@ -330,7 +330,7 @@ module _ {m : ℕ} {binsRest workRest : List ℕ} {s : State} {bins work : List 
   pub settle-in : 3 * getD work (underTop un + 1) 0 + 2 < length bins
   settle-in = rw (g .bins-are, length-append, length-binWords, g .count) (omega (arith, low-index))
 
-  pub turn-next : (below : Bool) → lt (left work (underTop un) (overTop m ov)) one ≡ below
+  pub turn-next : (below : Bool) → lt (left work (underTop un) (overTop m ov)) onef ≡ below
       → Game m binsRest workRest (turn s) (settled bins work (underTop un) (overTop m ov))
       (put work (top m (un - 1) (ov - 1) below) (left work (underTop un) (overTop m ov)) (getD work (overTop m ov + 1) 0))
       (cond below un (un - 1)) (cond below (ov - 1) ov)
@@ -344,7 +344,7 @@ module _ {m : ℕ} {binsRest workRest : List ℕ} {s : State} {bins work : List 
         bins-are = settled-is ∙ ap (λ (l : List Bin). binWords l ++ binsRest) (sym (push-bins e next));
         count = ap (λ (l : List Bin). length l) (push-bins e next) ∙ count-is;
         stacks =
-            rw (back-under, back-over) at (stacks-push (popped un ov bs (g .stacks)) (e .weight) (e .index) (sub-fits binary32 _ one)
+            rw (back-under, back-over) at (stacks-push (popped un ov bs (g .stacks)) (e .weight) (e .index) (sub-fits binary32 _ onef)
             (g .stacks .over-sound (ov - 1) (omega arith) .0) (omega (arith, g .stacks .together)) below l);
       })
 
@@ -400,7 +400,7 @@ module _ {m : ℕ} {bins₀ work₀ : List ℕ} {under over : ℕ} {bins work : 
   pub going-in : Playing m bins₀ work₀ under over → 0 < un → 0 < ov → 3 * getD work (underTop un + 1) 0 + 2 < length bins
   going-in (binsRest, workRest, s, p) u o = settle-in un ov (g .on binsRest workRest s p .game) u o
 
-  pub going-next : 0 < un → 0 < ov → (below : Bool) → lt (left work (underTop un) (overTop m ov)) one ≡ below
+  pub going-next : 0 < un → 0 < ov → (below : Bool) → lt (left work (underTop un) (overTop m ov)) onef ≡ below
       → Going m bins₀ work₀ under over (settled bins work (underTop un) (overTop m ov))
       (put work (top m (un - 1) (ov - 1) below) (left work (underTop un) (overTop m ov)) (getD work (overTop m ov + 1) 0))
       (cond below un (un - 1)) (cond below (ov - 1) ov)
@@ -485,7 +485,7 @@ module _ {m : ℕ} {ws : List Float} {sum : Float} {bins₀ work₀ bins work : 
       let fit : 3 * i + 3 ≤ length (binWords (map (bin sum) ws)) = rw (length-binWords, length-map, g .len) (omega arith) in
       rw e at (copied-run (fresh ws sum i) (g .bins-are) is fit (omega (arith, g .bins-room)))
 
-  pub starting-next : (below : Bool) → lt (hat m ws sum i) one ≡ below
+  pub starting-next : (below : Bool) → lt (hat m ws sum i) onef ≡ below
       → Starting m ws sum bins₀ work₀ (sets bins (3 * i) (fresh ws sum i)) (put work (top m under over below) (hat m ws sum i) i)
       (cond below (under + 1) under) (cond below over (over + 1)) (i + 1)
   unfolding pushAll

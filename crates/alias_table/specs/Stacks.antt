@@ -5,7 +5,7 @@ use mathlib.Core.Bool.{Bool, cond}
 use mathlib.Core.List.{List, [], _∷_, _++_, map}
 use lib.Ieee.{Float, binary32, binary64, toBits}
 use lib.ListN.{length, getD, set, drop, replicate}
-use Rattle.ieee.specs.Single.{single, zero as zerof, one}
+use Rattle.ieee.specs.Single.{single, zerof, onef}
 use Rattle.alias_table.specs.AliasTable.{Bin, Entry, State, anyBad, sumFrom, start, turns, leftover, finish, binWords}
 use Rattle.alias_table.specs.declared.Sums.{Sums}
 use Rattle.alias_table.specs.declared.Sums.the-variants.{Of, Bad}
@@ -21,7 +21,7 @@ sumsOf ws = sumsFrom zerof zerof ws
 
 -- the weights, or as many ones
 unfoldable pub weighted : Bool → List ℕ → List Float
-weighted flat words = cond flat (replicate (length words) one) (map single words)
+weighted flat words = cond flat (replicate (length words) onef) (map single words)
 
 -- the table of weights that need no filling in
 unfoldable pub played : List Float → List Bin

@@ -8,7 +8,7 @@ use borrow.Author.Tests.{le-leb, lt-leb, lt-ltb, le-ltb}
 use lib.Ieee.{Float, binary32, binary64, eq}
 use lib.ListN.{length, drop, replicate, length-map}
 use Rattle.ieee.specs.Narrow.{narrow}
-use Rattle.ieee.specs.Single.{single, zero as zerof, one}
+use Rattle.ieee.specs.Single.{single, zerof, onef}
 use Rattle.words.specs.Answers.{given, refused}
 use Rattle.words.specs.Fill.{filled}
 use Rattle.words.specs.Tray.{tray}
@@ -94,12 +94,12 @@ table-is words s d e =
     rw (filled-is words s d e, len, length-map)
 
 pub total-is : (words : List ℕ) (s d : Float) → Of s d ≡ sumsOf (map single words)
-    → narrow (cond (eq s zerof) (sumFrom binary64 zerof (replicate (length words) one)) d) ≡ total (weighted (eq s zerof) words)
+    → narrow (cond (eq s zerof) (sumFrom binary64 zerof (replicate (length words) onef)) d) ≡ total (weighted (eq s zerof) words)
 unfolding total weighted
 total-is words s d e = go (eq s zerof)
   where
-    go : (b : Bool) → narrow (cond b (sumFrom binary64 zerof (replicate (length words) one)) d)
-        ≡ narrow (sumFrom binary64 zerof (cond b (replicate (length words) one) (map single words)))
+    go : (b : Bool) → narrow (cond b (sumFrom binary64 zerof (replicate (length words) onef)) d)
+        ≡ narrow (sumFrom binary64 zerof (cond b (replicate (length words) onef) (map single words)))
     go true = refl
     go false = ap narrow (sym (sums-are (map single words) s d e .double-sum))
 

@@ -7,7 +7,7 @@ ghost use Prim.Native.Nat.{_+_, _*_, _<_};
 ghost use lib.Ieee.{binary32, binary64, toBits, lt};
 ghost use lib.ListN.{length, getD, set, replicate, drop};
 ghost use lib.Seq.{sets};
-ghost use Rattle.ieee.specs.Single.{_⊕_, _⊖_, single, zero as zerof, one};
+ghost use Rattle.ieee.specs.Single.{_⊕_, _⊖_, single, zerof, onef};
 ghost use Rattle.ieee.specs.Narrow.{narrow as narrowed};
 ghost use Rattle.words.specs.Answers.{count};
 ghost use Rattle.words.specs.Tray.{tray};
@@ -95,7 +95,7 @@ fn add_up(weights: &[u32]) -> Sums
 
 // The sum to divide by: that of the weights, or of m ones.
 fn total(flat: bool, double: f64, m: usize) -> f32
-    ensures { λ r. ⌜ r ≡ narrowed (cond flat (sumFrom binary64 zerof (replicate m one)) double) ⌝ }
+    ensures { λ r. ⌜ r ≡ narrowed (cond flat (sumFrom binary64 zerof (replicate m onef)) double) ⌝ }
 {
     if flat {
         narrow(ones(m))
@@ -105,7 +105,7 @@ fn total(flat: bool, double: f64, m: usize) -> f32
 }
 
 fn ones(m: usize) -> f64
-    ensures { λ r. ⌜ r ≡ sumFrom binary64 zerof (replicate m one) ⌝ }
+    ensures { λ r. ⌜ r ≡ sumFrom binary64 zerof (replicate m onef) ⌝ }
 {
     let mut s = 0.0;
     let mut i = 0;
@@ -177,8 +177,8 @@ fn put_bin(bins: &mut [u32], at: usize, p: f32)
 // An entry on top of its stack: below one on `under`, else on `over`. Whether it is below one.
 fn push(m: usize, work: &mut [u32], under: usize, over: usize, weight: f32, index: u32) -> bool
     requires { ⌜ (2 * under + 1 < length (now work)) × (2 * m + 2 * over + 1 < length (now work)) ⌝ }
-    ensures { λ r. ⌜ r ≡ lt weight one ⌝ }
-    ensures { λ _. ⌜ now (work .exit) ≡ put (now (work .entry)) (top m under over (lt weight one)) weight index ⌝ }
+    ensures { λ r. ⌜ r ≡ lt weight onef ⌝ }
+    ensures { λ _. ⌜ now (work .exit) ≡ put (now (work .entry)) (top m under over (lt weight onef)) weight index ⌝ }
 {
     if weight < 1.0 {
         put_entry(work, 2 * under, weight, index);
@@ -229,7 +229,7 @@ fn play(m: usize, bins: &mut [u32], work: &mut [u32], under: usize, over: usize)
 
 // What an over bin has left beside an under one.
 fn joint(under: u32, over: u32) -> f32
-    ensures { λ r. ⌜ r ≡ single under ⊕ single over ⊖ one ⌝ }
+    ensures { λ r. ⌜ r ≡ single under ⊕ single over ⊖ onef ⌝ }
 {
     f32_of_word(under) + f32_of_word(over) - 1.0
 }

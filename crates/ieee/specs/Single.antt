@@ -21,20 +21,20 @@ abbrev pub single : ℕ → Float
 single w = ofBits binary32 w
 
 -- 0, 0.5, 1, -1, 2 and Rust's PI
-abbrev pub zero : Float
-zero = single 0
+abbrev pub zerof : Float
+zerof = single 0
 
 abbrev pub half : Float
 half = single 0x3f00_0000
 
-abbrev pub one : Float
-one = single 0x3f80_0000
+abbrev pub onef : Float
+onef = single 0x3f80_0000
 
 abbrev pub minusOne : Float
 minusOne = single 0xbf80_0000
 
-abbrev pub two : Float
-two = single 0x4000_0000
+abbrev pub twof : Float
+twof = single 0x4000_0000
 
 abbrev pub pi : Float
 pi = single 0x4049_0fdb

@@ -3,7 +3,7 @@ use Prim.Native.Nat.{_-_}
 use mathlib.Core.Path.{_≡_}
 use lib.Ieee.{binary64, ofBits}
 use lib.ListN.{replicate}
-use Rattle.ieee.specs.Single.{zero as zerof, one}
+use Rattle.ieee.specs.Single.{zerof, onef}
 use Rattle.alias_table.specs.AliasTable.{sumFrom}
 use Rattle.alias_table.specs.StackLaws.{ones-next, ones-last}
 use native.Mathlib.Omega.{arith}
@@ -12,7 +12,7 @@ use Rattle.alias_table.proofs.ones.Tie as tie
 
 abbrev Inv-loop : tie.InvT-loop
 Inv-loop m s₀ i₀ s i =
-    sumFrom binary64 s (replicate (m - i) one) ≡ sumFrom binary64 zerof (replicate m one)
+    sumFrom binary64 s (replicate (m - i) onef) ≡ sumFrom binary64 zerof (replicate m onef)
 
 abbrev μ-loop : tie.MeasureT-loop
 μ-loop m s₀ i₀ s i = m - i
