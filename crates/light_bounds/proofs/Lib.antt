@@ -1,1 +1,3 @@
 pub mod Clamped
+pub mod LateLaws
+pub mod RecordPlaces

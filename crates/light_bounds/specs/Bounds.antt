@@ -1,4 +1,4 @@
--- Boxes, as `Bounds3` of `light_bounds.rs` has them. Assumes nothing.
+-- Boxes, as `Bounds3` of `light_bounds.rs` has them. Definitions only. Assumes nothing.
 use mathlib.Core.Bool.{Bool, cond, _&&_, _||_}
 use lib.Ieee.{Float, lt}
 use Rattle.ieee.specs.Choose.{fmin, fmax}
@@ -15,12 +15,15 @@ abbrev pub validity : Validity → Answer (Unit {0})
 validity Valid = given tt
 validity (Refused r) = refused (number r)
 
+abbrev pub finiteBox : Bounds3 → Bool
+finiteBox b = finiteVec (b .min) && finiteVec (b .max)
+
 -- some min above its max
 abbrev pub inverted : Bounds3 → Bool
 inverted b = lt (b .max .x) (b .min .x) || (lt (b .max .y) (b .min .y) || lt (b .max .z) (b .min .z))
 
 unfoldable pub boxCheck : Bounds3 → Answer (Unit {0})
-boxCheck b = cond (finiteVec (b .min) && finiteVec (b .max)) (cond (inverted b) (refused 6) (given tt)) (refused 5)
+boxCheck b = cond (finiteBox b) (cond (inverted b) (refused 6) (given tt)) (refused 5)
 
 unfoldable pub leastOf : Vec3 → Vec3 → Vec3
 leastOf a b = vec (fmin (a .x) (b .x)) (fmin (a .y) (b .y)) (fmin (a .z) (b .z))

@@ -12,10 +12,10 @@ use Rattle.ieee.specs.OperationOrder.{add-positive}
 use Rattle.ieee.specs.OrderLaws.{nonneg, le→nonneg, lt→le, not-eq-of-lt}
 use Rattle.ieee.specs.Single.{_⊕_, _⊗_, _⊘_, zerof}
 use Rattle.words.specs.Answers.{Answer, given, refused, _then_}
-use Rattle.light_bounds.specs.Bounds.{boxCheck, boxUnion, leastOf, greatestOf, inverted}
+use Rattle.light_bounds.specs.Bounds.{boxCheck, finiteBox, boxUnion, leastOf, greatestOf, inverted}
 use Rattle.light_bounds.specs.Cones.{unionDirectionCones}
-use Rattle.light_bounds.specs.Importance.{Seen, dark, lit, facing, finish, geometry, checkedImportance, importance}
-use Rattle.light_bounds.specs.LightBounds.{validate, coneCheck, join, either}
+use Rattle.light_bounds.specs.Importance.{finiteQuery, Seen, dark, lit, facing, finish, geometry, checkedImportance, importance}
+use Rattle.light_bounds.specs.LightBounds.{lightBounds, validate, coneCheck, join, either}
 use Rattle.light_bounds.specs.Vecmath.{finiteVec}
 use Rattle.light_bounds.specs.declared.bounds.Bounds3.{Bounds3}
 use Rattle.light_bounds.specs.declared.light_bounds.LightBounds.{LightBounds}
@@ -42,7 +42,7 @@ finish-nonneg phi (facing p d2 i) = fmax-nonneg (phi ⊗ p ⊘ d2 ⊗ i)
 
 good : (r : LightBounds) (q : Query) → Good (importance r q)
 unfolding importance checkedImportance
-good r q = then-good (validate r) (λ _. checkedImportance r q) (λ _. go (finiteVec (q .p) && finiteVec (q .n)))
+good r q = then-good (validate r) (λ _. checkedImportance r q) (λ _. go (finiteQuery q))
   where
     go : (b : Bool) → Good (cond b (geometry r q then λ (s : Seen). given (finish (r .phi) s)) (refused 5))
     go true = then-good (geometry r q) (λ (s : Seen). given (finish (r .phi) s)) (finish-nonneg (r .phi))
@@ -57,14 +57,8 @@ importance-nonneg r q x e = subst Good e (good r q)
 abbrev made : LightBounds → LightBounds → LightBounds
 made a b =
     let c = unionDirectionCones (a .direction) (a .«cos_theta_o») (b .direction) (b .«cos_theta_o») in
-    record {
-      bounds = boxUnion (a .bounds) (b .bounds);
-      direction = c .direction;
-      phi = a .phi ⊕ b .phi;
-      «cos_theta_o» = c .«cos_theta»;
-      «cos_theta_e» = fmin (a .«cos_theta_e») (b .«cos_theta_e»);
-      «two_sided» = either (a .«two_sided») (b .«two_sided»);
-    }
+    lightBounds (boxUnion (a .bounds) (b .bounds)) (c .direction) (a .phi ⊕ b .phi) (c .«cos_theta») (fmin (a .«cos_theta_e») (b .«cos_theta_e»))
+    (either (a .«two_sided») (b .«two_sided»))
 
 join-made : (a b : LightBounds) → T (lt zerof (a .phi)) → T (lt zerof (b .phi)) → join a b ≡ made a b
 unfolding join
@@ -111,9 +105,9 @@ Fails (given u) = ⊥
 Fails (refused n) = Unit {0}
 
 -- a checked record's box is finite
-checked : (r : LightBounds) → validate r ≡ given tt → T (finiteVec (r .bounds .min) && finiteVec (r .bounds .max))
+checked : (r : LightBounds) → validate r ≡ given tt → T (finiteBox (r .bounds))
 unfolding validate boxCheck _then_
-checked r e = go (finiteVec (r .bounds .min) && finiteVec (r .bounds .max)) (cond (inverted (r .bounds)) (refused 6) (given tt)) e
+checked r e = go (finiteBox (r .bounds)) (cond (inverted (r .bounds)) (refused 6) (given tt)) e
   where
     go : (c : Bool) (v : Answer (Unit {0})) → (cond c v (refused 5) then λ _. coneCheck r) ≡ given tt → T c
     go true v e = tt

@@ -1,4 +1,4 @@
--- Cones of directions, as the helpers of `light_bounds.rs` have them. Assumes nothing.
+-- Cones of directions, as the helpers of `light_bounds.rs` have them. Definitions only. Assumes nothing.
 use mathlib.Core.Bool.{cond, _||_}
 use lib.Ieee.{Float, binary32, lt, le, eq}
 use Rattle.ieee.specs.Choose.{fmin, fmax, clamp}

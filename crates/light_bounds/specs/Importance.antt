@@ -1,6 +1,6 @@
 -- The importance of a record for a point and a normal, step by step as `importance` of `light_bounds.rs` has it. The power enters in the last step alone (`finish`).
--- Assumes nothing.
-use mathlib.Core.Bool.{cond, _&&_}
+-- Definitions only. Assumes nothing.
+use mathlib.Core.Bool.{Bool, cond, _&&_}
 use lib.Ieee.{Float, le, eq}
 use Rattle.ieee.specs.Choose.{fmax, fabs}
 use Rattle.ieee.specs.Single.{_⊖_, _⊗_, _⊘_, zerof, half, onef}
@@ -76,9 +76,12 @@ finish phi (facing p d2 i) = fmax (phi ⊗ p ⊘ d2 ⊗ i) zerof
 abbrev pub finishView : Float → Answer Seen → Answer Float
 finishView phi v = v then λ (s : Seen). given (finish phi s)
 
+abbrev pub finiteQuery : Query → Bool
+finiteQuery q = finiteVec (q .p) && finiteVec (q .n)
+
 -- of a record that passed its check
 unfoldable pub checkedImportance : LightBounds → Query → Answer Float
-checkedImportance r q = cond (finiteVec (q .p) && finiteVec (q .n)) (finishView (r .phi) (geometry r q)) (refused 5)
+checkedImportance r q = cond (finiteQuery q) (finishView (r .phi) (geometry r q)) (refused 5)
 
 unfoldable pub importance : LightBounds → Query → Answer Float
 importance r q = validate r then λ _. checkedImportance r q

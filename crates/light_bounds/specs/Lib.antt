@@ -1,9 +1,8 @@
-pub mod Vectors
-pub mod Boxes
+pub mod Vecmath
+pub mod Bounds
 pub mod Cones
-pub mod Records
+pub mod LightBounds
 pub mod Importance
 pub mod RecordWords
 pub mod RecordLaws
 pub mod BoundsLaws
-pub mod LateLaws

@@ -24,15 +24,21 @@ lightBounds bounds direction phi cosO cosE side =
 unfoldable pub isCosine : Float → Bool
 isCosine x = le minusOne x && le x onef
 
+abbrev pub areCosines : Float → Float → Bool
+areCosines x y = isCosine x && isCosine y
+
 -- 7, then 8
 unfoldable pub rangeCheck : LightBounds → Answer (Unit {0})
 rangeCheck r =
     cond (eq (dot (r .direction) (r .direction)) zerof) (refused 7)
-    (cond (lt (r .phi) zerof || not (isCosine (r .«cos_theta_o») && isCosine (r .«cos_theta_e»))) (refused 8) (given tt))
+    (cond (lt (r .phi) zerof || not (areCosines (r .«cos_theta_o») (r .«cos_theta_e»))) (refused 8) (given tt))
+
+abbrev pub finiteCone : LightBounds → Bool
+finiteCone r = finiteVec (r .direction) && (finite (r .phi) && (finite (r .«cos_theta_o») && finite (r .«cos_theta_e»)))
 
 -- 5 of what is not the box
 unfoldable pub coneCheck : LightBounds → Answer (Unit {0})
-coneCheck r = cond (finiteVec (r .direction) && (finite (r .phi) && (finite (r .«cos_theta_o») && finite (r .«cos_theta_e»)))) (rangeCheck r) (refused 5)
+coneCheck r = cond (finiteCone r) (rangeCheck r) (refused 5)
 
 unfoldable pub validate : LightBounds → Answer (Unit {0})
 validate r = boxCheck (r .bounds) then λ _. coneCheck r

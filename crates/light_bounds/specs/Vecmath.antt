@@ -1,4 +1,4 @@
--- Vectors, step by step as `light_bounds.rs` and `sampling.rs` have them; every operation is f32 and rounded once. Assumes nothing.
+-- Vectors, step by step as `light_bounds.rs` and `sampling.rs` have them; every operation is f32 and rounded once. Definitions only. Assumes nothing.
 use mathlib.Core.Bool.{Bool, cond, not, _&&_, _||_}
 use lib.Ieee.{Float, binary32, eq, lt}
 use lib.Ieee.Scale.{finite}
@@ -35,9 +35,12 @@ scaled v k = vec (v .x ⊗ k) (v .y ⊗ k) (v .z ⊗ k)
 unfoldable pub vecLength : Vec3 → Float
 vecLength v = sqrt binary32 (dot v v)
 
--- "a vecLength to divide by is 0 or not finite" is refusal 7
+-- whether a length can be divided by: "a length to divide by is 0 or not finite" is refusal 7
+abbrev pub dividing : Float → Bool
+dividing l = finite l && not (eq l zerof)
+
 unfoldable pub normalize : Vec3 → Answer Vec3
-normalize v = cond (not (finite (vecLength v)) || eq (vecLength v) zerof) (refused 7) (given (scaled v (onef ⊘ vecLength v)))
+normalize v = cond (dividing (vecLength v)) (given (scaled v (onef ⊘ vecLength v))) (refused 7)
 
 abbrev pub normalized : Direction → Answer Vec3
 normalized (Unit v) = given v

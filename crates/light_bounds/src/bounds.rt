@@ -1,6 +1,6 @@
 // Boxes (specs/Boxes.antt).
 ghost use mathlib.Core.Path.{_≡_};
-ghost use Rattle.light_bounds.specs.Bounds.{boxCheck, boxUnion, diagonal as diagonalOf, centroid as centroidOf, surfaceArea, leastOf, greatestOf, validity};
+ghost use Rattle.light_bounds.specs.Bounds.{boxCheck, finiteBox, inverted, boxUnion, diagonal as diagonalOf, centroid as centroidOf, surfaceArea, leastOf, greatestOf, validity};
 use super::vecmath::Vec3;
 use super::vecmath::is_finite_vec;
 use floats::choose::max;
@@ -22,22 +22,26 @@ pub enum Validity {
 pub fn check(b: Bounds3) -> Validity
     ensures { λ r. ⌜ validity r ≡ boxCheck b ⌝ }
 {
-    if !is_finite_vec(b.min) {
+    if !is_finite_box(b) {
         return Validity::Refused(Refusal::NotFinite);
     }
-    if !is_finite_vec(b.max) {
-        return Validity::Refused(Refusal::NotFinite);
-    }
-    if b.min.x > b.max.x {
-        return Validity::Refused(Refusal::Inverted);
-    }
-    if b.min.y > b.max.y {
-        return Validity::Refused(Refusal::Inverted);
-    }
-    if b.min.z > b.max.z {
+    if is_inverted(b) {
         return Validity::Refused(Refusal::Inverted);
     }
     Validity::Valid
+}
+
+fn is_finite_box(b: Bounds3) -> bool
+    ensures { λ r. ⌜ r ≡ finiteBox b ⌝ }
+{
+    is_finite_vec(b.min) && is_finite_vec(b.max)
+}
+
+// Whether some min is above its max.
+fn is_inverted(b: Bounds3) -> bool
+    ensures { λ r. ⌜ r ≡ inverted b ⌝ }
+{
+    b.min.x > b.max.x || (b.min.y > b.max.y || b.min.z > b.max.z)
 }
 
 // The box around both, axis by axis.

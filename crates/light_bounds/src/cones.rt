@@ -2,16 +2,14 @@
 ghost use mathlib.Core.Path.{_≡_};
 ghost use Rattle.light_bounds.specs.Bounds.{diagonal as diagonalOf};
 ghost use Rattle.light_bounds.specs.Vecmath.{vecLength, normalized};
-ghost use Rattle.light_bounds.specs.Cones.{cosSubClamped, sinSubClamped, safeSqrt, boundSubtendedDirections, unionDirectionCones, axisOr, joined, wholeSphere};
+ghost use Rattle.light_bounds.specs.Cones.{safeSqrt, boundSubtendedDirections, unionDirectionCones, axisOr, joined, wholeSphere};
 use super::bounds::Bounds3;
 use super::bounds::centroid;
-use super::bounds::diagonal;
 use super::vecmath::Direction;
 use super::vecmath::Vec3;
 use super::vecmath::angle_between;
 use super::vecmath::cross;
 use super::vecmath::dot;
-use super::vecmath::length;
 use super::vecmath::normalize;
 use super::vecmath::rotate;
 use super::vecmath::sub;
@@ -34,36 +32,7 @@ pub fn safe_sqrt(value: f32) -> f32
     root(max(value, 0.0))
 }
 
-// The cosine of a - b, and of 0 where a is the smaller angle.
-pub fn cos_sub_clamped(sin_a: f32, cos_a: f32, sin_b: f32, cos_b: f32) -> f32
-    ensures { λ r. ⌜ r ≡ cosSubClamped «sin_a» «cos_a» «sin_b» «cos_b» ⌝ }
-{
-    if cos_a > cos_b {
-        1.0
-    } else {
-        cos_a * cos_b + sin_a * sin_b
-    }
-}
-
-// The sine likewise.
-pub fn sin_sub_clamped(sin_a: f32, cos_a: f32, sin_b: f32, cos_b: f32) -> f32
-    ensures { λ r. ⌜ r ≡ sinSubClamped «sin_a» «cos_a» «sin_b» «cos_b» ⌝ }
-{
-    if cos_a > cos_b {
-        0.0
-    } else {
-        sin_a * cos_b - cos_a * sin_b
-    }
-}
-
-// The cosine of the angle under which a box is seen from p, -1 inside its ball.
-pub fn bound_subtended_directions(bounds: Bounds3, p: Vec3) -> f32
-    ensures { λ r. ⌜ r ≡ boundSubtendedDirections bounds p ⌝ }
-{
-    subtended(bounds, p, length(diagonal(bounds)))
-}
-
-// The same where the diagonal's length is at hand.
+// The cosine of the angle under which a box is seen from p, -1 inside its ball; the diagonal's length is at hand.
 pub(crate) fn subtended(bounds: Bounds3, p: Vec3, diagonal_length: f32) -> f32
     requires { ⌜ «diagonal_length» ≡ vecLength (diagonalOf bounds) ⌝ }
     ensures { λ r. ⌜ r ≡ boundSubtendedDirections bounds p ⌝ }

@@ -1,7 +1,7 @@
 // The importance of a record for a point and a normal (specs/Importance.antt), as pbrt-r4's LightBounds has it.
 ghost use mathlib.Core.Path.{_≡_};
 ghost use Rattle.light_bounds.specs.Cones.{cosSubClamped};
-ghost use Rattle.light_bounds.specs.Importance.{importance as importanceOf, weigh as weighOf, checkedImportance, weight, viewed, finishView, geometry as geometryOf, toward as towardOf, diagonalLength, withNormal, normalFactor, cosP, cosW, sine as sineOf};
+ghost use Rattle.light_bounds.specs.Importance.{importance as importanceOf, weigh as weighOf, checkedImportance, finiteQuery, weight, viewed, finishView, geometry as geometryOf, toward as towardOf, diagonalLength, withNormal, normalFactor, cosP, cosW, sine as sineOf};
 use super::bounds::Validity;
 use super::bounds::centroid;
 use super::bounds::diagonal;
@@ -54,10 +54,16 @@ pub fn weigh(record: LightBounds, query: Query) -> Weight
 fn finite_importance(record: LightBounds, query: Query) -> Weight
     ensures { λ r. ⌜ weight r ≡ checkedImportance «record» query ⌝ }
 {
-    if is_finite_vec(query.p) && is_finite_vec(query.n) {
+    if is_finite_query(query) {
         return finished(record.phi, geometry(record, query));
     }
     Weight::Refused(Refusal::NotFinite)
+}
+
+fn is_finite_query(query: Query) -> bool
+    ensures { λ r. ⌜ r ≡ finiteQuery query ⌝ }
+{
+    is_finite_vec(query.p) && is_finite_vec(query.n)
 }
 
 // How a query sees a record: `Dark` weighs nothing; `Lit` has a cosine and a squared distance, `Facing` the normal's factor too.

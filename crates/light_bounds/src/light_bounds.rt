@@ -1,7 +1,7 @@
 // Bounds records (specs/LightBounds.antt): the check and the union of pbrt-r4's LightBounds, refusals in its order.
 ghost use mathlib.Core.Path.{_≡_};
 ghost use Rattle.light_bounds.specs.Bounds.{validity};
-ghost use Rattle.light_bounds.specs.LightBounds.{lightBounds, validate as validateOf, coneCheck, rangeCheck, isCosine, union as unionOf, bounded, join as joinOf, either as eitherOf};
+ghost use Rattle.light_bounds.specs.LightBounds.{lightBounds, validate as validateOf, coneCheck, finiteCone, rangeCheck, isCosine, areCosines, union as unionOf, bounded, join as joinOf, either as eitherOf};
 use super::bounds::Bounds3;
 use super::bounds::Validity;
 use super::bounds::check;
@@ -66,14 +66,19 @@ pub fn validate(record: LightBounds) -> Validity
 fn validate_cone(record: LightBounds) -> Validity
     ensures { λ r. ⌜ validity r ≡ coneCheck «record» ⌝ }
 {
-    if is_finite_vec(record.direction)
-        && is_finite(record.phi)
-        && is_finite(record.cos_theta_o)
-        && is_finite(record.cos_theta_e)
-    {
+    if is_finite_cone(record) {
         return validate_range(record);
     }
     Validity::Refused(Refusal::NotFinite)
+}
+
+// Whether every value that is not the box's is finite.
+fn is_finite_cone(record: LightBounds) -> bool
+    ensures { λ r. ⌜ r ≡ finiteCone «record» ⌝ }
+{
+    is_finite_vec(record.direction)
+        && (is_finite(record.phi)
+            && (is_finite(record.cos_theta_o) && is_finite(record.cos_theta_e)))
 }
 
 fn validate_range(record: LightBounds) -> Validity
@@ -82,10 +87,13 @@ fn validate_range(record: LightBounds) -> Validity
     if dot(record.direction, record.direction) == 0.0 {
         return Validity::Refused(Refusal::NoDirection);
     }
-    if record.phi < 0.0 || !is_cosine(record.cos_theta_o) || !is_cosine(record.cos_theta_e) {
+    if record.phi < 0.0 {
         return Validity::Refused(Refusal::OutOfRange);
     }
-    Validity::Valid
+    if are_cosines(record.cos_theta_o, record.cos_theta_e) {
+        return Validity::Valid;
+    }
+    Validity::Refused(Refusal::OutOfRange)
 }
 
 // Whether a cosine lies from -1 to 1.
@@ -93,6 +101,12 @@ pub fn is_cosine(x: f32) -> bool
     ensures { λ r. ⌜ r ≡ isCosine x ⌝ }
 {
     -1.0 <= x && x <= 1.0
+}
+
+pub fn are_cosines(x: f32, y: f32) -> bool
+    ensures { λ r. ⌜ r ≡ areCosines x y ⌝ }
+{
+    is_cosine(x) && is_cosine(y)
 }
 
 // ---- union

@@ -1,7 +1,7 @@
 // Vectors of three f32, by value (specs/Vectors.antt). Sums run left to right, each step rounded once.
 ghost use mathlib.Core.Path.{_≡_};
 ghost use lib.Ieee.Scale.{finite};
-ghost use Rattle.light_bounds.specs.Vecmath.{dot as dotOf, cross as crossOf, plus, minus, scaled, normalized, normalize as normalizeOf, finiteVec, rotate as rotateOf, angleBetween, vecLength};
+ghost use Rattle.light_bounds.specs.Vecmath.{dividing, dot as dotOf, cross as crossOf, plus, minus, scaled, normalized, normalize as normalizeOf, finiteVec, rotate as rotateOf, angleBetween, vecLength};
 use floats::sqrt::sqrt as root;
 use trig::asin;
 use trig::cos;
@@ -17,21 +17,13 @@ pub struct Vec3 {
 pub fn is_finite(x: f32) -> bool
     ensures { λ r. ⌜ r ≡ finite x ⌝ }
 {
-    if x < 1.0 / 0.0 { -1.0 / 0.0 < x } else { false }
+    x < 1.0 / 0.0 && -1.0 / 0.0 < x
 }
 
 pub fn is_finite_vec(v: Vec3) -> bool
     ensures { λ r. ⌜ r ≡ finiteVec v ⌝ }
 {
-    if is_finite(v.x) {
-        if is_finite(v.y) {
-            is_finite(v.z)
-        } else {
-            false
-        }
-    } else {
-        false
-    }
+    is_finite(v.x) && (is_finite(v.y) && is_finite(v.z))
 }
 
 pub fn dot(a: Vec3, b: Vec3) -> f32
@@ -97,13 +89,17 @@ pub fn normalize(v: Vec3) -> Direction
     ensures { λ r. ⌜ normalized r ≡ normalizeOf v ⌝ }
 {
     let l = length(v);
-    if !is_finite(l) {
-        return Direction::Refused(Refusal::NoDirection);
+    if divides(l) {
+        return Direction::Unit(scale_vector(v, 1.0 / l));
     }
-    if l == 0.0 {
-        return Direction::Refused(Refusal::NoDirection);
-    }
-    Direction::Unit(scale_vector(v, 1.0 / l))
+    Direction::Refused(Refusal::NoDirection)
+}
+
+// Whether a length can be divided by: it is finite and not 0.
+pub fn divides(length: f32) -> bool
+    ensures { λ r. ⌜ r ≡ dividing length ⌝ }
+{
+    is_finite(length) && length != 0.0
 }
 
 pub fn rotate(v: Vec3, axis: Vec3, angle: f32) -> Vec3

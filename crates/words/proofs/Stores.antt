@@ -1,5 +1,5 @@
 -- A loop that writes a slice from the front, one store or a run of stores a turn. Assumes nothing.
-use Prim.Native.Nat.{ℕ, _+_, _≤_, _<_, zero-le}
+use Prim.Native.Nat.{ℕ, suc, _+_, _≤_, _<_, zero-le}
 use mathlib.Core.Path.{_≡_, refl, _∙_}
 use mathlib.Core.List.{List, [], _∷_, _++_}
 use native.Mathlib.Omega.{arith}
@@ -34,3 +34,10 @@ copied-run {s} {d} {l} {n} vs c e hs hd =
 pub copied-one : {s d l : List ℕ} {n v : ℕ} → Copied s d n l → v ≡ getD s n 0 → n < length s → n < length d
     → Copied s d (n + 1) (set l n v)
 copied-one {s} {n} {v} c e hs hd = copied-run (v ∷ []) c (rw (e, drop-cons s n 0)) (omega arith) (omega arith)
+
+-- stores one after the other are stores behind each other
+pub sets-append : (l : List ℕ) (i : ℕ) (vs us : List ℕ) → sets l i (vs ++ us) ≡ sets (sets l i vs) (i + length vs) us
+sets-append l i [] us = let e : i + 0 ≡ i = omega arith in rw e
+sets-append l i (v ∷ vs) us =
+    let e : suc i + length vs ≡ i + suc (length vs) = omega arith in
+    sets-append (set l i v) (suc i) vs us ∙ rw e

@@ -9,7 +9,7 @@ use borrow.Author.Needs.{needs}
 use Rattle.light_bounds.proofs.cones.subtended.Statement.{statement}
 use Rattle.light_bounds.proofs.cones.subtended.Tie as tie
 
-size : (c : tie.Start) → length (diagonal (c .args .bounds)) ≡ c .args .diagonal-length
+size : (c : tie.Start) → vecLength (diagonal (c .args .bounds)) ≡ c .args .diagonal-length
 size c = sym (c .pre)
 
 -- the raw squared distance to the centre

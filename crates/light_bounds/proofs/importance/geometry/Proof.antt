@@ -9,12 +9,12 @@ use borrow.Author.Needs.{needs}
 use Rattle.light_bounds.proofs.importance.geometry.Statement.{statement}
 use Rattle.light_bounds.proofs.importance.geometry.Tie as tie
 
--- from the centre to the point, and the diagonal's length
+-- from the centre to the point, and the diagonal's vecLength
 delta : (c : tie.After-sub) → (let s = c .before .before .args in minus (s .query .p) (centroid (s .record .bounds))) ≡ c .sub .result
 delta c = sym (c .sub .ensures ∙ ap (λ (v : Vec3). minus (c .before .before .args .query .p) v) (c .before .centroid .ensures))
 
 size : (c : tie.After-length) → diagonalLength (c .before .before .before .before .args .record) ≡ c .length .result
-size c = sym (c .length .ensures ∙ ap length (c .before .diagonal .ensures))
+size c = sym (c .length .ensures ∙ ap vecLength (c .before .diagonal .ensures))
 
 returns : tie.Need-returns
 unfolding geometry distance2

@@ -1,4 +1,4 @@
--- `light_bounds::light_bounds::is_cosine` meets its contract: its steps are the definition's. Assumes nothing.
+-- `light_bounds::light_bounds::is_cosine` meets its contract: its two ends. Assumes nothing.
 use Rattle.light_bounds.specs.LightBounds.{isCosine}
 use lib.Ieee.{neg, ofBits}
 use Rattle.light_bounds.proofs.light_bounds.is_cosine.Statement.{statement}
@@ -13,5 +13,4 @@ unfolding isCosine neg ofBits
 returns-2 c = rw (c .if1 .left)
 
 pub is-cosine-spec : {M : Type 1} → statement M
-is-cosine-spec =
-    tie.close (tie.spec returns returns-2)
+is-cosine-spec = tie.close (tie.spec returns returns-2)

@@ -1,4 +1,4 @@
--- `light_bounds::light_bounds::validate_range` meets its contract: its steps are the definition's. Assumes nothing.
+-- `light_bounds::light_bounds::validate_range` meets its contract: 7 before 8. Assumes nothing.
 use Rattle.light_bounds.specs.LightBounds.{rangeCheck}
 use borrow.Author.Needs.{needs}
 use Rattle.light_bounds.proofs.light_bounds.validate_range.Statement.{statement}
@@ -14,16 +14,15 @@ returns-2 c = rw (← c .before .before .before .dot .ensures, c .before .before
 
 returns-3 : tie.Need-returns-3
 unfolding rangeCheck
-returns-3 c = rw (← c .before .before .before .before .before .before .before .dot .ensures, c .before .before .before .before .before .before .if1 .left, c .before .before .before .before .if2 .left, ← c .before .before .before .is-cosine .ensures, c .before .before .if3 .taken, ← c .before .is-cosine2 .ensures, c .if4 .taken)
+returns-3 c =
+    rw (← c .before .before .before .before .before .dot .ensures, c .before .before .before .before .if1 .left, c .before .before .if2 .left,
+    ← c .before .are-cosines .ensures, c .if3 .taken)
 
 returns-4 : tie.Need-returns-4
 unfolding rangeCheck
-returns-4 c = rw (← c .before .before .before .before .before .before .before .dot .ensures, c .before .before .before .before .before .before .if1 .left, c .before .before .before .before .if2 .left, ← c .before .before .before .is-cosine .ensures, c .before .before .if3 .taken, ← c .before .is-cosine2 .ensures, c .if4 .left)
-
-returns-5 : tie.Need-returns-5
-unfolding rangeCheck
-returns-5 c = rw (← c .before .before .before .before .before .dot .ensures, c .before .before .before .before .if1 .left, c .before .before .if2 .left, ← c .before .is-cosine .ensures, c .if3 .left)
+returns-4 c =
+    rw (← c .before .before .before .before .before .dot .ensures, c .before .before .before .before .if1 .left, c .before .before .if2 .left,
+    ← c .before .are-cosines .ensures, c .if3 .left)
 
 pub validate-range-spec : {M : Type 1} → statement M
-validate-range-spec =
-    tie.close (tie.spec (λ c κs. search needs) returns returns-2 (λ c κs. search needs) (λ c κs. search needs) returns-3 returns-4 returns-5)
+validate-range-spec = tie.close (tie.spec (λ c κs. search needs) returns returns-2 (λ c κs. search needs) returns-3 returns-4)

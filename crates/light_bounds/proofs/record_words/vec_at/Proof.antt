@@ -1,8 +1,8 @@
--- `light_bounds::record_words::vec_at` meets its contract. Assumes nothing.
+-- `light_bounds::record_words::vec_at` meets its contract: past the end each word is 0, and so is its float. Assumes nothing.
 use mathlib.Core.Path.{sym}
 use denote.Ref.{now}
 use borrow.Author.Needs.{needs}
-use Rattle.light_bounds.specs.RecordLaws.{vecAt-past}
+use Rattle.light_bounds.proofs.RecordPlaces.{vecAt-past}
 use Rattle.light_bounds.specs.RecordWords.{vecAt}
 use Rattle.light_bounds.proofs.record_words.vec_at.Statement.{statement}
 use Rattle.light_bounds.proofs.record_words.vec_at.Tie as tie

@@ -1,23 +1,22 @@
--- `light_bounds::record_words::write_record` meets its contract: its steps are the definition's. Assumes nothing.
-use mathlib.Core.Path.{sym}
-use native.Mathlib.Omega.{arith}
+-- `light_bounds::record_words::write_record` meets its contract: there is room, or nothing is written. Assumes nothing.
+use mathlib.Core.Path.{sym, _∙_}
 use denote.Ref.{now}
-use Rattle.light_bounds.specs.RecordLaws.{writtenAt-past, writtenAt-in}
+use borrow.Author.Tests.{leb-true}
+use Rattle.light_bounds.specs.RecordWords.{writtenAt}
 use borrow.Author.Needs.{needs}
 use Rattle.light_bounds.proofs.record_words.write_record.Statement.{statement}
 use Rattle.light_bounds.proofs.record_words.write_record.Tie as tie
 
+put-record-requires : tie.Need-put-record-requires
+put-record-requires c κs = leb-true _ _ (sym (c .before .before .fits2 .ensures) ∙ c .before .if1 .taken)
+
 returns : tie.Need-returns
-returns c = sym (writtenAt-past (now (c .before .before .args .words)) (c .before .before .args .at) (c .before .before .args .«record») (omega arith))
+unfolding writtenAt
+returns c = rw (← c .before .before .before .before .before .fits2 .ensures, c .before .before .before .before .if1 .taken) (c .before .before .put-record .ensures)
 
 returns-2 : tie.Need-returns-2
-returns-2 c = sym (writtenAt-past (now (c .before .before .before .args .words)) (c .before .before .before .args .at) (c .before .before .before .args .«record») (omega arith))
-
-returns-3 : tie.Need-returns-3
-returns-3 c = rw (writtenAt-in (now (c .before .before .before .before .before .before .before .before .before .before .before .before .before .before .before .before .before .before .before .args .words)) (c .before .before .before .before .before .before .before .before .before .before .before .before .before .before .before .before .before .before .before .args .at) (c .before .before .before .before .before .before .before .before .before .before .before .before .before .before .before .before .before .before .before .args .«record») (omega arith), ← c .before .before .before .before .before .before .before .before .before .before .before .before .before .before .write-vec .ensures, ← c .before .before .before .before .before .before .before .before .before .before .write-vec2 .ensures, ← c .before .before .before .before .before .before .write-vec3 .ensures)
-    (c .before .before .write-rest .ensures)
+unfolding writtenAt
+returns-2 c = rw (← c .before .fits2 .ensures, c .if1 .left)
 
 pub write-record-spec : {M : Type 1} → statement M
-write-record-spec =
-    tie.close (tie.spec returns (λ c. search needs) returns-2 (λ c κs. search needs) (λ c. search needs) (λ c κs. search needs)
-      (λ c. search needs) (λ c κs. search needs) (λ c. search needs) (λ c κs. search needs) (λ c. search needs) returns-3)
+write-record-spec = tie.close (tie.spec (λ c κs. search needs) put-record-requires (λ c. search needs) returns returns-2)

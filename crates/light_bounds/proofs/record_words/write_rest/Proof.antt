@@ -1,14 +1,19 @@
--- `light_bounds::record_words::write_rest` meets its contract: its steps are the definition's. Assumes nothing.
-use Rattle.light_bounds.specs.RecordWords.{putRest}
-use lib.ListN.{length-set}
+-- `light_bounds::record_words::write_rest` meets its contract: its stores are those of `sets`, counted by one. Assumes nothing.
+use Prim.Native.Nat.{ℕ, suc, _+_}
+use mathlib.Core.Path.{_≡_}
+use native.Mathlib.Numerals.{add-one}
 use native.Mathlib.Omega.{arith}
+use lib.ListN.{length-set}
 use borrow.Author.Needs.{needs}
 use Rattle.light_bounds.proofs.record_words.write_rest.Statement.{statement}
 use Rattle.light_bounds.proofs.record_words.write_rest.Tie as tie
 
 returns : tie.Need-returns
-unfolding putRest
-returns c = rw (← c .before .before .before .word-of-f32 .ensures, ← c .before .before .word-of-f322 .ensures, ← c .before .word-of-f323 .ensures, ← c .side-word .ensures)
+returns c =
+    let at = c .before .before .before .before .before .args .at in
+    let e2 : at + 2 ≡ suc (suc at) = omega arith in
+    let e3 : at + 3 ≡ suc (suc (suc at)) = omega arith in
+    rw (e3, e2, add-one at, ← c .before .before .before .word-of-f32 .ensures, ← c .before .before .word-of-f322 .ensures, ← c .before .word-of-f323 .ensures, ← c .side-word .ensures)
 
 pub write-rest-spec : {M : Type 1} → statement M
 write-rest-spec =

@@ -1,14 +1,18 @@
--- `light_bounds::record_words::write_vec` meets its contract: its steps are the definition's. Assumes nothing.
-use Rattle.light_bounds.specs.RecordWords.{putVec}
-use lib.ListN.{length-set}
+-- `light_bounds::record_words::write_vec` meets its contract: its stores are those of `sets`, counted by one. Assumes nothing.
+use Prim.Native.Nat.{ℕ, suc, _+_}
+use mathlib.Core.Path.{_≡_}
+use native.Mathlib.Numerals.{add-one}
 use native.Mathlib.Omega.{arith}
+use lib.ListN.{length-set}
 use borrow.Author.Needs.{needs}
 use Rattle.light_bounds.proofs.record_words.write_vec.Statement.{statement}
 use Rattle.light_bounds.proofs.record_words.write_vec.Tie as tie
 
 returns : tie.Need-returns
-unfolding putVec
-returns c = rw (← c .before .before .word-of-f32 .ensures, ← c .before .word-of-f322 .ensures, ← c .word-of-f323 .ensures)
+returns c =
+    let at = c .before .before .before .before .args .at in
+    let e2 : at + 2 ≡ suc (suc at) = omega arith in
+    rw (e2, add-one at, ← c .before .before .word-of-f32 .ensures, ← c .before .word-of-f322 .ensures, ← c .word-of-f323 .ensures)
 
 pub write-vec-spec : {M : Type 1} → statement M
 write-vec-spec =

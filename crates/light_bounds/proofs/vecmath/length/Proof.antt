@@ -8,7 +8,7 @@ use Rattle.light_bounds.proofs.vecmath.length.Statement.{statement}
 use Rattle.light_bounds.proofs.vecmath.length.Tie as tie
 
 returns : tie.Need-returns
-unfolding length
+unfolding vecLength
 returns c = c .sqrt .ensures ∙ ap (sqrt binary32) (c .before .dot .ensures)
 
 pub length-spec : {M : Type 1} → statement M

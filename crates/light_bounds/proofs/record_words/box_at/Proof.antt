@@ -1,0 +1,20 @@
+-- `light_bounds::record_words::box_at` meets its contract: past the end both corners are 0. Assumes nothing.
+use Prim.Native.Nat.{_+_}
+use native.Mathlib.Omega.{arith}
+use denote.Ref.{now}
+use Rattle.light_bounds.proofs.RecordPlaces.{vecAt-past}
+use borrow.Author.Needs.{needs}
+use Rattle.light_bounds.proofs.record_words.box_at.Statement.{statement}
+use Rattle.light_bounds.proofs.record_words.box_at.Tie as tie
+
+returns : tie.Need-returns
+returns c =
+    let ws = now (c .before .before .before .args .words) in
+    let at = c .before .before .before .args .at in
+    rw (c .before .vec-at .ensures, vecAt-past ws at (c .if1 .taken), vecAt-past ws (at + 3) (omega arith))
+
+returns-2 : tie.Need-returns-2
+returns-2 c = rw (c .before .before .vec-at .ensures, c .vec-at2 .ensures)
+
+pub box-at-spec : {M : Type 1} → statement M
+box-at-spec = tie.close (tie.spec (λ c κs. search needs) returns (λ c. search needs) (λ c κs. search needs) returns-2)

@@ -1,0 +1,19 @@
+-- `light_bounds::record_words::put_record` meets its contract: its four parts stand behind each other. Assumes nothing.
+use mathlib.Core.Path.{_∙_}
+use denote.Ref.{now}
+use Rattle.light_bounds.proofs.RecordPlaces.{put-parts}
+use borrow.Author.Needs.{needs}
+use Rattle.light_bounds.proofs.record_words.put_record.Statement.{statement}
+use Rattle.light_bounds.proofs.record_words.put_record.Tie as tie
+
+returns : tie.Need-returns
+returns c =
+    let args = c .before .before .before .before .before .before .before .before .before .before .before .before .before .before .before .before .before .args in
+    c .before .before .write-rest .ensures
+    ∙ rw (c .before .before .before .before .before .before .write-vec3 .ensures, c .before .before .before .before .before .before .before .before .before .before .write-vec2 .ensures, c .before .before .before .before .before .before .before .before .before .before .before .before .before .before .write-vec .ensures)
+    (put-parts (now (args .words)) (args .at) (args .«record»))
+
+pub put-record-spec : {M : Type 1} → statement M
+put-record-spec =
+    tie.close (tie.spec (λ c κs. search needs) (λ c. search needs) (λ c κs. search needs) (λ c. search needs) (λ c κs. search needs)
+      (λ c. search needs) (λ c κs. search needs) (λ c. search needs) returns)
