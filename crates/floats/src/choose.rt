@@ -1,6 +1,7 @@
-// Functions that choose among their arguments.
+// Functions that choose among their arguments, and the sign of a stored word.
 ghost use mathlib.Core.Path.{_≡_};
-ghost use Rattle.ieee.specs.Choose.{fmin, fmax, clamp as clamped, fabs};
+ghost use Rattle.ieee.specs.Choose.{fmin, fmax, clamp as clamped, fabs, isSignNegative};
+use words::floats::word_of_f32;
 
 // The lesser. A NaN loses to the other value; of equal values the first is given.
 pub fn min(x: f32, y: f32) -> f32
@@ -47,4 +48,11 @@ pub fn abs(x: f32) -> f32
     } else {
         x
     }
+}
+
+// Whether the word that x is stored as has its sign bit; a NaN's has none.
+pub fn is_sign_negative(x: f32) -> bool
+    ensures { λ r. ⌜ r ≡ isSignNegative x ⌝ }
+{
+    word_of_f32(x) >= 0x8000_0000
 }

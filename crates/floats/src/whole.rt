@@ -2,7 +2,7 @@
 // 149 its last 150 - field digits are the fraction.
 ghost use mathlib.Core.Path.{_≡_};
 ghost use lib.Ieee.{binary32, ofBits, toBits};
-ghost use Rattle.ieee.specs.Whole.{nextWhole, floor as floored, ceil as ceiled, roundAway, toU32, toUsize};
+ghost use Rattle.ieee.specs.Whole.{nextWhole, floor as floored, ceil as ceiled, roundAway, toU16, toU32, toUsize};
 use super::shift::power;
 use words::floats::f32_of_word;
 use words::floats::word_of_f32;
@@ -82,37 +82,7 @@ fn round_word(w: u32) -> u32
     sign + (b - b % part)
 }
 
-// x cut to a whole number, 0 below zero and at a NaN, the largest u32 above it.
-pub fn to_u32(x: f32) -> u32
-    ensures { λ r. ⌜ r ≡ toU32 x ⌝ }
-{
-    to_u32_word(word_of_f32(x))
-}
-
-fn to_u32_word(w: u32) -> u32
-    ensures { λ r. ⌜ r ≡ toU32 (ofBits binary32 w) ⌝ }
-{
-    // below 1, or below zero, or a NaN
-    if w < 0x3f80_0000 {
-        return 0;
-    }
-    if w > 0x7f80_0000 {
-        return 0;
-    }
-    // 2^32 and up
-    if w >= 0x4f80_0000 {
-        return 0xffff_ffff;
-    }
-    let m = 0x80_0000 + w % 0x80_0000;
-    let field = w / 0x80_0000;
-    if field < 150 {
-        m >> (150 - field)
-    } else {
-        m << (field - 150)
-    }
-}
-
-// The same for usize.
+// x cut to a whole number: 0 below zero and at a NaN, the largest usize above it.
 pub fn to_usize(x: f32) -> usize
     ensures { λ r. ⌜ r ≡ toUsize x ⌝ }
 {
@@ -122,10 +92,8 @@ pub fn to_usize(x: f32) -> usize
 fn to_usize_word(w: u32) -> usize
     ensures { λ r. ⌜ r ≡ toUsize (ofBits binary32 w) ⌝ }
 {
-    if w < 0x3f80_0000 {
-        return 0;
-    }
-    if w > 0x7f80_0000 {
+    // below 1, or below zero, or a NaN
+    if w < 0x3f80_0000 || w > 0x7f80_0000 {
         return 0;
     }
     // 2^64 and up
@@ -139,4 +107,19 @@ fn to_usize_word(w: u32) -> usize
     } else {
         m << (field - 150)
     }
+}
+
+// The same for u32, and for u16.
+pub fn to_u32(x: f32) -> u32
+    ensures { λ r. ⌜ r ≡ toU32 x ⌝ }
+{
+    let n = to_usize(x);
+    if n > 0xffff_ffff { 0xffff_ffff } else { n as u32 }
+}
+
+pub fn to_u16(x: f32) -> u16
+    ensures { λ r. ⌜ r ≡ toU16 x ⌝ }
+{
+    let n = to_usize(x);
+    if n > 0xffff { 0xffff } else { n as u16 }
 }

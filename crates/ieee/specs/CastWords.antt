@@ -1,9 +1,10 @@
--- The saturating casts of an f32 by its bit pattern, over the integer's width, which is 25 at least. Assumes nothing.
+-- The saturating casts of an f32: by its bit pattern, over the integer's width, which is 25 at least where the word's digits are shifted; and a cast to fewer
+-- bits from one to more. Assumes nothing.
 use Prim.Native.Nat.{ℕ, suc, _+_, _-_, _*_, _/_, _%_, _^_, _≤_, _<_, min, zero-le}
 use mathlib.Core.Path.{_≡_, refl, sym, _∙_, ap, subst}
 use mathlib.Core.Bool.{Bool, true, false, true≢false}
 use mathlib.Core.Logic.{_⊎_, inl, inr}
-use native.Mathlib.Nat.{mul-assoc, mul-comm, mod-eq-of-lt, eq-or-lt-of-le, div-eq-of-lt, lt-of-lt-of-le, lt-of-le-of-lt, le-trans, le-of-eq, lt-of-not-le, mul-div-mul-right, mul-div-cancel, div-le-self, le-div-iff-mul-le, min-eq-left, min-eq-right, mul-lt-mul-of-pos-right, mul-le-mul-left, sub-le}
+use native.Mathlib.Nat.{mul-assoc, mul-comm, mod-eq-of-lt, eq-or-lt-of-le, div-eq-of-lt, lt-of-lt-of-le, lt-of-le-of-lt, le-trans, le-of-eq, le-of-lt, lt-of-not-le, mul-div-mul-right, mul-div-cancel, div-le-self, le-div-iff-mul-le, zero-min, min-eq-left, min-eq-right, mul-lt-mul-of-pos-right, mul-le-mul-left, sub-le}
 use native.Mathlib.Omega.{arith}
 use native.Mathlib.Decide.{decLe}
 use lib.Dec.{leb, lit<, lit≤}
@@ -109,3 +110,23 @@ module _ (w : ℕ) where
       let few : m * 2 ^ (x - 150) < 2 ^ k = lt-of-lt-of-le (mul-lt-mul-of-pos-right m-lt (pow-pos (x - 150))) (le-trans (mul-le-mul-left (2 ^ 24) (pow-mono j)) (le-of-eq (sym (pow-add 2 24 (k - 24)) ∙ ap (λ (z : ℕ). 2 ^ z) e))) in
       mod-eq-of-lt few
       ∙ sym (toUnsigned-units k (ofBits binary32 w) (magnitude binary32 w) (2 ^ 149) (pow-pos 149) (value below) ∙ ap (λ (z : ℕ). min z (2 ^ k - 1)) q ∙ min-eq-left (le-ones k few))
+
+-- ---- a cast to k bits from the number n that a cast to more bits, j, gives
+
+fewer-bits : (k j : ℕ) → k ≤ j → (x : Float) → toUnsigned k x ≡ min (toUnsigned j x) (2 ^ k - 1)
+unfolding toUnsigned
+fewer-bits k j h nan = sym (zero-min (2 ^ k - 1))
+fewer-bits k j h (inf true) = sym (zero-min (2 ^ k - 1))
+fewer-bits k j h (inf false) = omega (arith, pow-mono h)
+fewer-bits k j h (fin true m e) = sym (zero-min (2 ^ k - 1))
+fewer-bits k j h (fin false m e) = omega (arith, pow-mono h)
+
+module _ (k j : ℕ) (h : k ≤ j) (x : Float) (n : ℕ) (e : n ≡ toUnsigned j x) where
+  at-most : min n (2 ^ k - 1) ≡ toUnsigned k x
+  at-most = ap (λ (z : ℕ). min z (2 ^ k - 1)) e ∙ sym (fewer-bits k j h x)
+
+  pub cast-most : 2 ^ k - 1 < n → 2 ^ k - 1 ≡ toUnsigned k x
+  cast-most l = sym (min-eq-right (le-of-lt l)) ∙ at-most
+
+  pub cast-kept : n ≤ 2 ^ k - 1 → n ≡ toUnsigned k x
+  cast-kept l = sym (min-eq-left l) ∙ at-most

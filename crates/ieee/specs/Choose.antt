@@ -1,6 +1,9 @@
--- Document 01's functions that choose among their arguments: min, max, clamp, abs. Assumes nothing.
-use mathlib.Core.Bool.{cond, false}
-use lib.Ieee.{Float, nan, inf, fin, lt, isNan}
+-- Document 01's functions that choose among their arguments, min, max, clamp, abs, and the sign of the word that a float is stored as.
+-- Definitions only. Assumes nothing.
+use Prim.Native.Nat.{_^_}
+use mathlib.Core.Bool.{Bool, cond, false}
+use lib.Dec.{leb}
+use lib.Ieee.{Float, nan, inf, fin, binary32, lt, isNan, toBits}
 
 -- "min, max: NaN loses to the other value; equal values give the first." A NaN y is neither below nor above x, so x is given.
 unfoldable pub fmin : Float → Float → Float
@@ -18,3 +21,8 @@ unfoldable pub fabs : Float → Float
 fabs nan = nan
 fabs (inf s) = inf false
 fabs (fin s m e) = fin false m e
+
+-- whether bit 31 of the stored word is set; a NaN is stored as 7fc00000
+unfoldable pub isSignNegative : Float → Bool
+unfolding toBits
+isSignNegative x = leb (2 ^ 31) (toBits binary32 x)

@@ -7,11 +7,14 @@ use native.Mathlib.Nat.{mul-one, zero-mul, mul-pos, eq-zero-or-pos, lt-irrefl}
 use native.Mathlib.Omega.{arith}
 use lib.Dec.{T, eqb, eqb→eq}
 use lib.IntN.{ℤ, pos}
-use lib.Ieee.{Format, Float, nan, inf, fin, lt, eq, ne, neg, isNan, fits, up, down}
+use lib.Ieee.{Format, binary32, Float, nan, inf, fin, lt, eq, ne, neg, isNan, fits, up, down, ofBits, toBits}
 use lib.Ieee.Back.{whole-unique}
+use lib.Ieee.Bits.{ofBits-toBits}
 use lib.Ieee.Fits.{up-pos, and-l}
 use borrow.Author.Tests.{ltb-true, ltb-false, eq-eqb}
-use Rattle.ieee.specs.Choose.{fabs}
+use Rattle.ieee.specs.Choose.{fabs, isSignNegative}
+use Rattle.ieee.specs.Whole.{negative}
+use Rattle.ieee.specs.WholeLaws.{signed-word}
 
 -- only a NaN differs from itself
 pub nan-test : (x : Float) → isNan x ≡ ne x x
@@ -59,3 +62,14 @@ abs-other (fin true m e) h k =
     let z : m * up e * 1 ≡ 0 * 1 * down e = omega (arith, ltb-false 0 (m * up e * 1 + 0 * 1 * down e) h, at-zero m e) in
     let o : m * up e * 1 ≡ 0 = z ∙ at-zero m e in
     absurd (subst T (rw (eq-eqb (m * up e * 1) (0 * 1 * down e) z, eq-eqb (m * up e * 1) 0 o) at k) tt)
+
+-- ---- the sign of the stored word is the value's; a NaN has none
+
+pub sign-is : (x : Float) → T (fits binary32 x) → isSignNegative x ≡ negative x
+unfolding isSignNegative toBits
+sign-is x h =
+    let back : ofBits binary32 (toBits binary32 x) ≡ x = ofBits-toBits binary32 x h in
+    elim (signed-word binary32 (toBits binary32 x)) [
+      | inl e ↦ subst (λ (y : Float). isSignNegative y ≡ negative y) (sym e ∙ back) refl
+      | inr e ↦ sym e ∙ ap negative back
+    ]

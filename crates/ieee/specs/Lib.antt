@@ -14,6 +14,7 @@ pub mod Patterns
 pub mod NarrowLaws
 pub mod Rounding
 pub mod NearestLaws
+pub mod FormatLaws
 pub mod SqrtNearest
 pub mod WholeNumbers
 pub mod OrderLaws

@@ -1,25 +1,23 @@
 -- How sums, differences, products and quotients keep the order of floats, over the format but for the last lemma. Assumes nothing.
-use Prim.Native.Nat.{ℕ, zero, suc, _+_, _-_, _*_, _/_, _%_, _^_, _≤_, _<_, compare}
+use Prim.Native.Nat.{ℕ, zero, suc, _+_, _-_, _*_, _/_, _%_, _^_, _≤_, _<_, zero-le, compare}
 use mathlib.Core.Path.{_≡_, refl, sym, _∙_, ap, subst}
 use mathlib.Core.Bool.{Bool, true, false, not, _||_, cond}
 use mathlib.Core.Logic.{_⊎_, inl, inr}
-use native.Mathlib.Nat.{mul-pos, mul-comm, mul-le-mul, mul-sub, mul-one, mul-assoc, eq-zero-or-pos, zero-mul, mul-le-mul-right}
+use native.Mathlib.Nat.{mul-pos, mul-comm, mul-le-mul, mul-sub, mul-one, eq-zero-or-pos, zero-mul, mul-le-mul-right}
 use native.Mathlib.Omega.{arith}
 use lib.Dec.{T, ltb, eqb, eqb→eq, ltb→lt, lt→ltb, nltb→le}
-use lib.IntN.{ℤ, pos, negsuc}
-use lib.Ieee.{Format, binary32, Float, nan, inf, fin, prec, emax, low, unlike, up, down, size, nearest, odd, units, round, sum, add, sub, mul, div, lt, le, fits, isNan, ofBits}
+use lib.IntN.{ℤ, pos}
+use lib.Ieee.{Format, binary32, Float, nan, inf, fin, prec, emax, low, unlike, up, down, size, nearest, odd, units, round, sum, neg, add, sub, mul, div, lt, le, fits, isNan, ofBits}
 use lib.Ieee.Fits.{eq→eqb, up-pos, down-pos, round-is}
 use lib.Ieee.Exact.{HasValue, round-exact}
-use lib.Ieee.Order.{le-of-values, round-mono}
+use lib.Ieee.Order.{round-mono}
 use lib.Ieee.Scale.{finite}
 use lib.Ieee.Positive.{num, den, den-pos, positive}
-use lib.Ieee.Digits.{back}
-use lib.Pow.{pow-pos, pow-add}
-use borrow.Author.Tests.{ne-eqb}
+use lib.Pow.{pow-pos}
+use borrow.Author.Tests.{le-ltb, ne-eqb}
 use Rattle.ieee.specs.Choose.{fabs}
-use Rattle.ieee.specs.NearestLaws.{Held, held, held-units}
-use Rattle.ieee.specs.Patterns.{pow-le-inv}
-use Rattle.ieee.specs.OrderLaws.{gain, le-fin, le-left, le-refl, le-sizes, le-top, le-trans, le→nonneg, loss, lt-of-lt-of-le, lt→le, nonneg, nonneg-known, nonneg-up, or-right}
+use Rattle.ieee.specs.FormatLaws.{fabs-fits, round-self}
+use Rattle.ieee.specs.OrderLaws.{finite-below, gain, le-fin, le-left, le-refl, le-sizes, le-top, le-trans, le→nonneg, loss, lt-of-lt-of-le, lt→le, nonneg, nonneg→le, nonneg-known, nonneg-up, or-right}
 
 -- ---- what an operation gives, up to the sign of a zero
 
@@ -215,19 +213,9 @@ add-nonneg f (fin s m e) (inf true) p q = absurd q
 add-nonneg f (fin s m e) (inf false) p q = tt
 add-nonneg f (fin s m e) (fin t n d) p q = add-rounds f (fin s m e) (fin t n d) p q tt tt .0
 
--- what is at most a finite value is finite
-finite-under : (x y : Float) → T (nonneg x) → T (finite y) → T (le x y) → T (finite x)
-unfolding le
-finite-under nan y p b h = absurd p
-finite-under (inf true) y p b h = absurd p
-finite-under (inf false) nan p b h = absurd b
-finite-under (inf false) (inf t) p b h = absurd b
-finite-under (inf false) (fin t n d) p b h = absurd h
-finite-under (fin s m e) y p b h = tt
-
 -- the difference, for a y up to x
 pub sub-nonneg : (f : Format) (x y : Float) → T (nonneg y) → T (finite x) → T (le y x) → T (nonneg (sub f x y))
-sub-nonneg f x y q a l = sub-rounds f x y (nonneg-up y x q l) q a (finite-under y x q a l) l .0
+sub-nonneg f x y q a l = sub-rounds f x y (nonneg-up y x q l) q a (finite-below y x q l a) l .0
 
 inf-or-nan : (b t : Bool) → T (not t || b) → (cond b nan (inf t) ≡ nan) ⊎ T (nonneg (cond b nan (inf t)))
 inf-or-nan true t h = inl refl
@@ -274,8 +262,8 @@ module _ (f : Format) (u v w z : Float) (p : T (nonneg u)) (q : T (nonneg w)) (h
 
   add-finite : T (finite v) → T (finite z) → T (le (add f u w) (add f v z))
   add-finite a b =
-      let c = finite-under u v p a h in
-      let d = finite-under w z q b k in
+      let c = finite-below u v p h a in
+      let d = finite-below w z q k b in
       let x : num u * den v ≤ num v * den u = cross u v p nonneg-v c a h in
       let y : num w * den z ≤ num z * den w = cross w z q nonneg-z d b k in
       let x' : num u * den v * (den w * den z) ≤ num v * den u * (den w * den z) = mul-le-mul-right (den w * den z) x in
@@ -285,8 +273,8 @@ module _ (f : Format) (u v w z : Float) (p : T (nonneg u)) (q : T (nonneg w)) (h
 
   mul-finite : T (finite v) → T (finite z) → T (le (mul f u w) (mul f v z))
   mul-finite a b =
-      let c = finite-under u v p a h in
-      let d = finite-under w z q b k in
+      let c = finite-below u v p h a in
+      let d = finite-below w z q k b in
       le-rounds f (mul f u w) (mul f v z) (num u * num w) (den u * den w) (num v * num z) (den v * den z)
       (mul-pos (den-pos u) (den-pos w)) (mul-pos (den-pos v) (den-pos z)) (mul-rounds f u w p q c d) (mul-rounds f v z nonneg-v nonneg-z a b)
       (omega (arith, mul-le-mul (cross u v p nonneg-v c a h) (cross w z q nonneg-z d b k)))
@@ -363,7 +351,7 @@ mul-mono f u v w z p q h k i j = go (split v (nonneg-up u v p h)) (split z (nonn
 -- u / s grows with u
 pub div-mono : (f : Format) (u v s : Float) → T (nonneg u) → T (finite v) → T (finite s) → T (lt (fin false 0 (pos 0)) s) → T (le u v) → T (le (div f u s) (div f v s))
 div-mono f u v s p a b l h =
-    let c = finite-under u v p a h in
+    let c = finite-below u v p h a in
     let q = nonneg-up u v p h in
     let g : T (positive s) = lt→positive s b l in
     let S : 0 < num s = num-above s g in
@@ -391,8 +379,8 @@ pub sub-mono : (f : Format) (u v s : Float) → T (nonneg s) → T (finite v) �
 sub-mono f u v s p a l h =
     let q = nonneg-up s u p l in
     let r = nonneg-up u v q h in
-    let b = finite-under u v q a h in
-    let c = finite-under s u p b l in
+    let b = finite-below u v q h a in
+    let c = finite-below s u p l b in
     let x : num u * den v * (den s * den s) ≤ num v * den u * (den s * den s) = mul-le-mul-right (den s * den s) (cross u v q r b a h) in
     le-rounds f (sub f u s) (sub f v s) (num u * den s - num s * den u) (den u * den s) (num v * den s - num s * den v) (den v * den s) (mul-pos (den-pos u) (den-pos s)) (mul-pos (den-pos v) (den-pos s))
     (sub-rounds f u s q p b c l) (sub-rounds f v s r p a c (le-trans s u v l h))
@@ -404,8 +392,8 @@ pub sub-anti : (f : Format) (x s t : Float) → T (nonneg s) → T (finite x) �
 sub-anti f x s t p a h l =
     let q = nonneg-up s t p h in
     let r = nonneg-up t x q l in
-    let b = finite-under t x q a l in
-    let c = finite-under s t p b h in
+    let b = finite-below t x q l a in
+    let c = finite-below s t p h b in
     let y : num s * den t * (den x * den x) ≤ num t * den s * (den x * den x) = mul-le-mul-right (den x * den x) (cross s t p q c b h) in
     le-rounds f (sub f x t) (sub f x s) (num x * den t - num t * den x) (den x * den t) (num x * den s - num s * den x) (den x * den s) (mul-pos (den-pos x) (den-pos t)) (mul-pos (den-pos x) (den-pos s))
     (sub-rounds f x t r q a b l) (sub-rounds f x s r p a c (le-trans s t x h l))
@@ -414,29 +402,15 @@ sub-anti f x s t p a h l =
 
 -- ---- a sum is at least each of its terms
 
--- a value of the format is its own rounding
-self-round : (f : Format) (m : ℕ) (e : ℤ) → Held f m e → HasValue (round f false (m * up e) (down e)) false (m * up e) (down e)
-self-round f m (pos j) H =
-    let v : m * 2 ^ j * 2 ^ low f ≡ m * 2 ^ (j + low f) * 1 = mul-assoc m (2 ^ j) (2 ^ low f) ∙ ap (λ (z : ℕ). m * z) (sym (pow-add 2 j (low f))) ∙ sym (mul-one (m * 2 ^ (j + low f))) in
-    round-exact f false (m * 2 ^ j) 1 m (j + low f) (down-pos (pos j)) (H .digits) (held-units f m (pos j) (m * 2 ^ (j + low f)) H v) v
-self-round f m (negsuc j) H =
-    let i = low f - suc j in
-    let l : 2 ^ low f ≡ 2 ^ i * 2 ^ suc j = ap (λ (z : ℕ). 2 ^ z) (sym (back (low f) (suc j) (pow-le-inv (suc j) (low f) (H .places)))) ∙ pow-add 2 i (suc j) in
-    let v : m * 1 * 2 ^ low f ≡ m * 2 ^ i * 2 ^ suc j = ap (λ (z : ℕ). z * 2 ^ low f) (mul-one m) ∙ ap (λ (z : ℕ). m * z) l ∙ sym (mul-assoc m (2 ^ i) (2 ^ suc j)) in
-    round-exact f false (m * 1) (2 ^ suc j) m i (down-pos (negsuc j)) (H .digits) (held-units f m (negsuc j) (m * 2 ^ i) H v) v
+-- a value of the format rounds its own fraction, so what rounds one that is at least x is at least x
+own-rounds : (f : Format) (x : Float) → T (fits f x) → T (nonneg x) → T (finite x) → Rounds f x (num x) (den x)
+unfolding fabs
+own-rounds f nan F p c = absurd c
+own-rounds f (inf s) F p c = absurd c
+own-rounds f (fin s m e) F p c = (p, sym (round-self f false m e (fabs-fits f (fin s m e) F)))
 
--- so what rounds a fraction that is at least x is at least x
 le-rounded : (f : Format) (x y : Float) (a b : ℕ) → T (fits f x) → T (nonneg x) → T (finite x) → 0 < b → Rounds f y a b → num x * b ≤ a * den x → T (le x y)
-le-rounded f nan y a b F p c B r h = absurd c
-le-rounded f (inf s) y a b F p c B r h = absurd c
-le-rounded f (fin s m e) y a b F p c B r h =
-    let x = fin s m e in
-    let o = round f false (m * up e) (down e) in
-    let P = down-pos e in
-    le-trans x (fin false m e) y (unfold fabs in abs-le x p .0)
-    (le-trans (fin false m e) o y (le-of-values (fin false m e) o (m * up e) (down e) (m * up e) (down e) P P (refl, refl) (self-round f m e (held f s m e F)) (omega arith))
-    (le-trans o (round f false a b) y (round-mono f (m * up e) (down e) a b P B h)
-    (subst (λ (z : Float). T (le z y)) (r .1) (abs-le y (r .0) .1))))
+le-rounded f x y a b F p c B r h = le-rounds f x y (num x) (den x) a b (den-pos x) B (own-rounds f x F p c) r h
 
 pub add-left-le : (f : Format) (x y : Float) → T (fits f x) → T (nonneg x) → T (nonneg y) → T (le x (add f x y))
 add-left-le f x y F p q = go (split x p) (split y q)
@@ -472,3 +446,26 @@ below-one s p h =
     let c = ofBits binary32 0x3f7f_fffe in
     let o = ofBits binary32 0x3f80_0000 in
     lt-of-lt-of-le (fin false 0 (pos 0)) (sub binary32 o c) (sub binary32 o s) (unfold lt sub in tt) (sub-anti binary32 o s c p tt h (unfold le in tt))
+
+-- ---- a difference is at most what is taken from
+
+sum-zero : (f : Format) (s : Bool) (a c : ℕ) → sum f s a true 0 c ≡ round f s a c
+unfolding sum
+sum-zero f true a c = rw (native.Mathlib.Nat.add-zero a)
+sum-zero f false a c = rw (le-ltb a 0 zero-le, native.Mathlib.Nat.sub-zero a)
+
+-- over any value of the format, -0, the infinities and NaN included
+pub sub-zero : (f : Format) (u : Float) → T (fits f u) → sub f u (fin false 0 (pos 0)) ≡ u
+unfolding sub add neg
+sub-zero f nan F = refl
+sub-zero f (inf s) F = refl
+sub-zero f (fin s m e) F =
+    ap (λ (z : ℕ). sum f s (m * up e * 1) true z (down e * 1)) (zero-mul (down e))
+    ∙ sum-zero f s (m * up e * 1) (down e * 1)
+    ∙ ap (λ (z : ℕ). round f s z (down e * 1)) (mul-one (m * up e))
+    ∙ ap (λ (z : ℕ). round f s (m * up e) z) (mul-one (down e))
+    ∙ round-self f s m e F
+
+pub sub-le : (f : Format) (u s : Float) → T (fits f u) → T (finite u) → T (nonneg s) → T (le s u) → T (le (sub f u s) u)
+sub-le f u s F a p l =
+    subst (λ (z : Float). T (le (sub f u s) z)) (sub-zero f u F) (sub-anti f u (fin false 0 (pos 0)) s tt a (nonneg→le s p) l)

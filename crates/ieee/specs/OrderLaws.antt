@@ -11,6 +11,7 @@ use lib.Dec.{T, ltb, eqb, eqb→eq, ltb→lt, lt→ltb, T-not, not-T}
 use lib.IntN.{ℤ, pos}
 use lib.Ieee.{Float, nan, inf, fin, up, down, below, level, lt, eq, le, isNan}
 use lib.Ieee.Fits.{eq→eqb, up-pos, down-pos, and-i, and-l, and-r}
+use lib.Ieee.Scale.{finite}
 
 -- ---- the order of finite values, as one of numbers: the sizes a and b count on one side or the other by their signs
 
@@ -247,3 +248,13 @@ nonneg-known x h = le-right (fin false 0 (pos 0)) x (nonneg→le x h)
 -- what is at least a value not below zero is not below zero
 pub nonneg-up : (x y : Float) → T (nonneg x) → T (le x y) → T (nonneg y)
 nonneg-up x y h k = le→nonneg y (le-trans (fin false 0 (pos 0)) x y (nonneg→le x h) k)
+
+-- what is not below zero and at most a finite value is finite
+pub finite-below : (x y : Float) → T (nonneg x) → T (le x y) → T (finite y) → T (finite x)
+unfolding le
+finite-below nan y p h b = absurd p
+finite-below (inf true) y p h b = absurd p
+finite-below (inf false) nan p h b = absurd b
+finite-below (inf false) (inf t) p h b = absurd b
+finite-below (inf false) (fin t n d) p h b = absurd h
+finite-below (fin s m e) y p h b = tt

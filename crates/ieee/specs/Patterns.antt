@@ -4,7 +4,7 @@ use Prim.Native.Nat.{ℕ, zero, suc, _+_, _-_, _*_, _/_, _%_, _^_, _≤_, _<_}
 use mathlib.Core.Path.{_≡_, refl, sym, _∙_, ap, subst}
 use mathlib.Core.Bool.{Bool, true, cond}
 use mathlib.Core.Logic.{_≢_, _⊎_, inl, inr}
-use native.Mathlib.Nat.{mod-mod-of-dvd, dvd-mul-right, mod-eq-of-lt, mul-one, one-mul, mul-div-cancel, le-div-iff-mul-le, lt-irrefl, lt-of-not-le, not-le-of-lt, le-refl, le-antisymm, eq-or-lt-of-le, lt-of-le-of-lt, le-of-suc-le-suc, zero-lt-suc, add-assoc, sub-eq-zero-of-le, mul-le-mul-right, pow-succ', mul-left-comm, mul-assoc, mul-le-mul-left, mod-lt, div-lt-iff-lt-mul, lt-of-lt-of-le, mul-lt-mul-of-pos-right, le-trans, le-of-eq, mul-le-mul, le-add-right, mul-mod-left, mul-pos, div-eq-of-lt-le, div-eq-of-lt, zero-mul}
+use native.Mathlib.Nat.{mod-mod-of-dvd, dvd-mul-right, mod-eq-of-lt, mul-one, one-mul, mul-div-cancel, le-div-iff-mul-le, lt-irrefl, lt-of-not-le, not-le-of-lt, le-refl, le-antisymm, eq-or-lt-of-le, lt-of-le-of-lt, le-of-suc-le-suc, zero-lt-suc, add-assoc, sub-eq-zero-of-le, mul-le-mul-right, pow-succ', mul-left-comm, mul-right-comm, mul-assoc, mul-le-mul-left, mod-lt, div-lt-iff-lt-mul, lt-of-lt-of-le, mul-lt-mul-of-pos-right, le-trans, le-of-eq, mul-le-mul, le-add-right, mul-mod-left, mul-pos, div-eq-of-lt-le, div-eq-of-lt, zero-mul}
 use native.Mathlib.Decide.{decLe}
 use native.Mathlib.Omega.{arith}
 use lib.Dec.{T, ltb, leb, lit<}
@@ -15,6 +15,7 @@ use lib.Ieee.Digits.{size-lt, size-le}
 use lib.Ieee.Bits.{ofBits-toBits, ofBits-fits}
 use lib.Ieee.Exact.{HasValue, odd-sign, round-exact}
 use lib.Ieee.Fits.{two, down-pos, round-fits}
+use lib.Ieee.Nearest.{div-same}
 use borrow.Author.Tests.{lt-ltb, le-ltb, le-leb, lt-leb, eq-eqb, ne-eqb}
 
 -- ---- reading a pattern
@@ -64,15 +65,22 @@ field-of f a h e = lt-irrefl (ones f) (subst (λ (z : ℕ). z < ones f) e (div-l
 unfoldable pub pattern : Format → ℕ → ℕ
 pattern f u = (size u - prec f) * hid f + u / 2 ^ (size u - prec f)
 
-pub toBits-value : (f : Format) (v : Float) (s : Bool) (u : ℕ) → HasValue v s u (2 ^ low f) → toBits f v ≡ cond s (top f) 0 + pattern f u
+-- of a value a / c too
+pub toBits-fraction : (f : Format) (v : Float) (s : Bool) (a c : ℕ) → 0 < c → HasValue v s a c → toBits f v ≡ cond s (top f) 0 + pattern f (a * 2 ^ low f / c)
 unfolding toBits pattern
-toBits-value f nan s u h = absurd h
-toBits-value f (inf t) s u h = absurd h
-toBits-value f (fin t m e) s u h =
-    let n : m * up e * 2 ^ low f / down e ≡ u = ap (λ (z : ℕ). z / down e) (h .1) ∙ mul-div-cancel u (down-pos e) in
-    ap (λ (z : ℕ). cond t (top f) 0 + (size z - prec f) * hid f + z / 2 ^ (size z - prec f)) n
+toBits-fraction f nan s a c C h = absurd h
+toBits-fraction f (inf t) s a c C h = absurd h
+toBits-fraction f (fin t m e) s a c C h =
+    let l = 2 ^ low f in
+    let u = a * l / c in
+    let x : m * up e * l * c ≡ a * l * down e = mul-right-comm (m * up e) l c ∙ ap (λ (z : ℕ). z * l) (h .1) ∙ mul-right-comm a (down e) l in
+    ap (λ (z : ℕ). cond t (top f) 0 + (size z - prec f) * hid f + z / 2 ^ (size z - prec f)) (div-same (m * up e * l) (down e) (a * l) c (down-pos e) C x)
     ∙ ap (λ (b : Bool). cond b (top f) 0 + (size u - prec f) * hid f + u / 2 ^ (size u - prec f)) (h .0)
     ∙ add-assoc (cond s (top f) 0) ((size u - prec f) * hid f) (u / 2 ^ (size u - prec f))
+
+pub toBits-value : (f : Format) (v : Float) (s : Bool) (u : ℕ) → HasValue v s u (2 ^ low f) → toBits f v ≡ cond s (top f) 0 + pattern f u
+toBits-value f v s u h =
+    toBits-fraction f v s u (2 ^ low f) (pow-pos (low f)) h ∙ ap (λ (z : ℕ). cond s (top f) 0 + pattern f z) (mul-div-cancel u (pow-pos (low f)))
 
 -- ---- powers of two
 
@@ -225,12 +233,13 @@ exactly f s a h = go (decLe (hid f) a)
     go (no n) = by a 0 (magnitude-small f a (lt-of-not-le n) ∙ sym (mul-one a)) (omega (arith, lt-of-not-le n, two-hid f))
     go (yes l) = by (hid f + a % hid f) (a / hid f - 1) (magnitude-large f a l) (omega (arith, mod-lt a (hid-pos f), two-hid f))
 
--- two values of a format with the same units are the same
-pub same-value : (f : Format) (v y : Float) (s : Bool) (u : ℕ) → T (fits f v) → T (fits f y) → HasValue v s u (2 ^ low f) → HasValue y s u (2 ^ low f) → v ≡ y
-same-value f v y s u p q h k = sym (ofBits-toBits f v p) ∙ ap (ofBits f) (toBits-value f v s u h ∙ sym (toBits-value f y s u k)) ∙ ofBits-toBits f y q
+-- the format holds a number with its sign in one way
+pub same-value : (f : Format) (v y : Float) (s : Bool) (a c : ℕ) → 0 < c → T (fits f v) → T (fits f y) → HasValue v s a c → HasValue y s a c → v ≡ y
+same-value f v y s a c C p q h k =
+    sym (ofBits-toBits f v p) ∙ ap (ofBits f) (toBits-fraction f v s a c C h ∙ sym (toBits-fraction f y s a c C k)) ∙ ofBits-toBits f y q
 
 pub round-decoded : (f : Format) (w : ℕ) → w % top f < ones f * hid f → round f (leb (top f) w) (magnitude f (w % top f)) (2 ^ low f) ≡ ofBits f w
 round-decoded f w h =
     let s = leb (top f) w in
     let u = magnitude f (w % top f) in
-    same-value f (round f s u (2 ^ low f)) (ofBits f w) s u (round-fits f s u (2 ^ low f)) (ofBits-fits f w) (exactly f s (w % top f) h) (decode f w (field-of f (w % top f) h))
+    same-value f (round f s u (2 ^ low f)) (ofBits f w) s u (2 ^ low f) (pow-pos (low f)) (round-fits f s u (2 ^ low f)) (ofBits-fits f w) (exactly f s (w % top f) h) (decode f w (field-of f (w % top f) h))

@@ -11,10 +11,10 @@ use lib.Dec.{T, eqb, leb, lit<, lit≤}
 use lib.IntN.{ℤ, pos}
 use lib.Count.{leadingZeros, leading-top}
 use lib.Pow.{pow-pos, pow-add}
-use lib.Ieee.{Format, Float, nan, inf, fin, prec, low, hid, ones, top, up, down, size, odd, ofBits, ofFields, toBits, isNan, fits}
+use lib.Ieee.{Format, Float, nan, inf, fin, prec, low, hid, ones, top, up, down, size, odd, ofBits, ofFields, toBits, isNan}
 use lib.Ieee.Bits.{toBits-ofBits}
 use lib.Ieee.Exact.{HasValue}
-use lib.Ieee.Fits.{down-pos, two, nan-fits, inf-fits, round-fits}
+use lib.Ieee.Fits.{down-pos, two}
 use lib.Ieee.Nearest.{closest}
 use lib.Ieee.Order.{drop, kept}
 use borrow.Author.Tests.{eq-eqb, ne-eqb, le-leb, lt-leb}
@@ -220,15 +220,6 @@ sqrt-units f (fin false (suc m) e) u h p =
   where
     place : (l : ℕ) → suc (suc l) ≡ l + 2
     place l = omega arith
-
-pub sqrt-fits : (f : Format) (x : Float) → T (fits f x) → T (fits f (sqrt f x))
-unfolding sqrt rootOf
-sqrt-fits f nan h = nan-fits f
-sqrt-fits f (inf true) h = nan-fits f
-sqrt-fits f (inf false) h = inf-fits f false
-sqrt-fits f (fin s zero e) h = h
-sqrt-fits f (fin true (suc m) e) h = nan-fits f
-sqrt-fits f (fin false (suc m) e) h = round-fits f false (sticky (suc m * up e * 4 ^ suc (low f) / down e)) (2 * 2 ^ suc (low f))
 
 -- ---- normalising: d has its leading digit at place 52 after the shift, and an odd exponent gives one digit more
 

@@ -1,5 +1,5 @@
 -- Document 01's functions to whole numbers: "floor, ceil and round are exact, round's halves away from zero"; "casts to whole numbers saturate,
--- NaN to 0". Each is taken of the magnitude m * 2 ^ e, and the result keeps the sign, a zero's too. Assumes nothing.
+-- NaN to 0". Each is taken of the magnitude m * 2 ^ e, and the result keeps the sign, a zero's too. Definitions only. Assumes nothing.
 use Prim.Native.Nat.{ℕ, _+_, _*_, _/_, _%_}
 use mathlib.Core.Bool.{Bool, false, cond, not, _&&_}
 use lib.IntN.{ℤ}
@@ -41,7 +41,11 @@ roundAway f nan = nan
 roundAway f (inf s) = inf s
 roundAway f (fin s m e) = round f s (halfUp m e) 1
 
--- the casts to u32 and to usize
+-- the casts to u16, u32 and usize
+unfoldable pub toU16 : Float → ℕ
+unfolding toUnsigned
+toU16 x = toUnsigned 16 x
+
 unfoldable pub toU32 : Float → ℕ
 unfolding toUnsigned
 toU32 x = toUnsigned 32 x

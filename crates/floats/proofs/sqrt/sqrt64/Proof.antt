@@ -6,7 +6,7 @@ use lib.Dec.{T}
 use lib.Ieee.{binary64, ofBits, toBits}
 use Rattle.ieee.specs.Patterns.{by-words}
 use Rattle.ieee.specs.Sqrt.{sqrt}
-use Rattle.ieee.specs.SqrtWords.{sqrt-fits}
+use Rattle.ieee.specs.FormatLaws.{sqrt-fits}
 use Rattle.floats.proofs.sqrt.sqrt64.Statement.{statement}
 use Rattle.floats.proofs.sqrt.sqrt64.Tie as tie
 

@@ -1,21 +1,13 @@
--- `floats::whole::to_u32` meets its contract: the cast is taken of the word. Assumes nothing.
-use Prim.Native.Nat.{ℕ}
-use mathlib.Core.Path.{_∙_, ap, sym, subst}
+-- `floats::whole::to_u32`: a cast to 32 bits is the one to 64 bits, or the largest number of 32 bits. Assumes nothing.
 use borrow.Author.Needs.{needs}
-use lib.Dec.{T}
-use lib.Ieee.{binary32, ofBits}
-use lib.Ieee.Bits.{ofBits-toBits}
-use Rattle.ieee.specs.Whole.{toU32}
+use lib.Dec.{lit≤}
+use Rattle.ieee.specs.Whole.{toU32, toUsize}
+use Rattle.ieee.specs.CastWords.{cast-kept, cast-most}
 use Rattle.floats.proofs.whole.to_u32.Statement.{statement}
 use Rattle.floats.proofs.whole.to_u32.Tie as tie
 
-returns : tie.Need-returns
-returns c =
-    let start = c .before .before in
-    c .to-u32-word .ensures
-    ∙ ap (λ (w : ℕ). toU32 (ofBits binary32 w)) (c .before .word-of-f32 .ensures)
-    ∙ ap toU32 (ofBits-toBits binary32 (start .args .x) (subst T (sym (start .good .0 .1)) tt))
-
 pub to-u32-spec : {M : Type 1} → statement M
 to-u32-spec =
-    tie.close (tie.spec (λ c κs. search needs) (λ c κs. search needs) returns)
+    tie.close (tie.spec (λ c κs. search needs) (λ c. search needs)
+      (λ c. unfold toU32 toUsize in cast-most 32 64 (lit≤ tt) (c .before .before .args .x) _ (c .before .to-usize .ensures) (c .if1 .taken))
+      (λ c. unfold toU32 toUsize in cast-kept 32 64 (lit≤ tt) (c .before .before .args .x) _ (c .before .to-usize .ensures) (c .if1 .left)))
