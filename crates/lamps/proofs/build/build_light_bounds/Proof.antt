@@ -11,7 +11,7 @@ use Rattle.words.specs.Refusals.{number}
 use Rattle.words.specs.Tray.{tray}
 use Rattle.words.specs.TrayLaws.{tray-early}
 use Rattle.lamps.specs.Block.{counted, blockWords, packExhaustiveBounds}
-use Rattle.lamps.specs.BuildLaws.{early-list, build-unread, build-short, build-walked, build-tray, list-counted}
+use Rattle.lamps.proofs.BuildLaws.{early-list, build-unread, build-short, build-walked, build-tray, list-counted}
 use Rattle.lamps.specs.LampList.{lampList}
 use Rattle.lamps.proofs.build.build_light_bounds.Statement.{statement}
 use Rattle.lamps.proofs.build.build_light_bounds.Tie as tie

@@ -11,8 +11,8 @@ use lib.Dec.{eqb}
 use lib.ListN.{length}
 use Rattle.words.specs.Answers.{given, refused}
 use Rattle.lamps.specs.LampList.{lampAt, inPlace, step}
-use Rattle.lamps.specs.WalkLaws.{LampsRead, walked-none, walked-one, inPlace-snoc, placed-refused, placed-ragged, placed-all}
-use Rattle.lamps.specs.declared.cursor.Reading.{Reading}
+use Rattle.lamps.proofs.WalkLaws.{LampsRead, walked-none, walked-one, inPlace-snoc, placed-refused, placed-ragged, placed-all}
+use Rattle.lamps.specs.declared.lamp_list.Reading.{Reading}
 use borrow.Author.Tests.{eq-eqb, ne-eqb}
 use Rattle.words.specs.Refusals.{number}
 use Rattle.lamps.proofs.build.check_lamps.Statement.{statement}

@@ -3,7 +3,7 @@
 use Prim.Native.Nat.{_-_, ℕ}
 use mathlib.Core.List.{List, [], _∷_, _++_, append-nil}
 use Rattle.lamps.specs.BlockLaws.{Packed, packed-none, packed-one, packed-counted, zeroed, zeroed-length}
-use Rattle.lamps.specs.WalkLaws.{BoundsTaken, walked-none, walked-one, walked-refused, walked-all}
+use Rattle.lamps.proofs.WalkLaws.{BoundsTaken, walked-none, walked-one, walked-refused, walked-all}
 use Rattle.light_bounds.specs.declared.light_bounds.LightBounds.{LightBounds}
 use mathlib.Core.Path.{_≡_, refl, ap, sym, _∙_}
 use borrow.Author.Needs.{needs}

@@ -1,6 +1,6 @@
 -- `lamps::lamp_bounds::faced_record` meets its contract. Assumes nothing.
 use borrow.Author.Needs.{needs}
-use Rattle.lamps.specs.LampBoundsLaws.{cos-half-pi}
+use Rattle.lamps.proofs.LampBoundsLaws.{cos-half-pi}
 use Rattle.words.specs.Answers.{_then_}
 use Rattle.lamps.specs.LampBounds.{facedRecord}
 use Rattle.lamps.proofs.lamp_bounds.faced_record.Statement.{statement}

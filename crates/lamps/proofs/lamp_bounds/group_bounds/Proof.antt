@@ -6,7 +6,7 @@ use denote.Ref.{now}
 use lib.ListN.{length}
 use Rattle.words.specs.Answers.{refused, _then_}
 use Rattle.lamps.specs.LampBounds.{groupBounds}
-use Rattle.lamps.specs.LampBoundsLaws.{unionFrom-first, unionFrom-end}
+use Rattle.lamps.proofs.LampBoundsLaws.{unionFrom-first, unionFrom-end}
 use Rattle.lamps.proofs.lamp_bounds.group_bounds.Statement.{statement}
 use Rattle.lamps.proofs.lamp_bounds.group_bounds.Tie as tie
 

@@ -5,7 +5,7 @@ use native.Mathlib.Omega.{arith}
 use borrow.Author.Needs.{needs}
 use Rattle.words.specs.Answers.{given, _then_}
 use Rattle.lamps.specs.LampBounds.{unionFrom}
-use Rattle.lamps.specs.LampBoundsLaws.{unionFrom-next, unionFrom-end}
+use Rattle.lamps.proofs.LampBoundsLaws.{unionFrom-next, unionFrom-end}
 use denote.Ref.{now}
 use Rattle.lamps.proofs.lamp_bounds.union_rest.Statement.{statement}
 use Rattle.lamps.proofs.lamp_bounds.union_rest.Tie as tie

@@ -1,7 +1,7 @@
--- `lamps::cursor::handle_of` meets its contract. Assumes nothing.
+-- `lamps::lamp_list::handle_of` meets its contract. Assumes nothing.
 use borrow.Author.Needs.{needs}
-use Rattle.lamps.proofs.cursor.handle_of.Statement.{statement}
-use Rattle.lamps.proofs.cursor.handle_of.Tie as tie
+use Rattle.lamps.proofs.lamp_list.handle_of.Statement.{statement}
+use Rattle.lamps.proofs.lamp_list.handle_of.Tie as tie
 
 pub handle-of-spec : {M : Type 1} → statement M
 handle-of-spec =

@@ -1,4 +1,4 @@
--- `lamps::cursor::Cursor::next` meets its contract. Assumes nothing.
+-- `lamps::lamp_list::Cursor::next` meets its contract. Assumes nothing.
 use borrow.Author.Needs.{needs}
 use borrow.Author.Tests.{eq-eqb, ne-eqb}
 use Prim.Native.Nat.{ℕ}
@@ -6,8 +6,8 @@ use mathlib.Core.Path.{_≡_}
 use mathlib.Core.Bool.{true, false}
 use lib.Dec.{eqb}
 use Rattle.lamps.specs.LampList.{lampAt, kindOf}
-use Rattle.lamps.proofs.cursor.Cursor.next.Statement.{statement}
-use Rattle.lamps.proofs.cursor.Cursor.next.Tie as tie
+use Rattle.lamps.proofs.lamp_list.Cursor.next.Statement.{statement}
+use Rattle.lamps.proofs.lamp_list.Cursor.next.Tie as tie
 
 -- the head's kind, tested
 is : {w head : ℕ} (k : ℕ) → w ≡ head → kindOf w ≡ k → eqb (kindOf head) k ≡ true

@@ -1,9 +1,9 @@
--- `lamps::cursor::Reading::triangles` meets its contract. Assumes nothing.
+-- `lamps::lamp_list::Reading::triangles` meets its contract. Assumes nothing.
 use borrow.Author.Needs.{needs}
 use borrow.Author.Tests.{le-leb, lt-leb}
 use Rattle.lamps.specs.LampList.{trianglesOf}
-use Rattle.lamps.proofs.cursor.Reading.triangles.Statement.{statement}
-use Rattle.lamps.proofs.cursor.Reading.triangles.Tie as tie
+use Rattle.lamps.proofs.lamp_list.Reading.triangles.Statement.{statement}
+use Rattle.lamps.proofs.lamp_list.Reading.triangles.Tie as tie
 
 returns : tie.Need-returns
 unfolding trianglesOf

@@ -1,12 +1,12 @@
--- `lamps::cursor::spot_at` meets its contract. Assumes nothing.
+-- `lamps::lamp_list::spot_at` meets its contract. Assumes nothing.
 use borrow.Author.Needs.{needs}
 use Prim.Native.Nat.{_+_}
 use denote.Ref.{now}
 use lib.ListN.{length}
 use borrow.Author.Tests.{le-leb, lt-leb}
 use native.Mathlib.Omega.{arith}
-use Rattle.lamps.proofs.cursor.spot_at.Statement.{statement}
-use Rattle.lamps.proofs.cursor.spot_at.Tie as tie
+use Rattle.lamps.proofs.lamp_list.spot_at.Statement.{statement}
+use Rattle.lamps.proofs.lamp_list.spot_at.Tie as tie
 
 returns : tie.Need-returns
 returns c = rw (lt-leb (c .before .before .args .at + 11) (length (now (c .before .before .args .list))) (omega arith))

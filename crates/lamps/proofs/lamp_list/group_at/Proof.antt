@@ -1,4 +1,4 @@
--- `lamps::cursor::group_at` meets its contract. Assumes nothing.
+-- `lamps::lamp_list::group_at` meets its contract. Assumes nothing.
 use borrow.Author.Needs.{needs}
 use Prim.Native.Nat.{_+_}
 use denote.Ref.{now}
@@ -6,8 +6,8 @@ use lib.ListN.{length}
 use borrow.Author.Tests.{le-leb, lt-leb}
 use native.Mathlib.Omega.{arith}
 use Rattle.lamps.specs.LampList.{groupEnd}
-use Rattle.lamps.proofs.cursor.group_at.Statement.{statement}
-use Rattle.lamps.proofs.cursor.group_at.Tie as tie
+use Rattle.lamps.proofs.lamp_list.group_at.Statement.{statement}
+use Rattle.lamps.proofs.lamp_list.group_at.Tie as tie
 
 returns : tie.Need-returns
 returns c = rw (lt-leb (c .before .before .args .at + 5) (length (now (c .before .before .args .list))) (omega arith))
