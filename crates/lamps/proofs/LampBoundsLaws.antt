@@ -1,9 +1,10 @@
 -- Laws of a lamp's bounds that its code uses. Assumes nothing.
 use Prim.Native.Nat.{ℕ, zero, suc, _+_, _-_, _<_}
-use mathlib.Core.Path.{_≡_, refl, sym}
-use mathlib.Core.Bool.{Bool}
+use mathlib.Core.Path.{_≡_, refl, sym, subst}
+use mathlib.Core.Bool.{Bool, true, false, _&&_}
 use mathlib.Core.List.{List}
 use native.Mathlib.Omega.{arith}
+use lib.Dec.{T}
 use lib.Ieee.{Float, ofBits, toBits, ofInt, span, climb, size, odd, units, round, neg, sum, add, sub, mul, div, lt, eq, le}
 use Rattle.ieee.specs.Choose.{fabs}
 use Rattle.ieee.specs.Narrow.{narrow}
@@ -20,6 +21,11 @@ use Rattle.lamps.specs.LampBounds.{halfPi, triangleAt, triangleRecord, j
 pub cos-half-pi : cos halfPi ≡ single 0xb33b_bd2e
 unfolding ofBits toBits ofInt span climb size odd units round neg sum add sub mul div lt eq le fabs narrow turns seriesStep series cos
 cos-half-pi = refl
+
+-- the second of two that both hold
+pub both : (a b : Bool) → a && b ≡ true → b ≡ true
+both true b e = e
+both false b e = absurd (subst T (sym e) tt)
 
 module _ (emission scale : Float) (side : Bool) (ts : List ℕ) where
   -- no triangle is left

@@ -1,3 +1,4 @@
+pub mod BlockLoop
 pub mod BuildLaws
 pub mod LampBoundsLaws
 pub mod WalkLaws

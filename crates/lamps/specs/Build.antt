@@ -1,15 +1,19 @@
--- `build_light_bounds` of `light_bounds.rs` over a lamp list: refusals 2, 1, 4, then 3, then lamp by lamp. Assumes nothing.
+-- `build_light_bounds` of `light_bounds.rs` over a lamp list: refusals 2, 1, 4, then 3, then lamp by lamp. Definitions only. Assumes nothing.
 use Prim.Native.Nat.{ℕ}
 use mathlib.Core.Bool.{cond}
 use mathlib.Core.List.{List, [], _∷_}
 use lib.Dec.{leb}
 use lib.ListN.{length}
 use Rattle.words.specs.Answers.{Answer, given, refused, _then_}
+use Rattle.words.specs.Refusals.{number}
 use Rattle.light_bounds.specs.declared.light_bounds.LightBounds.{LightBounds}
 use Rattle.lamps.specs.Block.{blockWords}
 use Rattle.lamps.specs.LampBounds.{lightBoundsForInput}
-use Rattle.lamps.specs.LampList.{lampList, trianglesOf}
-use Rattle.lamps.specs.declared.cursor.Reading.{Reading}
+use Rattle.lamps.specs.LampList.{lampAt, lampList, trianglesOf}
+use Rattle.lamps.specs.declared.build.Next.{Next}
+use Rattle.lamps.specs.declared.build.Next.the-variants.{Bounds, Refused}
+use Rattle.lamps.specs.declared.lamp_list.Cursor.{Cursor}
+use Rattle.lamps.specs.declared.lamp_list.Reading.{Reading}
 
 -- the bounds of a lamp that was read
 abbrev pub boundsOf : List ℕ → Reading → Answer LightBounds
@@ -23,3 +27,16 @@ allBounds ws (r ∷ rs) = boundsOf ws r then λ b. allBounds ws rs then λ bs. g
 -- `room` words are lent for the block
 unfoldable pub buildLightBounds : List ℕ → ℕ → Answer (List LightBounds)
 buildLightBounds ws room = lampList ws then λ rs. cond (leb (blockWords (length rs)) room) (allBounds ws rs) (refused 3)
+
+-- a lamp's bounds, and the cursor past it
+pub record Passed : Type 0 where
+  pub bounds : LightBounds
+  pub next : Cursor
+
+unfoldable pub nextBounds : List ℕ → ℕ → Answer Passed
+nextBounds ws at = lampAt ws at then λ r. boundsOf ws r then λ b. given (record { bounds = b; next = r .next })
+
+-- what the enum `Next` answers
+abbrev pub passed : Next → Answer Passed
+passed (Bounds b c) = given (record { bounds = b; next = c })
+passed (Refused r) = refused (number r)

@@ -1,4 +1,4 @@
--- The bounds of one lamp: `light_bounds_for_input` of `light_bounds.rs`, step by step, its refusals in its order. Assumes nothing.
+-- The bounds of one lamp: `light_bounds_for_input` of `light_bounds.rs`, step by step, its refusals in its order. Definitions only. Assumes nothing.
 use Prim.Native.Nat.{ℕ, zero, suc, _+_, _/_}
 use mathlib.Core.Bool.{Bool, false, cond, _&&_, _||_, not}
 use mathlib.Core.List.{List}
@@ -8,20 +8,17 @@ use lib.ListN.{length, getD}
 use Rattle.ieee.specs.Single.{_⊖_, _⊗_, single, zerof, onef, minusOne, pi}
 use Rattle.trig.specs.Trig.{cos, acos}
 use Rattle.words.specs.Answers.{Answer, given, refused, _then_}
-use Rattle.words.specs.Refusals.{number}
 use Rattle.light_bounds.specs.Bounds.{boxCheck, leastOf, greatestOf}
-use Rattle.light_bounds.specs.LightBounds.{isCosine, validate, union}
+use Rattle.light_bounds.specs.LightBounds.{lightBounds, areCosines, validate, union}
 use Rattle.light_bounds.specs.RecordWords.{vecAt}
 use Rattle.light_bounds.specs.Vecmath.{vec, finiteVec, normalize}
 use Rattle.light_bounds.specs.declared.bounds.Bounds3.{Bounds3}
 use Rattle.light_bounds.specs.declared.light_bounds.LightBounds.{LightBounds}
 use Rattle.light_bounds.specs.declared.vecmath.Vec3.{Vec3}
 use Rattle.lamps.specs.LampList.{triangleWords}
-use Rattle.lamps.specs.declared.cursor.Lamp.{Lamp}
-use Rattle.lamps.specs.declared.cursor.Lamp.the-variants.{Point, Spot, AreaGroup}
+use Rattle.lamps.specs.declared.lamp_list.Lamp.{Lamp}
+use Rattle.lamps.specs.declared.lamp_list.Lamp.the-variants.{Point, Spot, AreaGroup}
 use Rattle.lamps.specs.declared.lamp_bounds.AreaTriangleInput.{AreaTriangleInput}
-use Rattle.lamps.specs.declared.lamp_bounds.Bounded.{Bounded}
-use Rattle.lamps.specs.declared.lamp_bounds.Bounded.the-variants.{Bounds, Refused}
 
 -- 4, 0.999, and half π as f32 has it
 abbrev pub four : Float
@@ -33,8 +30,11 @@ nearlyOne = single 0x3f7f_be77
 abbrev pub halfPi : Float
 halfPi = single 0x3fc9_0fdb
 
+abbrev pub emissionBad : Float → Float → Bool
+emissionBad value scale = not (finite value) || (not (finite scale) || (lt value zerof || lt scale zerof))
+
 unfoldable pub validateEmission : Float → Float → Answer (Unit {0})
-validateEmission value scale = cond (not (finite value) || (not (finite scale) || (lt value zerof || lt scale zerof))) (refused 8) (given tt)
+validateEmission value scale = cond (emissionBad value scale) (refused 8) (given tt)
 
 -- a record that passes its own check
 unfoldable pub checked : LightBounds → Answer LightBounds
@@ -42,9 +42,9 @@ checked r = validate r then λ _. given r
 
 -- ---- points and spots
 
--- the box of one point, 5
-abbrev pub at : Vec3 → Bounds3
-at p = record { min = p; max = p }
+-- the box of one point
+abbrev pub pointBox : Vec3 → Bounds3
+pointBox p = record { min = p; max = p }
 
 unfoldable pub pointPhi : Float → Float → Float
 pointPhi intensity scale = four ⊗ pi ⊗ scale ⊗ intensity
@@ -52,39 +52,29 @@ pointPhi intensity scale = four ⊗ pi ⊗ scale ⊗ intensity
 unfoldable pub pointBounds : Vec3 → Float → Float → Answer LightBounds
 pointBounds position intensity scale =
     validateEmission intensity scale then λ _.
-    boxCheck (at position) then λ _.
-    checked (record {
-      bounds = at position;
-      direction = vec zerof zerof onef;
-      phi = pointPhi intensity scale;
-      «cos_theta_o» = minusOne;
-      «cos_theta_e» = cos halfPi;
-      «two_sided» = false;
-    })
+    boxCheck (pointBox position) then λ _.
+    checked (lightBounds (pointBox position) (vec zerof zerof onef) (pointPhi intensity scale) minusOne (cos halfPi) false)
+
+-- the angle's cosine rounds to 1, and yet there is a falloff
+abbrev pub tooNarrow : Float → Float → Float → Bool
+tooNarrow cosE cosO cosEnd = eq cosE onef && not (eq cosO cosEnd)
 
 -- the cosine of the falloff's angle; a falloff too narrow to see is not none
 unfoldable pub falloff : Float → Float → Float
 falloff cosO cosEnd =
     let e = cos (acos cosEnd ⊖ acos cosO) in
-    cond (eq e onef && not (eq cosO cosEnd)) nearlyOne e
+    cond (tooNarrow e cosO cosEnd) nearlyOne e
 
 unfoldable pub spotRecord : Vec3 → Vec3 → Float → Float → Float → Answer LightBounds
 spotRecord position direction phi cosO cosEnd =
-    boxCheck (at position) then λ _.
+    boxCheck (pointBox position) then λ _.
     normalize direction then λ d.
-    checked (record {
-      bounds = at position;
-      direction = d;
-      phi = phi;
-      «cos_theta_o» = cosO;
-      «cos_theta_e» = falloff cosO cosEnd;
-      «two_sided» = false;
-    })
+    checked (lightBounds (pointBox position) d phi cosO (falloff cosO cosEnd) false)
 
 unfoldable pub spotBounds : Vec3 → Vec3 → Float → Float → Float → Float → Answer LightBounds
 spotBounds position direction intensity scale cosO cosEnd =
     validateEmission intensity scale then λ _.
-    cond (isCosine cosO && isCosine cosEnd) (spotRecord position direction (pointPhi intensity scale) cosO cosEnd) (refused 8)
+    cond (areCosines cosO cosEnd) (spotRecord position direction (pointPhi intensity scale) cosO cosEnd) (refused 8)
 
 -- ---- groups
 
@@ -114,16 +104,7 @@ groupPhi emission scale area = emission ⊗ scale ⊗ area ⊗ pi
 unfoldable pub facedRecord : Bounds3 → Vec3 → Float → Bool → Answer LightBounds
 facedRecord bounds normal phi side =
     normalize normal then λ d.
-    cond (finiteVec d)
-    (checked (record {
-      bounds = bounds;
-      direction = d;
-      phi = phi;
-      «cos_theta_o» = onef;
-      «cos_theta_e» = cos halfPi;
-      «two_sided» = side;
-    }))
-    (refused 7)
+    cond (finiteVec d) (checked (lightBounds bounds d phi onef (cos halfPi) side)) (refused 7)
 
 -- the box, the area, then the rest
 unfoldable pub triangleRecord : Float → Float → Bool → AreaTriangleInput → Answer LightBounds
@@ -156,7 +137,3 @@ unfoldable pub lightBoundsForInput : Lamp → List ℕ → Answer LightBounds
 lightBoundsForInput (Point h p i s) ts = pointBounds p i s
 lightBoundsForInput (Spot h p d i s o e) ts = spotBounds p d i s o e
 lightBoundsForInput (AreaGroup h e s side) ts = groupBounds e s side ts
-
-abbrev pub bounded : Bounded → Answer LightBounds
-bounded (Bounds r) = given r
-bounded (Refused r) = refused (number r)

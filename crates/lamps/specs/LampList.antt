@@ -1,20 +1,23 @@
 -- The lamp list, document 01's form of `LightBoundInput`: words, lamp by lamp behind a count. A lamp's head has its kind in the top two bits (01 point, 10 spot,
 -- 11 group) and its handle in the low thirty. Reading comes before any figure is judged: over the limits is 2, a list whose words are not laid out as it says 1,
--- a handle that is not its place 4. Assumes nothing.
-use Prim.Native.Nat.{ℕ, zero, suc, _+_, _*_, _/_, _%_, _-_}
-use mathlib.Core.Bool.{Bool, true, cond, _&&_, _||_}
+-- a handle that is not its place 4. Definitions only. Assumes nothing.
+use Prim.Native.Nat.{ℕ, zero, suc, _+_, _*_, _-_}
+use mathlib.Core.Bool.{Bool, true, cond, _&&_}
 use mathlib.Core.List.{List, [], _∷_}
-use lib.Dec.{ltb, leb, eqb}
+use lib.Dec.{leb, eqb}
 use lib.ListN.{length, getD, take, drop}
 use Rattle.ieee.specs.Single.{single}
 use Rattle.words.specs.Answers.{Answer, given, refused, _then_}
 use Rattle.words.specs.Refusals.{number}
-use Rattle.light_bounds.specs.RecordWords.{vecAt, sideKnown, sideOf}
-use Rattle.lamps.specs.declared.cursor.Lamp.{Lamp}
-use Rattle.lamps.specs.declared.cursor.Lamp.the-variants.{Point, Spot, AreaGroup}
-use Rattle.lamps.specs.declared.cursor.Reading.{Reading}
-use Rattle.lamps.specs.declared.cursor.Step.{Step}
-use Rattle.lamps.specs.declared.cursor.Step.the-variants.{Read, Refused}
+use Rattle.words.specs.Heads.{kindOf, handleOf}
+use Rattle.words.specs.Limits.{crowded}
+use Rattle.light_bounds.specs.RecordWords.{vecAt}
+use Rattle.lamps.specs.declared.lamp_list.Cursor.{Cursor}
+use Rattle.lamps.specs.declared.lamp_list.Lamp.{Lamp}
+use Rattle.lamps.specs.declared.lamp_list.Lamp.the-variants.{Point, Spot, AreaGroup}
+use Rattle.lamps.specs.declared.lamp_list.Reading.{Reading}
+use Rattle.lamps.specs.declared.lamp_list.Step.{Step}
+use Rattle.lamps.specs.declared.lamp_list.Step.the-variants.{Read, Refused}
 
 -- ---- one lamp
 
@@ -31,11 +34,16 @@ groupWords = 5
 abbrev pub triangleWords : ℕ
 triangleWords = 13
 
-abbrev pub kindOf : ℕ → ℕ
-kindOf head = head / 0x4000_0000
+-- a group's side word: 0 one-sided, 1 two-sided
+abbrev pub listSideKnown : ℕ → Bool
+listSideKnown w = leb w 1
 
-abbrev pub handleOf : ℕ → ℕ
-handleOf head = head % 0x4000_0000
+abbrev pub listSideOf : ℕ → Bool
+listSideOf w = eqb w 1
+
+-- the first lamp stands behind the count
+abbrev pub firstLamp : Cursor
+firstLamp = record { at = 1 }
 
 -- a lamp without triangles that ends before `end`
 abbrev pub alone : Lamp → ℕ → Reading
@@ -67,10 +75,14 @@ groupEnd ws at = at + groupWords + triangleWords * getD ws (at + 4) 0
 abbrev pub groupAt : List ℕ → ℕ → Reading
 groupAt ws at =
     record {
-      lamp = AreaGroup (handleOf (getD ws at 0)) (single (getD ws (at + 1) 0)) (single (getD ws (at + 2) 0)) (sideOf (getD ws (at + 3) 0));
+      lamp = AreaGroup (handleOf (getD ws at 0)) (single (getD ws (at + 1) 0)) (single (getD ws (at + 2) 0)) (listSideOf (getD ws (at + 3) 0));
       triangles = at + groupWords;
       next = record { at = groupEnd ws at };
     }
+
+-- its side is known, and its triangles lie in the list
+abbrev pub groupFits : List ℕ → ℕ → Bool
+groupFits ws at = listSideKnown (getD ws (at + 3) 0) && leb (groupEnd ws at) (length ws)
 
 -- the lamp at a place: 1 where its words pass the end, and at an unknown kind or side
 unfoldable pub lampAt : List ℕ → ℕ → Answer Reading
@@ -78,7 +90,7 @@ lampAt ws at =
     cond (eqb (kindOf (getD ws at 0)) 1) (cond (leb (at + pointWords) (length ws)) (given (pointAt ws at)) (refused 1))
     (cond (eqb (kindOf (getD ws at 0)) 2) (cond (leb (at + spotWords) (length ws)) (given (spotAt ws at)) (refused 1))
     (cond (eqb (kindOf (getD ws at 0)) 3)
-    (cond (leb (at + groupWords) (length ws) && (sideKnown (getD ws (at + 3) 0) && leb (groupEnd ws at) (length ws))) (given (groupAt ws at)) (refused 1))
+    (cond (leb (at + groupWords) (length ws) && groupFits ws at) (given (groupAt ws at)) (refused 1))
     (refused 1)))
 
 abbrev pub step : Step → Answer Reading
@@ -93,10 +105,6 @@ trianglesOf ws r =
     []
 
 -- ---- the list
-
--- over 4,096 lamps by word 0, or over 2^20 words: of lists and of blocks
-abbrev pub crowded : List ℕ → Bool
-crowded ws = ltb 4096 (getD ws 0 0) || ltb 0x10_0000 (length ws)
 
 -- so many lamps from a place on, and nothing behind them
 unfoldable pub lampsFrom : ℕ → List ℕ → ℕ → Answer (List Reading)
@@ -113,8 +121,10 @@ unfoldable pub inPlace : ℕ → List Reading → Bool
 inPlace i [] = true
 inPlace i (r ∷ rs) = eqb (handle (r .lamp)) i && inPlace (suc i) rs
 
--- 2, 1, 4
+-- as many lamps as word 0 says: 1, then 4
+unfoldable pub placedLamps : List ℕ → Answer (List Reading)
+placedLamps ws = lampsFrom (getD ws 0 0) ws (firstLamp .at) then λ rs. cond (inPlace 0 rs) (given rs) (refused 4)
+
+-- 2 first
 unfoldable pub lampList : List ℕ → Answer (List Reading)
-lampList ws =
-    cond (crowded ws) (refused 2)
-    (lampsFrom (getD ws 0 0) ws 1 then λ rs. cond (inPlace 0 rs) (given rs) (refused 4))
+lampList ws = cond (crowded ws) (refused 2) (placedLamps ws)

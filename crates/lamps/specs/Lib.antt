@@ -1,10 +1,4 @@
 pub mod LampList
 pub mod LampBounds
-pub mod LampBoundsLaws
 pub mod Block
-pub mod BlockLaws
 pub mod Build
-pub mod Walk
-pub mod WalkLaws
-pub mod BuildLaws
-pub mod ListLaws

@@ -4,18 +4,19 @@ ghost use Prim.Native.Nat.{_+_, _*_, _≤_, _-_};
 ghost use lib.ListN.{length};
 ghost use Rattle.words.specs.Answers.{given, _then_};
 ghost use Rattle.light_bounds.specs.Bounds.{validity};
+ghost use Rattle.light_bounds.specs.LightBounds.{bounded};
 ghost use Rattle.lamps.specs.LampList.{triangleWords};
-ghost use Rattle.lamps.specs.LampBounds.{bounded, lightBoundsForInput, validateEmission, checked as checkedOf, pointPhi, pointBounds, falloff as falloffOf, spotBounds, triangleAt, triangleBounds, triangleRecord, groupPhi, joinNext, unionFrom, groupBounds, spotRecord, facedRecord};
-use super::cursor::Lamp;
-use super::cursor::TRIANGLE_WORDS;
+ghost use Rattle.lamps.specs.LampBounds.{lightBoundsForInput, emissionBad, validateEmission, checked as checkedOf, pointBox, pointPhi, pointBounds, tooNarrow, falloff as falloffOf, spotBounds, triangleAt, triangleBounds, noArea, triangleRecord, groupPhi, joinNext, unionFrom, groupBounds, spotRecord, facedRecord};
+use super::lamp_list::Lamp;
+use super::lamp_list::TRIANGLE_WORDS;
 use light_bounds::bounds::Bounds3;
 use light_bounds::bounds::Validity;
 use light_bounds::bounds::check;
 use light_bounds::bounds::greater;
 use light_bounds::bounds::lesser;
-use light_bounds::light_bounds::Joined;
+use light_bounds::light_bounds::Bounded;
 use light_bounds::light_bounds::LightBounds;
-use light_bounds::light_bounds::is_cosine;
+use light_bounds::light_bounds::are_cosines;
 use light_bounds::light_bounds::union;
 use light_bounds::light_bounds::validate;
 use light_bounds::record_words::vec_at;
@@ -35,12 +36,6 @@ const PI: f32 = 3.1415927;
 const COS_HALF_PI: f32 = -0.00000004371139;
 
 const MINUS_ONE: f32 = -1.0;
-
-// A lamp's bounds, or why it has none.
-pub enum Bounded {
-    Bounds(LightBounds),
-    Refused(Refusal),
-}
 
 pub struct AreaTriangleInput {
     pub a: Vec3,
@@ -89,18 +84,16 @@ pub fn light_bounds_for_input(lamp: Lamp, triangles: &[u32]) -> Bounded
 fn validate_emission(value: f32, scale: f32) -> Validity
     ensures { λ r. ⌜ validity r ≡ validateEmission value scale ⌝ }
 {
-    if is_finite(value) {
-        if is_finite(scale) {
-            if value < 0.0 {
-                return Validity::Refused(Refusal::OutOfRange);
-            }
-            if scale < 0.0 {
-                return Validity::Refused(Refusal::OutOfRange);
-            }
-            return Validity::Valid;
-        }
+    if emission_is_bad(value, scale) {
+        return Validity::Refused(Refusal::OutOfRange);
     }
-    Validity::Refused(Refusal::OutOfRange)
+    Validity::Valid
+}
+
+fn emission_is_bad(value: f32, scale: f32) -> bool
+    ensures { λ r. ⌜ r ≡ emissionBad value scale ⌝ }
+{
+    !is_finite(value) || (!is_finite(scale) || (value < 0.0 || scale < 0.0))
 }
 
 // A record that passes its own check.
@@ -115,6 +108,15 @@ fn checked(record: LightBounds) -> Bounded
 
 // ---- points and spots
 
+fn point_box(position: Vec3) -> Bounds3
+    ensures { λ r. ⌜ r ≡ pointBox position ⌝ }
+{
+    Bounds3 {
+        min: position,
+        max: position,
+    }
+}
+
 fn point_phi(intensity_max: f32, scale: f32) -> f32
     ensures { λ r. ⌜ r ≡ pointPhi «intensity_max» scale ⌝ }
 {
@@ -126,10 +128,7 @@ fn point_bounds(position: Vec3, intensity_max: f32, scale: f32) -> Bounded
 {
     match validate_emission(intensity_max, scale) {
         Validity::Valid => {
-            let bounds = Bounds3 {
-                min: position,
-                max: position,
-            };
+            let bounds = point_box(position);
             match check(bounds) {
                 Validity::Valid => {
                     let direction = Vec3 {
@@ -137,14 +136,14 @@ fn point_bounds(position: Vec3, intensity_max: f32, scale: f32) -> Bounded
                         y: 0.0,
                         z: 1.0,
                     };
-                    checked(LightBounds {
+                    checked(LightBounds::new(
                         bounds,
                         direction,
-                        phi: point_phi(intensity_max, scale),
-                        cos_theta_o: MINUS_ONE,
-                        cos_theta_e: COS_HALF_PI,
-                        two_sided: false,
-                    })
+                        point_phi(intensity_max, scale),
+                        MINUS_ONE,
+                        COS_HALF_PI,
+                        false,
+                    ))
                 }
                 Validity::Refused(why) => Bounded::Refused(why),
             }
@@ -158,13 +157,16 @@ fn falloff(cos_theta_o: f32, cos_falloff_end: f32) -> f32
     ensures { λ r. ⌜ r ≡ falloffOf «cos_theta_o» «cos_falloff_end» ⌝ }
 {
     let cos_theta_e = cos(acos(cos_falloff_end) - acos(cos_theta_o));
-    if cos_theta_e == 1.0 {
-        if cos_theta_o == cos_falloff_end {
-            return cos_theta_e;
-        }
+    if too_narrow(cos_theta_e, cos_theta_o, cos_falloff_end) {
         return 0.999;
     }
     cos_theta_e
+}
+
+fn too_narrow(cos_theta_e: f32, cos_theta_o: f32, cos_falloff_end: f32) -> bool
+    ensures { λ r. ⌜ r ≡ tooNarrow «cos_theta_e» «cos_theta_o» «cos_falloff_end» ⌝ }
+{
+    cos_theta_e == 1.0 && cos_theta_o != cos_falloff_end
 }
 
 fn spot_bounds(
@@ -179,16 +181,14 @@ fn spot_bounds(
 {
     match validate_emission(intensity_max, scale) {
         Validity::Valid => {
-            if is_cosine(cos_theta_o) {
-                if is_cosine(cos_falloff_end) {
-                    return spot_record(
-                        position,
-                        direction,
-                        point_phi(intensity_max, scale),
-                        cos_theta_o,
-                        cos_falloff_end,
-                    );
-                }
+            if are_cosines(cos_theta_o, cos_falloff_end) {
+                return spot_record(
+                    position,
+                    direction,
+                    point_phi(intensity_max, scale),
+                    cos_theta_o,
+                    cos_falloff_end,
+                );
             }
             Bounded::Refused(Refusal::OutOfRange)
         }
@@ -206,20 +206,17 @@ fn spot_record(
 ) -> Bounded
     ensures { λ r. ⌜ bounded r ≡ spotRecord position direction phi «cos_theta_o» «cos_falloff_end» ⌝ }
 {
-    let bounds = Bounds3 {
-        min: position,
-        max: position,
-    };
+    let bounds = point_box(position);
     match check(bounds) {
         Validity::Valid => match normalize(direction) {
-            Direction::Unit(unit) => checked(LightBounds {
+            Direction::Unit(unit) => checked(LightBounds::new(
                 bounds,
-                direction: unit,
+                unit,
                 phi,
                 cos_theta_o,
-                cos_theta_e: falloff(cos_theta_o, cos_falloff_end),
-                two_sided: false,
-            }),
+                falloff(cos_theta_o, cos_falloff_end),
+                false,
+            )),
             Direction::Refused(why) => Bounded::Refused(why),
         },
         Validity::Refused(why) => Bounded::Refused(why),
@@ -264,21 +261,24 @@ fn triangle_record(emission_max: f32, scale: f32, two_sided: bool, t: AreaTriang
     let bounds = triangle_bounds(t);
     match check(bounds) {
         Validity::Valid => {
-            if is_finite(t.area) {
-                if t.area <= 0.0 {
-                    return Bounded::Refused(Refusal::NoArea);
-                }
-                return faced_record(
-                    bounds,
-                    t.geometric_normal,
-                    group_phi(emission_max, scale, t.area),
-                    two_sided,
-                );
+            if has_no_area(t.area) {
+                return Bounded::Refused(Refusal::NoArea);
             }
-            Bounded::Refused(Refusal::NoArea)
+            faced_record(
+                bounds,
+                t.geometric_normal,
+                group_phi(emission_max, scale, t.area),
+                two_sided,
+            )
         }
         Validity::Refused(why) => Bounded::Refused(why),
     }
+}
+
+fn has_no_area(area: f32) -> bool
+    ensures { λ r. ⌜ r ≡ noArea area ⌝ }
+{
+    !is_finite(area) || area <= 0.0
 }
 
 fn faced_record(bounds: Bounds3, normal: Vec3, phi: f32, two_sided: bool) -> Bounded
@@ -287,14 +287,14 @@ fn faced_record(bounds: Bounds3, normal: Vec3, phi: f32, two_sided: bool) -> Bou
     match normalize(normal) {
         Direction::Unit(direction) => {
             if is_finite_vec(direction) {
-                return checked(LightBounds {
+                return checked(LightBounds::new(
                     bounds,
                     direction,
                     phi,
-                    cos_theta_o: 1.0,
-                    cos_theta_e: COS_HALF_PI,
+                    1.0,
+                    COS_HALF_PI,
                     two_sided,
-                });
+                ));
             }
             Bounded::Refused(Refusal::NoDirection)
         }
@@ -313,10 +313,7 @@ fn grown(
     ensures { λ r. ⌜ bounded r ≡ triangleRecord «emission_max» scale «two_sided» t then joinNext (given existing) ⌝ }
 {
     match triangle_record(emission_max, scale, two_sided, t) {
-        Bounded::Bounds(current) => match union(existing, current) {
-            Joined::Whole(record) => Bounded::Bounds(record),
-            Joined::Refused(why) => Bounded::Refused(why),
-        },
+        Bounded::Bounds(current) => union(existing, current),
         Bounded::Refused(why) => Bounded::Refused(why),
     }
 }

@@ -1,16 +1,20 @@
 // The lamp list, read lamp by lamp (specs/LampList.antt).
 ghost use mathlib.Core.Path.{_≡_};
 ghost use mathlib.Core.Bool.{cond, _&&_};
-ghost use Prim.Native.Nat.{_+_};
-ghost use lib.Dec.{leb};
+ghost use Prim.Native.Nat.{_+_, _≤_};
+ghost use lib.Dec.{leb, eqb};
 ghost use lib.ListN.{length, getD};
-ghost use Rattle.words.specs.Answers.{given, refused};
-ghost use Rattle.light_bounds.specs.RecordWords.{sideKnown};
-ghost use Rattle.lamps.specs.LampList.{lampAt, step, trianglesOf, handle, pointWords, spotWords, groupWords, groupEnd, pointAt, spotAt, groupAt};
-use light_bounds::record_words::is_side;
+ghost use Rattle.words.specs.Answers.{given, refused, count, counted};
+ghost use Rattle.lamps.specs.LampList.{firstLamp, lampAt, step, trianglesOf, handle, pointWords, spotWords, groupWords, groupEnd, groupFits, alone as aloneOf, pointAt, spotAt, groupAt, listSideKnown, lampList, placedLamps};
 use light_bounds::record_words::vec_at;
 use light_bounds::vecmath::Vec3;
+use words::answers::Counted;
 use words::floats::f32_of_word;
+use words::heads::handle_of;
+use words::heads::kind_of;
+use words::limits::crowded;
+use words::limits::fits;
+use words::places::wide;
 use words::places::word_or_zero;
 use words::refusals::Refusal;
 
@@ -69,7 +73,7 @@ pub enum Step {
 impl Cursor {
     // The first lamp, behind the count.
     pub fn new() -> Self
-        ensures { λ r. ⌜ r .at ≡ 1 ⌝ }
+        ensures { λ r. ⌜ r ≡ firstLamp ⌝ }
     {
         Cursor { at: 1 }
     }
@@ -79,7 +83,7 @@ impl Cursor {
         ensures { λ r. ⌜ step r ≡ lampAt (now (list .entry)) (self .at) ⌝ }
     {
         let at = self.at;
-        let kind = word_or_zero(list, at) / 0x4000_0000;
+        let kind = kind_of(word_or_zero(list, at));
         if kind == 1 {
             return point_at(list, at);
         }
@@ -101,20 +105,15 @@ impl Reading {
         let from = self.triangles;
         let next = self.next;
         let to = next.at;
-        if from <= to {
-            if to <= list.len() {
-                &list[from..to]
-            } else {
-                &list[..0]
-            }
-        } else {
-            &list[..0]
+        if to < from || list.len() < to {
+            return &list[..0];
         }
+        &list[from..to]
     }
 }
 
 // Its handle.
-pub fn handle_of(lamp: Lamp) -> u32
+pub fn lamp_handle(lamp: Lamp) -> u32
     ensures { λ r. ⌜ r ≡ handle lamp ⌝ }
 {
     match lamp {
@@ -142,41 +141,56 @@ pub fn handle_of(lamp: Lamp) -> u32
     }
 }
 
+// ---- one lamp
+
+// A lamp without triangles that ends before `end`.
+fn alone(lamp: Lamp, end: usize) -> Reading
+    ensures { λ r. ⌜ r ≡ aloneOf lamp end ⌝ }
+{
+    Reading {
+        lamp,
+        triangles: end,
+        next: Cursor { at: end },
+    }
+}
+
 fn point_at(list: &[u32], at: usize) -> Step
     ensures { λ r. ⌜ step r ≡ cond (leb (at + pointWords) (length (now (list .entry)))) (given (pointAt (now (list .entry)) at)) (refused 1) ⌝ }
 {
-    if list.len() < POINT_WORDS {
-        return Step::Refused(Refusal::Ragged);
+    if fits(list.len(), at, POINT_WORDS) {
+        return Step::Read(read_point(list, at));
     }
-    if list.len() - POINT_WORDS < at {
-        return Step::Refused(Refusal::Ragged);
-    }
+    Step::Refused(Refusal::Ragged)
+}
+
+fn read_point(list: &[u32], at: usize) -> Reading
+    requires { ⌜ at + pointWords ≤ length (now list) ⌝ }
+    ensures { λ r. ⌜ r ≡ pointAt (now (list .entry)) at ⌝ }
+{
     let lamp = Lamp::Point {
-        handle: list[at] % 0x4000_0000,
+        handle: handle_of(list[at]),
         world_position: vec_at(list, at + 1),
         intensity_max: f32_of_word(list[at + 4]),
         scale: f32_of_word(list[at + 5]),
     };
-    Step::Read(Reading {
-        lamp,
-        triangles: at + POINT_WORDS,
-        next: Cursor {
-            at: at + POINT_WORDS,
-        },
-    })
+    alone(lamp, at + POINT_WORDS)
 }
 
 fn spot_at(list: &[u32], at: usize) -> Step
     ensures { λ r. ⌜ step r ≡ cond (leb (at + spotWords) (length (now (list .entry)))) (given (spotAt (now (list .entry)) at)) (refused 1) ⌝ }
 {
-    if list.len() < SPOT_WORDS {
-        return Step::Refused(Refusal::Ragged);
+    if fits(list.len(), at, SPOT_WORDS) {
+        return Step::Read(read_spot(list, at));
     }
-    if list.len() - SPOT_WORDS < at {
-        return Step::Refused(Refusal::Ragged);
-    }
+    Step::Refused(Refusal::Ragged)
+}
+
+fn read_spot(list: &[u32], at: usize) -> Reading
+    requires { ⌜ at + spotWords ≤ length (now list) ⌝ }
+    ensures { λ r. ⌜ r ≡ spotAt (now (list .entry)) at ⌝ }
+{
     let lamp = Lamp::Spot {
-        handle: list[at] % 0x4000_0000,
+        handle: handle_of(list[at]),
         world_position: vec_at(list, at + 1),
         direction: vec_at(list, at + 4),
         intensity_max: f32_of_word(list[at + 7]),
@@ -184,50 +198,109 @@ fn spot_at(list: &[u32], at: usize) -> Step
         cos_theta_o: f32_of_word(list[at + 9]),
         cos_falloff_end: f32_of_word(list[at + 10]),
     };
-    Step::Read(Reading {
-        lamp,
-        triangles: at + SPOT_WORDS,
-        next: Cursor {
-            at: at + SPOT_WORDS,
-        },
-    })
+    alone(lamp, at + SPOT_WORDS)
 }
 
-// The triangle count may be anything up to 2^32 - 1: it is held against what is left of the list by division.
 fn group_at(list: &[u32], at: usize) -> Step
-    ensures { λ r. ⌜ step r ≡ cond (leb (at + groupWords) (length (now (list .entry))) && (sideKnown (getD (now (list .entry)) (at + 3) 0) && leb (groupEnd (now (list .entry)) at) (length (now (list .entry))))) (given (groupAt (now (list .entry)) at)) (refused 1) ⌝ }
+    ensures { λ r. ⌜ step r ≡ cond (leb (at + groupWords) (length (now (list .entry))) && groupFits (now (list .entry)) at) (given (groupAt (now (list .entry)) at)) (refused 1) ⌝ }
 {
-    if list.len() < GROUP_WORDS {
-        return Step::Refused(Refusal::Ragged);
-    }
-    if list.len() - GROUP_WORDS < at {
-        return Step::Refused(Refusal::Ragged);
-    }
-    let side = list[at + 3];
-    if is_side(side) {
-        let triangles = at + GROUP_WORDS;
-        let count = wide(list[at + 4]);
-        if count <= (list.len() - triangles) / TRIANGLE_WORDS {
-            let lamp = Lamp::AreaGroup {
-                handle: list[at] % 0x4000_0000,
-                emission_max: f32_of_word(list[at + 1]),
-                scale: f32_of_word(list[at + 2]),
-                two_sided: side == 1,
-            };
-            return Step::Read(Reading {
-                lamp,
-                triangles,
-                next: Cursor {
-                    at: triangles + TRIANGLE_WORDS * count,
-                },
-            });
-        }
+    if fits(list.len(), at, GROUP_WORDS) {
+        return whole_group(list, at);
     }
     Step::Refused(Refusal::Ragged)
 }
 
-fn wide(w: u32) -> usize
-    ensures { λ r. ⌜ r ≡ w ⌝ }
+fn whole_group(list: &[u32], at: usize) -> Step
+    requires { ⌜ at + groupWords ≤ length (now list) ⌝ }
+    ensures { λ r. ⌜ step r ≡ cond (groupFits (now (list .entry)) at) (given (groupAt (now (list .entry)) at)) (refused 1) ⌝ }
 {
-    w as usize
+    if group_fits(list, at) {
+        return Step::Read(read_group(list, at));
+    }
+    Step::Refused(Refusal::Ragged)
+}
+
+// Whether a group's side is known and its triangles lie in the list. Their count may be anything up to 2^32 - 1: it is held against what is left by division.
+fn group_fits(list: &[u32], at: usize) -> bool
+    requires { ⌜ at + groupWords ≤ length (now list) ⌝ }
+    ensures { λ r. ⌜ r ≡ groupFits (now (list .entry)) at ⌝ }
+{
+    is_list_side(list[at + 3])
+        && wide(list[at + 4]) <= (list.len() - (at + GROUP_WORDS)) / TRIANGLE_WORDS
+}
+
+// Whether a group's side word is known: the list's own test, beside that of a record's side word.
+fn is_list_side(w: u32) -> bool
+    ensures { λ r. ⌜ r ≡ listSideKnown w ⌝ }
+{
+    w <= 1
+}
+
+fn read_group(list: &[u32], at: usize) -> Reading
+    requires { ⌜ at + groupWords ≤ length (now list) ⌝ }
+    requires { ⌜ groupEnd (now list) at ≤ length (now list) ⌝ }
+    ensures { λ r. ⌜ r ≡ groupAt (now (list .entry)) at ⌝ }
+{
+    let triangles = at + GROUP_WORDS;
+    let lamp = Lamp::AreaGroup {
+        handle: handle_of(list[at]),
+        emission_max: f32_of_word(list[at + 1]),
+        scale: f32_of_word(list[at + 2]),
+        two_sided: list[at + 3] == 1,
+    };
+    let end = triangles + TRIANGLE_WORDS * wide(list[at + 4]);
+    Reading {
+        lamp,
+        triangles,
+        next: Cursor { at: end },
+    }
+}
+
+// ---- the list
+
+// How many lamps a list has: over the limits is refusal 2, a wrong layout, kind or side 1, a handle that is not its place 4. The lamps' figures are not judged.
+pub fn check_list(list: &[u32]) -> Counted
+    ensures { λ r. ⌜ counted r ≡ count (lampList (now (list .entry))) ⌝ }
+{
+    if crowded(list) {
+        return Counted::Refused(Refusal::Crowded);
+    }
+    check_lamps(list)
+}
+
+// As many lamps as word 0 says, then the list's end; then the handles.
+fn check_lamps(list: &[u32]) -> Counted
+    ensures { λ r. ⌜ counted r ≡ count (placedLamps (now (list .entry))) ⌝ }
+{
+    let m = wide(word_or_zero(list, 0));
+    let mut i: usize = 0;
+    let mut cursor = Cursor::new();
+    let mut placed = true;
+    while i < m {
+        match cursor.next(list) {
+            Step::Read(reading) => {
+                let lamp = reading.lamp;
+                placed = still_placed(placed, lamp_handle(lamp), i);
+                cursor = reading.next;
+            }
+            Step::Refused(why) => {
+                return Counted::Refused(why);
+            }
+        }
+        i += 1;
+    }
+    if cursor.at == list.len() {
+        if placed {
+            return Counted::Count(m);
+        }
+        return Counted::Refused(Refusal::Misplaced);
+    }
+    Counted::Refused(Refusal::Ragged)
+}
+
+// Whether every handle so far is its place, this one too.
+fn still_placed(placed: bool, handle: u32, place: usize) -> bool
+    ensures { λ r. ⌜ r ≡ placed && eqb handle place ⌝ }
+{
+    placed && handle as usize == place
 }

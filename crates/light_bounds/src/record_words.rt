@@ -18,6 +18,9 @@ use words::places::word_or_zero;
 // The words of a record.
 pub const RECORD_WORDS: usize = 13;
 
+// The place of the side in a record.
+pub const SIDE_PLACE: usize = 12;
+
 // What stands at a place: a record, or none, where there are too few words or the side is unknown.
 pub enum Found {
     Record(LightBounds),
@@ -93,7 +96,7 @@ fn record_at(words: &[u32], at: usize) -> Found
     requires { ⌜ at + recordWords ≤ length (now words) ⌝ }
     ensures { λ r. ⌜ ((n : ℕ) → found n r ≡ recordAt n (now (words .entry)) at) ⌝ }
 {
-    let side = words[at + 12];
+    let side = words[at + SIDE_PLACE];
     if is_side(side) {
         return Found::Record(LightBounds::new(
             box_at(words, at),
@@ -121,7 +124,7 @@ fn record_at_bytes(bytes: &[u8], at: usize) -> Found
     requires { ⌜ at + recordWords ≤ length (now bytes) / 4 ⌝ }
     ensures { λ r. ⌜ ((n : ℕ) → found n r ≡ recordAt n (wordsOf (now (bytes .entry))) at) ⌝ }
 {
-    let side = word_at(bytes, at + 12);
+    let side = word_at(bytes, at + SIDE_PLACE);
     if is_side(side) {
         let min = vec_at_bytes(bytes, at);
         let max = vec_at_bytes(bytes, at + 3);

@@ -9,7 +9,7 @@ use native.Mathlib.Numerals.{add-one}
 use native.Mathlib.Omega.{arith}
 use lib.Dec.{T}
 use lib.ListN.{length, getD, drop, length-append}
-use lib.Seq.{sets, length-sets, drop-cons, drop-drop, drop-nil, drop-append-add}
+use lib.Seq.{sets, length-sets, sets-eq, drop-cons, drop-drop, drop-nil, drop-append-add}
 use Rattle.words.specs.Answers.{Answer, given, refused, _then_}
 use Rattle.words.specs.Rows.{rowsFrom, below, Walk, gathered}
 use Rattle.words.proofs.Stores.{stored}
@@ -104,6 +104,17 @@ module _ {A : Type 0} (row : ℕ → A → List ℕ) where
           same = length-sets l at (row (length done) a) ∙ w .same;
           is = put ∙ rw (end, rows-snoc 0 done a, z, append-assoc head (rowsFrom row 0 done) (row (length done) a));
         }
+
+    -- the head may as well be written before
+    pub written-under : {head : List ℕ} {done : List A} {l : List ℕ} (d : List ℕ) → Written head done (sets d 0 head) l → length head ≤ length d
+        → Written head done d l
+    written-under {head} {done} {l} d w h =
+        let n = length head + width * length done in
+        let e : n ≡ length head + (n - length head) = omega arith in
+        let z : 0 + length head ≡ length head = omega arith in
+        let behind : drop n (sets d 0 head) ≡ drop n d =
+        rw (sets-eq head d 0 (omega arith), e, z) (drop-append-add head (drop (length head) d) (n - length head) ∙ drop-drop (n - length head) (length head) d) in
+        record { same = w .same ∙ length-sets d 0 head; is = w .is ∙ rw behind }
 
     -- what lies behind the rows stays
     pub written-behind : {head : List ℕ} {done : List A} {d l : List ℕ} (n : ℕ) → Written head done d l → length head + width * length done ≤ n

@@ -1,16 +1,21 @@
--- `lamps::block::block_record` meets its contract. Assumes nothing.
-use borrow.Author.Needs.{needs}
+-- `lamps::block::block_record` meets its contract: past the end there is none. Assumes nothing.
 use Prim.Native.Nat.{_+_, _*_}
 use mathlib.Core.Path.{sym}
 use denote.Ref.{now}
 use native.Mathlib.Omega.{arith}
-use Rattle.light_bounds.specs.RecordLaws.{recordAt-past}
+use borrow.Author.Tests.{lt-leb}
+use lib.ListN.{length}
+use Rattle.light_bounds.proofs.RecordPlaces.{recordAt-past}
+use Rattle.lamps.specs.Block.{recordPlace}
+use borrow.Author.Needs.{needs}
 use Rattle.lamps.proofs.block.block_record.Statement.{statement}
 use Rattle.lamps.proofs.block.block_record.Tie as tie
 
 returns : tie.Need-returns
-returns c = sym (recordAt-past (now (c .before .before .args .block)) (2 + 14 * c .before .before .args .place) (omega arith))
+returns c =
+    let args = c .before .before .args in
+    sym (recordAt-past 1 (now (args .block)) (recordPlace (args .place)) (lt-leb (recordPlace (args .place) + 13) (length (now (args .block))) (omega arith)))
 
 pub block-record-spec : {M : Type 1} → statement M
 block-record-spec =
-    tie.close (tie.spec returns (λ c. search needs) (λ c. search needs) (λ c κs. search needs) (λ c. search needs))
+    tie.close (tie.spec returns (λ c. search needs) (λ c. search needs) (λ c κs. search needs) (λ c. c .read-record .ensures 1))

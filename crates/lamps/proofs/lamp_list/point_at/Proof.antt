@@ -1,31 +1,19 @@
--- `lamps::lamp_list::point_at` meets its contract. Assumes nothing.
+-- `lamps::lamp_list::point_at` meets its contract: there are words enough, or it is ragged. Assumes nothing.
+use mathlib.Core.Path.{ap, sym, _∙_}
+use borrow.Author.Tests.{leb-true}
+use Rattle.words.specs.Answers.{given}
 use borrow.Author.Needs.{needs}
-use Prim.Native.Nat.{_+_}
-use denote.Ref.{now}
-use lib.ListN.{length}
-use borrow.Author.Tests.{le-leb, lt-leb}
-use native.Mathlib.Omega.{arith}
 use Rattle.lamps.proofs.lamp_list.point_at.Statement.{statement}
 use Rattle.lamps.proofs.lamp_list.point_at.Tie as tie
 
+read-point-requires : tie.Need-read-point-requires
+read-point-requires c κs = leb-true _ _ (sym (c .before .fits2 .ensures) ∙ c .if1 .taken)
+
 returns : tie.Need-returns
-returns c = rw (lt-leb (c .before .before .args .at + 6) (length (now (c .before .before .args .list))) (omega arith))
+returns c = rw (← c .before .before .fits2 .ensures, c .before .if1 .taken) (ap given (c .read-point .ensures))
 
 returns-2 : tie.Need-returns-2
-returns-2 c = rw (lt-leb (c .before .before .before .args .at + 6) (length (now (c .before .before .before .args .list))) (omega arith))
-
-returns-3 : tie.Need-returns-3
-returns-3 c =
-    let args = c .before .before .before .before .before .before .before .before .before .args in
-    rw (
-      le-leb (args .at + 6) (length (now (args .list))) (omega arith),
-      ← c .before .before .before .before .vec-at .ensures,
-      ← c .before .before .f32-of-word .ensures,
-      ← c .f32-of-word2 .ensures,
-    )
+returns-2 c = rw (← c .before .fits2 .ensures, c .if1 .left)
 
 pub point-at-spec : {M : Type 1} → statement M
-point-at-spec =
-    tie.close (tie.spec returns (λ c. search needs) returns-2 (λ c. search needs) (λ c. search needs) (λ c. search needs)
-      (λ c κs. search needs) (λ c. search needs) (λ c. search needs) (λ c. search needs) (λ c κs. search needs) (λ c. search needs)
-      (λ c. search needs) (λ c. search needs) (λ c κs. search needs) (λ c. search needs) (λ c. search needs) returns-3)
+point-at-spec = tie.close (tie.spec (λ c κs. search needs) read-point-requires returns returns-2)

@@ -1,0 +1,11 @@
+-- `lamps::lamp_list::still_placed` meets its contract: only where every one before is. Assumes nothing.
+use mathlib.Core.Path.{refl}
+use borrow.Author.Needs.{needs}
+use Rattle.lamps.proofs.lamp_list.still_placed.Statement.{statement}
+use Rattle.lamps.proofs.lamp_list.still_placed.Tie as tie
+
+returns : tie.Need-returns
+returns c = rw (c .if1 .taken)
+
+pub still-placed-spec : {M : Type 1} → statement M
+still-placed-spec = tie.close (tie.spec returns (λ c. search needs))
