@@ -1,4 +1,5 @@
--- The game of AliasTable.antt in words: how the two stacks stand in the lent work, and what each step of the code does to the words. Assumes nothing.
+-- The game of AliasTable.antt in words: how the two stacks stand in the lent work, and what each step of the code does to the words.
+-- Definitions only. Assumes nothing.
 use Prim.Native.Nat.{ℕ, zero, suc, _+_, _*_, _≤_, _<_}
 use mathlib.Core.Path.{_≡_}
 use mathlib.Core.Bool.{Bool, cond}
@@ -6,6 +7,7 @@ use mathlib.Core.List.{List, [], _∷_, _++_, map}
 use lib.Ieee.{Float, binary32, binary64, toBits}
 use lib.ListN.{length, getD, set, drop, replicate}
 use Rattle.ieee.specs.Single.{single, zero as zerof, one}
+use Rattle.words.specs.Limits.{maxLamps}
 use Rattle.alias_table.specs.AliasTable.{Bin, Entry, State, anyBad, sumFrom, start, turns, leftover, finish, binWords}
 use Rattle.alias_table.specs.declared.Sums.{Sums}
 use Rattle.alias_table.specs.declared.Sums.the-variants.{Of, Bad}
@@ -73,7 +75,7 @@ pub record Game (m : ℕ) (binsRest workRest : List ℕ) (s : State) (bins work 
 -- ---- what each step asks, and what it does
 
 pub record Room (m : ℕ) (bins work : List ℕ) : Type 0 where
-  pub few : m ≤ 4096
+  pub few : m ≤ maxLamps
   pub bins-room : 3 * m ≤ length bins
   pub work-room : 4 * m ≤ length work
 

@@ -5,7 +5,9 @@ use mathlib.Core.Path.{_∙_}
 use denote.Ref.{now}
 use lib.ListN.{length}
 use Rattle.alias_table.specs.Stacks.{weighted}
-use Rattle.alias_table.specs.StackLaws.{weighted-length, playing, game-over, left-under, wholed-under, left-over, wholed-over, played-is, zeroed}
+use Rattle.alias_table.proofs.WeightLaws.{weighted-length}
+use Rattle.alias_table.proofs.LoopLaws.{playing, game-over, left-under, wholed-under, left-over, wholed-over, played-is}
+use Rattle.words.proofs.Reserves.{zeroed}
 use native.Mathlib.Omega.{arith}
 use Rattle.alias_table.proofs.build.Statement.{statement}
 use Rattle.alias_table.proofs.build.Tie as tie

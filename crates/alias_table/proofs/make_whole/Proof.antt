@@ -5,7 +5,7 @@ use denote.Ref.{now}
 use lib.ListN.{length, getD, length-set}
 use Rattle.alias_table.specs.AliasTable.{leftover}
 use Rattle.alias_table.specs.Stacks.{stackAt, Wholed}
-use Rattle.alias_table.specs.StackLaws.{whole-next, left-in}
+use Rattle.alias_table.proofs.LoopLaws.{whole-next, left-in}
 use native.Mathlib.Omega.{arith}
 use Rattle.alias_table.proofs.make_whole.Statement.{statement}
 use Rattle.alias_table.proofs.make_whole.Tie as tie

@@ -7,7 +7,8 @@ use denote.Ref.{now}
 use lib.Ieee.{inFloat}
 use lib.ListN.{length}
 use Rattle.alias_table.specs.Stacks.{weighted}
-use Rattle.alias_table.specs.StackLaws.{Starting, starting-none, starting-next, starting-all, weighted-length}
+use Rattle.alias_table.proofs.LoopLaws.{Starting, starting-none, starting-next, starting-all}
+use Rattle.alias_table.proofs.WeightLaws.{weighted-length}
 use native.Mathlib.Omega.{arith}
 use Rattle.alias_table.proofs.start.Statement.{statement}
 use Rattle.alias_table.proofs.start.Tie as tie

@@ -1,0 +1,307 @@
+-- The game's loops: a turn, and the turns on their way to the last state; the start, bin by bin; what is left over; and from the start to the end.
+-- Assumes nothing.
+use Prim.Native.Nat.{ℕ, zero, suc, _+_, _-_, _*_, _≤_, _<_}
+use mathlib.Core.Path.{_≡_, refl, sym, ap, subst, _∙_}
+use mathlib.Core.Bool.{Bool, true, false, cond}
+use mathlib.Core.List.{List, [], _∷_, _++_, map}
+use mathlib.Core.Logic.{_⊎_, inl, inr, ⊎-elim}
+use native.Mathlib.Nat.{zero-add}
+use native.Mathlib.Numerals.{add-one}
+use native.Mathlib.Omega.{arith}
+use lib.IntN.{pos}
+use lib.Ieee.{Float, binary32, ofBits, toBits, ofInt, lt}
+use lib.Ieee.Fits.{mul-fits, sub-fits}
+use lib.ListN.{length, getD, set, take, drop, length-set, length-map, length-append, List·getD-map, drop-of-length-le}
+use lib.Seq.{sets, drop-cons, take-all, take-suc, length-take-le}
+use Rattle.ieee.specs.Single.{_⊕_, _⊖_, _⊗_, _⊘_, single, zero as zerof, one}
+use Rattle.words.specs.Limits.{maxLamps}
+use Rattle.words.proofs.RowLaws.{Written, written-none, written-one}
+use Rattle.alias_table.specs.AliasTable.{Bin, Entry, State, none, total, bin, push, pushAll, start}
+use Rattle.alias_table.specs.AliasTable.{update, settle, turned, turn, turns, leftover, finish, binRow, binWords}
+use Rattle.alias_table.specs.GameLaws.{turns-stay, push-bins, start-bins, length-update, length-leftover}
+use Rattle.alias_table.specs.Stacks.{stackAt, put, top, Game, Stacks, Room, Started, Playing, Played, Left, Wholed, played}
+use Rattle.alias_table.proofs.StackLaws.{bin-width, length-binWords, settle-words, whole-words, stacks-push, stacks-none, popped, stack-top}
+
+-- ---- a turn
+
+-- where the tops of the stacks stand
+abbrev pub underTop : ℕ → ℕ
+underTop un = 2 * (un - 1)
+
+abbrev pub overTop : ℕ → ℕ → ℕ
+overTop m ov = 2 * m + 2 * (ov - 1)
+
+-- what the over bin has left
+abbrev pub left : List ℕ → ℕ → ℕ → Float
+left work u o = single (getD work u 0) ⊕ single (getD work o 0) ⊖ one
+
+-- the settled bin's words
+abbrev pub settled : List ℕ → List ℕ → ℕ → ℕ → List ℕ
+settled bins work u o = set (set bins (3 * getD work (u + 1) 0) (getD work u 0)) (3 * getD work (u + 1) 0 + 2) (getD work (o + 1) 0)
+
+module _ {m : ℕ} {binsRest workRest : List ℕ} {s : State} {bins work : List ℕ} (un ov : ℕ) (g : Game m binsRest workRest s bins work un ov)
+    (u : 0 < un) (o : 0 < ov) where
+  index : ℕ
+  index = getD work (underTop un + 1) 0
+
+  weight : Float
+  weight = single (getD work (underTop un) 0)
+
+  other : ℕ
+  other = getD work (overTop m ov + 1) 0
+
+  bs : List Bin
+  unfolding index weight other
+  bs = update (s .bins) index (settle weight other)
+
+  turned-is : turn s ≡ push (record { weight = left work (underTop un) (overTop m ov); index = getD work (overTop m ov + 1) 0 })
+      (record { bins = bs; under = stackAt 0 work (un - 1); over = stackAt (2 * m) work (ov - 1) })
+  unfolding bs turned
+  turned-is = rw (← g .stacks .under-are, ← g .stacks .over-are, stack-top 0 work un u, stack-top (2 * m) work ov o, zero-add)
+
+  low-index : getD work (underTop un + 1) 0 < m
+  low-index = rw zero-add at (g .stacks .under-sound (un - 1) (omega arith) .0)
+
+  settled-is : settled bins work (underTop un) (overTop m ov) ≡ binWords bs ++ binsRest
+  unfolding bs
+  settled-is =
+      let own-word : toBits binary32 weight ≡ getD work (underTop un) 0 = rw zero-add at (g .stacks .under-sound (un - 1) (omega arith) .1) in
+      rw (g .bins-are) (rw own-word at (settle-words 0 (s .bins) index weight other binsRest (rw (g .count) low-index)))
+
+  count-is : length bs ≡ m
+  unfolding bs
+  count-is = length-update (s .bins) index (settle weight other) ∙ g .count
+
+  pub settle-in : 3 * getD work (underTop un + 1) 0 + 2 < length bins
+  settle-in = rw (g .bins-are, length-append, length-binWords, g .count) (omega (arith, low-index))
+
+  pub turn-next : (below : Bool) → lt (left work (underTop un) (overTop m ov)) one ≡ below
+      → Game m binsRest workRest (turn s) (settled bins work (underTop un) (overTop m ov))
+      (put work (top m (un - 1) (ov - 1) below) (left work (underTop un) (overTop m ov)) (getD work (overTop m ov + 1) 0))
+      (cond below un (un - 1)) (cond below (ov - 1) ov)
+  turn-next below l =
+      let next : State = record { bins = bs; under = stackAt 0 work (un - 1); over = stackAt (2 * m) work (ov - 1) } in
+      let e : Entry = record { weight = left work (underTop un) (overTop m ov); index = getD work (overTop m ov + 1) 0 } in
+      let back-under : un - 1 + 1 ≡ un = omega arith in
+      let back-over : ov - 1 + 1 ≡ ov = omega arith in
+      rw turned-is
+      (record {
+        bins-are = settled-is ∙ ap (λ (l : List Bin). binWords l ++ binsRest) (sym (push-bins e next));
+        count = ap (λ (l : List Bin). length l) (push-bins e next) ∙ count-is;
+        stacks =
+            rw (back-under, back-over) at (stacks-push (popped un ov bs (g .stacks)) (e .weight) (e .index) (sub-fits binary32 _ one)
+            (g .stacks .over-sound (ov - 1) (omega arith) .0) (omega (arith, g .stacks .together)) below l);
+      })
+
+-- a game on its way to its last state: as many turns are left as bins, at least
+pub record Reached (m : ℕ) (binsRest workRest : List ℕ) (last : State) (bins work : List ℕ) (under over : ℕ) : Type 0 where
+  pub state : State
+  pub to-go : ℕ
+  pub enough : under + over ≤ to-go
+  pub then : turns to-go state ≡ last
+  pub game : Game m binsRest workRest state bins work under over
+
+reached-next : {m : ℕ} {binsRest workRest : List ℕ} {last : State} {bins work bins′ work′ : List ℕ} {un ov un′ ov′ : ℕ}
+    (r : Reached m binsRest workRest last bins work un ov) → un′ + ov′ < un + ov → Game m binsRest workRest (turn (r .state)) bins′ work′ un′ ov′
+    → Reached m binsRest workRest last bins′ work′ un′ ov′
+unfolding turns
+reached-next {m} {binsRest} {workRest} {last} {bins} {work} {bins′} {work′} {un} {ov} {un′} {ov′} r less g = go (r .to-go) (r .enough) (r .then)
+  where
+    go : (k : ℕ) → un + ov ≤ k → turns k (r .state) ≡ last → Reached m binsRest workRest last bins′ work′ un′ ov′
+    go zero h t = absurd (omega arith)
+    go (suc k) h t = record { state = turn (r .state); to-go = k; enough = omega arith; then = t; game = g }
+
+reached-last : {m : ℕ} {binsRest workRest : List ℕ} {last : State} {bins work : List ℕ} {un ov : ℕ} → Reached m binsRest workRest last bins work un ov
+    → (un ≡ 0) ⊎ (ov ≡ 0) → Game m binsRest workRest last bins work un ov
+unfolding stackAt
+reached-last {m} {binsRest} {workRest} {last} {bins} {work} {un} {ov} r h =
+    subst (λ (t : State). Game m binsRest workRest t bins work un ov) (sym (turns-stay (r .to-go) (r .state) (⊎-elim under over h)) ∙ r .then) (r .game)
+  where
+    under : un ≡ 0 → (r .state .under ≡ []) ⊎ (r .state .over ≡ [])
+    under e = inl (sym (r .game .stacks .under-are) ∙ rw e)
+
+    over : ov ≡ 0 → (r .state .under ≡ []) ⊎ (r .state .over ≡ [])
+    over e = inr (sym (r .game .stacks .over-are) ∙ rw e)
+
+-- the turns' loop: whatever the game was where it began, it is on its way
+pub record Going (m : ℕ) (bins₀ work₀ : List ℕ) (under over : ℕ) (bins work : List ℕ) (un ov : ℕ) : Type 0 where
+  pub together : un + ov ≤ m
+  pub room : 4 * m ≤ length work
+  pub same-bins : length bins ≡ length bins₀
+  pub same-work : length work ≡ length work₀
+  pub on : (binsRest workRest : List ℕ) (s : State) → Game m binsRest workRest s bins₀ work₀ under over → Reached m binsRest workRest (turns m s) bins work un ov
+
+pub going-none : {m : ℕ} {bins work : List ℕ} {under over : ℕ} → Playing m bins work under over → Going m bins work under over bins work under over
+going-none {m} (binsRest, workRest, s, g) =
+    record {
+      together = g .stacks .together;
+      room = g .stacks .room;
+      same-bins = refl;
+      same-work = refl;
+      on = λ binsRest workRest s g. record { state = s; to-go = m; enough = g .stacks .together; then = refl; game = g };
+    }
+
+module _ {m : ℕ} {bins₀ work₀ : List ℕ} {under over : ℕ} {bins work : List ℕ} {un ov : ℕ} (g : Going m bins₀ work₀ under over bins work un ov) where
+  pub going-in : Playing m bins₀ work₀ under over → 0 < un → 0 < ov → 3 * getD work (underTop un + 1) 0 + 2 < length bins
+  going-in (binsRest, workRest, s, p) u o = settle-in un ov (g .on binsRest workRest s p .game) u o
+
+  pub going-next : 0 < un → 0 < ov → (below : Bool) → lt (left work (underTop un) (overTop m ov)) one ≡ below
+      → Going m bins₀ work₀ under over (settled bins work (underTop un) (overTop m ov))
+      (put work (top m (un - 1) (ov - 1) below) (left work (underTop un) (overTop m ov)) (getD work (overTop m ov + 1) 0))
+      (cond below un (un - 1)) (cond below (ov - 1) ov)
+  going-next u o below l =
+      record {
+        together = omega (arith, less below, g .together);
+        room = simp length-set (g .room);
+        same-bins = simp length-set (g .same-bins);
+        same-work = simp length-set (g .same-work);
+        on = λ binsRest workRest s p.
+            let r = g .on binsRest workRest s p in
+            reached-next r (less below) (turn-next un ov (r .game) u o below l);
+      }
+    where
+      less : (b : Bool) → cond b un (un - 1) + cond b (ov - 1) ov < un + ov
+      less true = omega arith
+      less false = omega arith
+
+  pub going-last : (un ≡ 0) ⊎ (ov ≡ 0) → Played m bins₀ work₀ under over bins work un ov
+  going-last h = λ binsRest workRest s p. reached-last (g .on binsRest workRest s p) h
+
+-- ---- the start
+
+abbrev startWith : ℕ → Float → List Float → State
+startWith m sum ws = pushAll (ofInt binary32 (pos m)) 0 (map (bin sum) ws) (record { bins = map (bin sum) ws; under = []; over = [] })
+
+-- a weight's share, and what it is pushed with
+abbrev pub share : List Float → Float → ℕ → Float
+share ws sum i = getD ws i zerof ⊘ sum
+
+abbrev pub hat : ℕ → List Float → Float → ℕ → Float
+hat m ws sum i = share ws sum i ⊗ ofInt binary32 (pos m)
+
+-- a bin's words at the start
+abbrev pub fresh : List Float → Float → ℕ → List ℕ
+fresh ws sum i = 0 ∷ toBits binary32 (share ws sum i) ∷ none ∷ []
+
+zero-word : toBits binary32 zerof ≡ 0
+unfolding toBits ofBits
+zero-word = refl
+
+-- the first i bins written and pushed
+pub record Starting (m : ℕ) (ws : List Float) (sum : Float) (bins₀ work₀ bins work : List ℕ) (under over i : ℕ) : Type 0 where
+  pub len : length ws ≡ m
+  pub few : m ≤ maxLamps
+  pub bins-room : 3 * m ≤ length bins₀
+  pub all : under + over ≡ i
+  pub some : i ≤ m
+  pub bins-are : Written binRow 3 bin-width [] (take i (map (bin sum) ws)) bins₀ bins
+  pub same : length work ≡ length work₀
+  pub state : State
+  pub stacks : Stacks m (drop (4 * m) work₀) state work under over
+  pub then : pushAll (ofInt binary32 (pos m)) i (drop i (map (bin sum) ws)) state ≡ startWith m sum ws
+
+pub starting-none : {m : ℕ} (ws : List Float) (sum : Float) {bins work : List ℕ} → length ws ≡ m → Room m bins work
+    → Starting m ws sum bins work bins work 0 0 0
+starting-none {m} ws sum {bins} {work} len r =
+    record {
+      len = len;
+      few = r .few;
+      bins-room = r .bins-room;
+      all = refl;
+      some = omega arith;
+      bins-are = written-none binRow 3 bin-width [] bins (omega arith);
+      same = refl;
+      state = record { bins = map (bin sum) ws; under = []; over = [] };
+      stacks = stacks-none m work (map (bin sum) ws) (r .work-room);
+      then = refl;
+    }
+
+module _ {m : ℕ} {ws : List Float} {sum : Float} {bins₀ work₀ bins work : List ℕ} {under over i : ℕ}
+    (g : Starting m ws sum bins₀ work₀ bins work under over i) where
+  pub starting-next : i < m → (below : Bool) → lt (hat m ws sum i) one ≡ below
+      → Starting m ws sum bins₀ work₀ (sets bins (3 * i) (fresh ws sum i)) (put work (top m under over below) (hat m ws sum i) i)
+      (cond below (under + 1) under) (cond below over (over + 1)) (i + 1)
+  unfolding pushAll
+  starting-next h below l =
+      let xs = map (bin sum) ws in
+      let long : i < length xs = rw (length-map, g .len) h in
+      let is : getD xs i (bin sum zerof) ≡ bin sum (getD ws i zerof) = List·getD-map (bin sum) ws i zerof in
+      let done : length (take i xs) ≡ i = length-take-le i xs (omega arith) in
+      record {
+        len = g .len;
+        few = g .few;
+        bins-room = g .bins-room;
+        all = more below;
+        some = omega arith;
+        bins-are =
+            rw (add-one i, take-suc xs i (bin sum zerof) long, is)
+            (rw zero-word at (written-one binRow 3 bin-width (bin sum (getD ws i zerof)) (3 * i) (g .bins-are) (omega arith) (omega (arith, g .bins-room))));
+        same = simp length-set (g .same);
+        state = push (record { weight = hat m ws sum i; index = i }) (g .state);
+        stacks = stacks-push (g .stacks) (hat m ws sum i) i (mul-fits binary32 _ _) h (omega (arith, g .all)) below l;
+        then = rw (add-one i) (rw (drop-cons xs i (bin sum zerof) long, is) at (g .then));
+      }
+    where
+      more : (b : Bool) → cond b (under + 1) under + cond b over (over + 1) ≡ i + 1
+      more true = omega (arith, g .all)
+      more false = omega (arith, g .all)
+
+  pub starting-all : m ≤ i → sum ≡ total ws → Started m ws bins₀ work₀ bins work under over
+  unfolding start pushAll
+  starting-all h t =
+      let xs = map (bin sum) ws in
+      let long : length xs ≡ m = length-map ws (bin sum) ∙ g .len in
+      let none-left : drop i xs ≡ [] = drop-of-length-le xs {i = i} (omega arith) in
+      let all-done : take i xs ≡ xs = take-all i xs (omega arith) in
+      let is : g .state ≡ start ws = rw (none-left, t, ← g .len) at (g .then) in
+      let size : length {A = ℕ} [] + 3 * length xs ≡ 3 * m = omega arith in
+      record {
+        bins-are = rw (start-bins, ← t) (rw (all-done, size) at (g .bins-are .is));
+        count = rw (start-bins, ← t) long;
+        stacks = rw is at (g .stacks);
+      }
+
+-- ---- what is left over
+
+-- one more is whole
+pub whole-next : (bs : List Bin) (binsRest bins work : List ℕ) (base k : ℕ) → bins ≡ binWords (leftover (stackAt base work k) bs) ++ binsRest
+    → getD work (base + 2 * k + 1) 0 < length bs
+    → set bins (3 * getD work (base + 2 * k + 1) 0) 0x3f80_0000 ≡ binWords (leftover (stackAt base work (k + 1)) bs) ++ binsRest
+unfolding leftover stackAt
+whole-next bs binsRest bins work base k e h =
+    rw (e, add-one k) (whole-words 0 (leftover (stackAt base work k) bs) (getD work (base + 2 * k + 1) 0) binsRest (rw length-leftover h))
+
+pub left-in : (bins work : List ℕ) (base n k : ℕ) → Left bins work base n → k < n → 3 * getD work (base + 2 * k + 1) 0 < length bins
+left-in bins work base n k (bs, rest, e, sound, room) h = rw (e, length-append, length-binWords) (omega (arith, sound k h .0))
+
+module _ {m : ℕ} {binsRest workRest : List ℕ} {s : State} {bins work : List ℕ} {un ov : ℕ} (g : Game m binsRest workRest s bins work un ov) where
+  pub left-under : Left bins work 0 un
+  left-under = (s .bins, binsRest, g .bins-are, rw (g .count) (g .stacks .under-sound), omega (arith, g .stacks .room, g .stacks .together))
+
+  pub wholed-under : {bins′ : List ℕ} → Wholed bins work 0 un bins′ → bins′ ≡ binWords (leftover (s .under) (s .bins)) ++ binsRest
+  wholed-under w = rw (← g .stacks .under-are) (w (s .bins) binsRest (g .bins-are) (rw (g .count) (g .stacks .under-sound)))
+
+  over-count : length (leftover (s .under) (s .bins)) ≡ m
+  over-count = length-leftover (s .under) (s .bins) ∙ g .count
+
+  pub left-over : {bins′ : List ℕ} → bins′ ≡ binWords (leftover (s .under) (s .bins)) ++ binsRest → Left bins′ work (2 * m) ov
+  left-over e =
+      (leftover (s .under) (s .bins), binsRest, e, rw over-count (g .stacks .over-sound), omega (arith, g .stacks .room, g .stacks .together))
+
+  pub wholed-over : {bins′ bins″ : List ℕ} → bins′ ≡ binWords (leftover (s .under) (s .bins)) ++ binsRest → Wholed bins′ work (2 * m) ov bins″
+      → bins″ ≡ binWords (finish s) ++ binsRest
+  wholed-over e w = rw (← g .stacks .over-are) (w (leftover (s .under) (s .bins)) binsRest e (rw over-count (g .stacks .over-sound)))
+
+-- ---- from the start to the end
+
+module _ (ws : List Float) (bins₀ work₀ : List ℕ) {bins work : List ℕ} {un ov : ℕ} (m : ℕ) (s : Started m ws bins₀ work₀ bins work un ov) where
+  pub playing : Playing m bins work un ov
+  playing = (drop (3 * m) bins₀, drop (4 * m) work₀, start ws, s)
+
+  pub game-over : {bins′ work′ : List ℕ} {un′ ov′ : ℕ} → Played m bins work un ov bins′ work′ un′ ov′
+      → Game m (drop (3 * m) bins₀) (drop (4 * m) work₀) (turns m (start ws)) bins′ work′ un′ ov′
+  game-over p = p (drop (3 * m) bins₀) (drop (4 * m) work₀) (start ws) s
+
+pub played-is : (ws : List Float) (m : ℕ) → length ws ≡ m → finish (turns m (start ws)) ≡ played ws
+unfolding played
+played-is ws m e = rw e
