@@ -57,15 +57,15 @@ module _ {m : ℕ} {binsRest workRest : List ℕ} {s : State} {bins work : List 
   turned-is : turn s ≡ push (record { weight = left work (underTop un) (overTop m ov); index = getD work (overTop m ov + 1) 0 })
       (record { bins = bs; under = stackAt 0 work (un - 1); over = stackAt (2 * m) work (ov - 1) })
   unfolding bs turned
-  turned-is = rw (← g .stacks .under-are, ← g .stacks .over-are, stack-top 0 work un u, stack-top (2 * m) work ov o, zero-add)
+  turned-is = rw (← g .stacks .under-is .are, ← g .stacks .over-is .are, stack-top 0 work un u, stack-top (2 * m) work ov o, zero-add)
 
   low-index : getD work (underTop un + 1) 0 < m
-  low-index = rw zero-add at (g .stacks .under-sound (un - 1) (omega arith) .0)
+  low-index = rw zero-add at (g .stacks .under-is .sound (un - 1) (omega arith) .0)
 
   settled-is : settled bins work (underTop un) (overTop m ov) ≡ binWords bs ++ binsRest
   unfolding bs
   settled-is =
-      let own-word : toBits binary32 weight ≡ getD work (underTop un) 0 = rw zero-add at (g .stacks .under-sound (un - 1) (omega arith) .1) in
+      let own-word : toBits binary32 weight ≡ getD work (underTop un) 0 = rw zero-add at (g .stacks .under-is .sound (un - 1) (omega arith) .1) in
       rw (g .bins-are) (rw own-word at (settle-words 0 (s .bins) index weight other binsRest (rw (g .count) low-index)))
 
   count-is : length bs ≡ m
@@ -89,8 +89,8 @@ module _ {m : ℕ} {binsRest workRest : List ℕ} {s : State} {bins work : List 
         bins-are = settled-is ∙ ap (λ (l : List Bin). binWords l ++ binsRest) (sym (push-bins e next));
         count = ap (λ (l : List Bin). length l) (push-bins e next) ∙ count-is;
         stacks =
-            rw (back-under, back-over) at (stacks-push (popped un ov bs (g .stacks)) (e .weight) (e .index) (sub-fits binary32 _ one)
-            (g .stacks .over-sound (ov - 1) (omega arith) .0) (omega (arith, g .stacks .together)) below l);
+            rw (back-under, back-over) at (stacks-push (popped (g .stacks) bs) (e .weight) (e .index) (sub-fits binary32 _ one)
+            (g .stacks .over-is .sound (ov - 1) (omega arith) .0) (omega (arith, g .stacks .together)) below l);
       })
 
 -- a game on its way to its last state: as many turns are left as bins, at least
@@ -118,10 +118,10 @@ reached-last {m} {binsRest} {workRest} {last} {bins} {work} {un} {ov} r h =
     subst (λ (t : State). Game m binsRest workRest t bins work un ov) (sym (turns-stay (r .to-go) (r .state) (⊎-elim under over h)) ∙ r .then) (r .game)
   where
     under : un ≡ 0 → (r .state .under ≡ []) ⊎ (r .state .over ≡ [])
-    under e = inl (sym (r .game .stacks .under-are) ∙ rw e)
+    under e = inl (sym (r .game .stacks .under-is .are) ∙ rw e)
 
     over : ov ≡ 0 → (r .state .under ≡ []) ⊎ (r .state .over ≡ [])
-    over e = inr (sym (r .game .stacks .over-are) ∙ rw e)
+    over e = inr (sym (r .game .stacks .over-is .are) ∙ rw e)
 
 -- the turns' loop: whatever the game was where it began, it is on its way
 pub record Going (m : ℕ) (bins₀ work₀ : List ℕ) (under over : ℕ) (bins work : List ℕ) (un ov : ℕ) : Type 0 where
@@ -276,21 +276,21 @@ left-in bins work base n k (bs, rest, e, sound, room) h = rw (e, length-append, 
 
 module _ {m : ℕ} {binsRest workRest : List ℕ} {s : State} {bins work : List ℕ} {un ov : ℕ} (g : Game m binsRest workRest s bins work un ov) where
   pub left-under : Left bins work 0 un
-  left-under = (s .bins, binsRest, g .bins-are, rw (g .count) (g .stacks .under-sound), omega (arith, g .stacks .room, g .stacks .together))
+  left-under = (s .bins, binsRest, g .bins-are, rw (g .count) (g .stacks .under-is .sound), omega (arith, g .stacks .room, g .stacks .together))
 
   pub wholed-under : {bins′ : List ℕ} → Wholed bins work 0 un bins′ → bins′ ≡ binWords (leftover (s .under) (s .bins)) ++ binsRest
-  wholed-under w = rw (← g .stacks .under-are) (w (s .bins) binsRest (g .bins-are) (rw (g .count) (g .stacks .under-sound)))
+  wholed-under w = rw (← g .stacks .under-is .are) (w (s .bins) binsRest (g .bins-are) (rw (g .count) (g .stacks .under-is .sound)))
 
   over-count : length (leftover (s .under) (s .bins)) ≡ m
   over-count = length-leftover (s .under) (s .bins) ∙ g .count
 
   pub left-over : {bins′ : List ℕ} → bins′ ≡ binWords (leftover (s .under) (s .bins)) ++ binsRest → Left bins′ work (2 * m) ov
   left-over e =
-      (leftover (s .under) (s .bins), binsRest, e, rw over-count (g .stacks .over-sound), omega (arith, g .stacks .room, g .stacks .together))
+      (leftover (s .under) (s .bins), binsRest, e, rw over-count (g .stacks .over-is .sound), omega (arith, g .stacks .room, g .stacks .together))
 
   pub wholed-over : {bins′ bins″ : List ℕ} → bins′ ≡ binWords (leftover (s .under) (s .bins)) ++ binsRest → Wholed bins′ work (2 * m) ov bins″
       → bins″ ≡ binWords (finish s) ++ binsRest
-  wholed-over e w = rw (← g .stacks .over-are) (w (leftover (s .under) (s .bins)) binsRest e (rw over-count (g .stacks .over-sound)))
+  wholed-over e w = rw (← g .stacks .over-is .are) (w (leftover (s .under) (s .bins)) binsRest e (rw over-count (g .stacks .over-is .sound)))
 
 -- ---- from the start to the end
 

@@ -1,13 +1,13 @@
 -- Bins and stacks in words: what each store does to the bins and to the two stacks. Assumes nothing.
 use Prim.Native.Nat.{ℕ, zero, suc, _+_, _-_, _*_, _≤_, _<_}
-use mathlib.Core.Path.{_≡_, refl, ap, _∙_}
+use mathlib.Core.Path.{_≡_, refl, _∙_}
 use mathlib.Core.Bool.{Bool, true, false, cond}
 use mathlib.Core.List.{List, [], _∷_, _++_}
 use mathlib.Core.Logic.{_⊎_, inl, inr, ⊎-elim}
 use native.Mathlib.Nat.{zero-add}
 use native.Mathlib.Numerals.{add-one}
-use native.Mathlib.Decide.{decLt}
 use native.Mathlib.Omega.{arith}
+use borrow.Author.Count.{below-more}
 use lib.Dec.{T}
 use lib.Ieee.{Float, binary32, ofBits, toBits, fits, lt}
 use lib.Ieee.Bits.{ofBits-toBits}
@@ -17,8 +17,7 @@ use Rattle.ieee.specs.Single.{one}
 use Rattle.words.specs.Rows.{rowsFrom}
 use Rattle.words.proofs.RowLaws.{rows-length}
 use Rattle.alias_table.specs.AliasTable.{Bin, Entry, State, push, update, settle, whole, binRow, binWords}
-use Rattle.alias_table.specs.GameLaws.{under-push, over-push}
-use Rattle.alias_table.specs.Stacks.{entryAt, stackAt, put, top, SoundAt, Sound, Stacks}
+use Rattle.alias_table.specs.Stacks.{entryAt, stackAt, put, top, Stack, Stacks}
 
 -- ---- bins
 
@@ -52,127 +51,99 @@ whole-words k [] i rest h = absurd (omega arith)
 whole-words k (b ∷ bs) zero rest h = rw one-word
 whole-words k (b ∷ bs) (suc i) rest h = rw (three, whole-words (suc k) bs i rest (omega arith))
 
--- ---- stacks
+-- ---- one stack
 
--- the words of n entries are the same
-abbrev Same : ℕ → ℕ → List ℕ → List ℕ → Type 0
-Same base n work work′ = (j : ℕ) → base ≤ j → j < base + 2 * n → getD work′ j 0 ≡ getD work j 0
-
-stack-same : (base n : ℕ) (work work′ : List ℕ) → Same base n work work′ → stackAt base work′ n ≡ stackAt base work n
+stack-same : (base n : ℕ) (work work′ : List ℕ) → ((j : ℕ) → base ≤ j → j < base + 2 * n → getD work′ j 0 ≡ getD work j 0)
+    → stackAt base work′ n ≡ stackAt base work n
 unfolding stackAt
 stack-same base zero work work′ s = refl
 stack-same base (suc n) work work′ s =
-    rw (s (base + 2 * n) (omega arith) (omega arith), s (base + 2 * n + 1) (omega arith) (omega arith), stack-same base n work work′ (λ j h k. s j h (omega arith)))
+    let below = stack-same base n work work′ (λ j h k. s j h (omega arith)) in
+    rw (s (base + 2 * n) (omega arith) (omega arith), s (base + 2 * n + 1) (omega arith) (omega arith), below)
 
-sound-same : (m base n : ℕ) (work work′ : List ℕ) → Same base n work work′ → Sound m base work n → Sound m base work′ n
-sound-same m base n work work′ s h k l = rw (s (base + 2 * k + 1) (omega arith) (omega arith), s (base + 2 * k) (omega arith) (omega arith)) (h k l)
+module _ {m base n : ℕ} {work : List ℕ} {es : List Entry} (g : Stack m base work n es) (at : ℕ) (w : Float) (i : ℕ) where
+  -- an entry's words elsewhere
+  stack-beside : (at + 1 < base) ⊎ (base + 2 * n ≤ at) → Stack m base (put work at w i) n es
+  stack-beside out =
+      let same : (j : ℕ) → base ≤ j → j < base + 2 * n → getD (put work at w i) j 0 ≡ getD work j 0 = λ j h k.
+          getD-set-other (set work at (toBits binary32 w)) (at + 1) j i 0 (λ e. ⊎-elim (λ l. omega arith) (λ l. omega arith) out)
+          ∙ getD-set-other work at j (toBits binary32 w) 0 (λ e. ⊎-elim (λ l. omega arith) (λ l. omega arith) out) in
+      record {
+        are = stack-same base n work (put work at w i) same ∙ g .are;
+        sound = λ k l. rw (same (base + 2 * k + 1) (omega arith) (omega arith), same (base + 2 * k) (omega arith) (omega arith)) (g .sound k l);
+      }
 
-put-same : (base n : ℕ) (work : List ℕ) (at : ℕ) (w : Float) (i : ℕ) → (at + 1 < base) ⊎ (base + 2 * n ≤ at) → Same base n work (put work at w i)
-put-same base n work at w i out j h k =
-    getD-set-other (set work at (toBits binary32 w)) (at + 1) j i 0 (λ e. ⊎-elim (λ l. omega arith) (λ l. omega arith) out)
-    ∙ getD-set-other work at j (toBits binary32 w) 0 (λ e. ⊎-elim (λ l. omega arith) (λ l. omega arith) out)
-
-module _ (work : List ℕ) (at : ℕ) (w : Float) (i : ℕ) (h : at + 1 < length work) where
-  put-weight : getD (put work at w i) at 0 ≡ toBits binary32 w
-  put-weight = getD-set-other (set work at (toBits binary32 w)) (at + 1) at i 0 (λ e. omega arith) ∙ getD-set-same work at (toBits binary32 w) 0 (omega arith)
-
-  put-index : getD (put work at w i) (at + 1) 0 ≡ i
-  put-index = getD-set-same (set work at (toBits binary32 w)) (at + 1) i 0 (rw length-set h)
-
-length-put : (work : List ℕ) (at : ℕ) (w : Float) (i : ℕ) → length (put work at w i) ≡ length work
-length-put work at w i = simp length-set
-
-module _ (base n : ℕ) (work : List ℕ) (at : ℕ) (w : Float) (i : ℕ) (place : base + 2 * n ≡ at) (h : at + 1 < length work) (fit : T (fits binary32 w)) where
-  stack-put : stackAt base (put work at w i) (suc n) ≡ record { weight = w; index = i } ∷ stackAt base work n
+  -- and on its top
+  stack-more : base + 2 * n ≡ at → at + 1 < length work → T (fits binary32 w) → i < m
+      → Stack m base (put work at w i) (n + 1) (record { weight = w; index = i } ∷ es)
   unfolding stackAt
-  stack-put =
-      let below = stack-same base n work (put work at w i) (put-same base n work at w i (inr (omega arith))) in
-      rw (place, put-weight work at w i h, put-index work at w i h, ofBits-toBits binary32 w fit, below)
+  stack-more place h fit low =
+      let below = stack-beside (inr (omega arith)) in
+      let weight : getD (put work at w i) at 0 ≡ toBits binary32 w =
+      getD-set-other (set work at (toBits binary32 w)) (at + 1) at i 0 (λ e. omega arith) ∙ getD-set-same work at (toBits binary32 w) 0 (omega arith) in
+      let index : getD (put work at w i) (at + 1) 0 ≡ i = getD-set-same (set work at (toBits binary32 w)) (at + 1) i 0 (rw length-set h) in
+      record {
+        are = rw (add-one n, place, weight, index, ofBits-toBits binary32 w fit, below .are);
+        sound = below-more _ n (below .sound) (rw (place, weight, index, ofBits-toBits binary32 w fit) (low, refl));
+      }
 
-  sound-put : (m : ℕ) → i < m → Sound m base work n → Sound m base (put work at w i) (suc n)
-  sound-put m l s k b = go (decLt k n)
-    where
-      go : Dec (k < n) → SoundAt m base (put work at w i) k
-      go (yes y) = sound-same m base n work (put work at w i) (put-same base n work at w i (inr (omega arith))) s k y
-      go (no z) =
-          let e : base + 2 * k ≡ at = omega arith in
-          rw (e, put-weight work at w i h, put-index work at w i h, ofBits-toBits binary32 w fit) (l, refl)
+pub stack-top : (base : ℕ) (work : List ℕ) (n : ℕ) → 0 < n → stackAt base work n ≡ entryAt base work (n - 1) ∷ stackAt base work (n - 1)
+unfolding stackAt
+stack-top base work zero h = absurd (omega arith)
+stack-top base work (suc n) h = let e : suc n - 1 ≡ n = omega arith in rw e
 
--- ---- pushing and popping
+-- ---- both stacks
 
-drop-put : (n : ℕ) (work : List ℕ) (at : ℕ) (w : Float) (i : ℕ) → at + 1 < n → drop n (put work at w i) ≡ drop n work
-drop-put n work at w i h =
-    drop-set-lt n (set work at (toBits binary32 w)) (at + 1) i h ∙ drop-set-lt n work at (toBits binary32 w) (omega arith)
-
-module _ {m : ℕ} {workRest : List ℕ} {s : State} {work : List ℕ} {under over : ℕ} (g : Stacks m workRest s work under over) (w : Float) (i : ℕ)
-    (fit : T (fits binary32 w)) (low : i < m) (more : under + over < m) where
-  entry : Entry
-  entry = record { weight = w; index = i }
-
-  -- an entry pushed, and its words put on top of its stack
-  pub stacks-push : (below : Bool) → lt w one ≡ below
-      → Stacks m workRest (push (record { weight = w; index = i }) s) (put work (top m under over below) w i) (cond below (under + 1) under) (cond below over (over + 1))
-  unfolding entry
-  stacks-push true l =
-      let at = 2 * under in
-      let place : 0 + 2 * under ≡ at = zero-add (2 * under) in
-      let in-work : at + 1 < length work = omega (arith, g .room) in
-      let out : Same (2 * m) over work (put work at w i) = put-same (2 * m) over work at w i (inl (omega arith)) in
-      rw (under-push entry s l, add-one under)
-      (record {
-        under-are = stack-put 0 under work at w i place in-work fit ∙ ap (λ (es : List Entry). entry ∷ es) (g .under-are);
-        over-are = stack-same (2 * m) over work (put work at w i) out ∙ g .over-are;
-        under-sound = sound-put 0 under work at w i place in-work fit m low (g .under-sound);
-        over-sound = sound-same m (2 * m) over work (put work at w i) out (g .over-sound);
-        together = omega arith;
-        room = rw length-put (g .room);
-        rest = drop-put (4 * m) work at w i (omega arith) ∙ g .rest;
-      })
-  stacks-push false l =
-      let at = 2 * m + 2 * over in
-      let in-work : at + 1 < length work = omega (arith, g .room) in
-      let out : Same 0 under work (put work at w i) = put-same 0 under work at w i (inr (omega arith)) in
-      rw (over-push entry s l, add-one over)
-      (record {
-        under-are = stack-same 0 under work (put work at w i) out ∙ g .under-are;
-        over-are = stack-put (2 * m) over work at w i refl in-work fit ∙ ap (λ (es : List Entry). entry ∷ es) (g .over-are);
-        under-sound = sound-same m 0 under work (put work at w i) out (g .under-sound);
-        over-sound = sound-put (2 * m) over work at w i refl in-work fit m low (g .over-sound);
-        together = omega arith;
-        room = rw length-put (g .room);
-        rest = drop-put (4 * m) work at w i (omega arith) ∙ g .rest;
-      })
-
-pub stacks-none : (m : ℕ) (work : List ℕ) (bs : List Bin) → 4 * m ≤ length work → Stacks m (drop (4 * m) work) (record { bins = bs; under = []; over = [] }) work 0 0
+pub stacks-none : (m : ℕ) (work : List ℕ) (bs : List Bin) → 4 * m ≤ length work
+    → Stacks m (drop (4 * m) work) (record { bins = bs; under = []; over = [] }) work 0 0
 unfolding stackAt
 stacks-none m work bs h =
     record {
-      under-are = refl;
-      over-are = refl;
-      under-sound = λ k l. absurd (omega arith);
-      over-sound = λ k l. absurd (omega arith);
+      under-is = record { are = refl; sound = λ k l. absurd (omega arith) };
+      over-is = record { are = refl; sound = λ k l. absurd (omega arith) };
       together = omega arith;
       room = h;
       rest = refl;
     }
 
--- the top of each stack taken
-pub popped : {m : ℕ} {workRest : List ℕ} {s : State} {work : List ℕ} (un ov : ℕ) (bs : List Bin) → Stacks m workRest s work un ov
-    → Stacks m workRest (record { bins = bs; under = stackAt 0 work (un - 1); over = stackAt (2 * m) work (ov - 1) }) work (un - 1) (ov - 1)
-popped un ov bs g =
-    record {
-      under-are = refl;
-      over-are = refl;
-      under-sound = λ k l. g .under-sound k (omega arith);
-      over-sound = λ k l. g .over-sound k (omega arith);
-      together = omega (arith, g .together);
-      room = g .room;
-      rest = g .rest;
-    }
+module _ {m : ℕ} {workRest : List ℕ} {s : State} {work : List ℕ} {under over : ℕ} (g : Stacks m workRest s work under over) where
+  -- the top of each stack taken
+  pub popped : (bs : List Bin)
+      → Stacks m workRest (record { bins = bs; under = stackAt 0 work (under - 1); over = stackAt (2 * m) work (over - 1) }) work (under - 1) (over - 1)
+  popped bs =
+      record {
+        under-is = record { are = refl; sound = λ k l. g .under-is .sound k (omega arith) };
+        over-is = record { are = refl; sound = λ k l. g .over-is .sound k (omega arith) };
+        together = omega (arith, g .together);
+        room = g .room;
+        rest = g .rest;
+      }
 
-pub stack-top : (base : ℕ) (work : List ℕ) (n : ℕ) → 0 < n → stackAt base work n ≡ entryAt base work (n - 1) ∷ stackAt base work (n - 1)
-unfolding stackAt
-stack-top base work zero h = absurd (omega arith)
-stack-top base work (suc n) h =
-    let e : suc n - 1 ≡ n = omega arith in
-    rw e
+  module _ (w : Float) (i : ℕ) (fit : T (fits binary32 w)) (low : i < m) (more : under + over < m) where
+    rest-put : (at : ℕ) → at + 1 < 4 * m → drop (4 * m) (put work at w i) ≡ workRest
+    rest-put at h =
+        drop-set-lt (4 * m) (set work at (toBits binary32 w)) (at + 1) i h ∙ drop-set-lt (4 * m) work at (toBits binary32 w) (omega arith) ∙ g .rest
+
+    -- an entry pushed, and its words put on top of its stack
+    pub stacks-push : (below : Bool) → lt w one ≡ below
+        → Stacks m workRest (push (record { weight = w; index = i }) s) (put work (top m under over below) w i)
+        (cond below (under + 1) under) (cond below over (over + 1))
+    unfolding push
+    stacks-push true l =
+        rw l
+        (record {
+          under-is = stack-more (g .under-is) (2 * under) w i (zero-add (2 * under)) (omega (arith, g .room)) fit low;
+          over-is = stack-beside (g .over-is) (2 * under) w i (inl (omega arith));
+          together = omega arith;
+          room = simp length-set (g .room);
+          rest = rest-put (2 * under) (omega arith);
+        })
+    stacks-push false l =
+        rw l
+        (record {
+          under-is = stack-beside (g .under-is) (2 * m + 2 * over) w i (inr (omega arith));
+          over-is = stack-more (g .over-is) (2 * m + 2 * over) w i refl (omega (arith, g .room)) fit low;
+          together = omega arith;
+          room = simp length-set (g .room);
+          rest = rest-put (2 * m + 2 * over) (omega arith);
+        })

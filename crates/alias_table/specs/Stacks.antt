@@ -56,12 +56,15 @@ SoundAt m base work k =
 abbrev pub Sound : ℕ → ℕ → List ℕ → ℕ → Type 0
 Sound m base work n = (k : ℕ) → k < n → SoundAt m base work k
 
+-- n entries from word `base` on are these
+pub record Stack (m base : ℕ) (work : List ℕ) (n : ℕ) (es : List Entry) : Type 0 where
+  pub are : stackAt base work n ≡ es
+  pub sound : Sound m base work n
+
 -- The stacks of a state as they stand in the work: `under` from word 0 on, `over` from word 2m on; after 4m words `workRest`.
 pub record Stacks (m : ℕ) (workRest : List ℕ) (s : State) (work : List ℕ) (under over : ℕ) : Type 0 where
-  pub under-are : stackAt 0 work under ≡ s .under
-  pub over-are : stackAt (2 * m) work over ≡ s .over
-  pub under-sound : Sound m 0 work under
-  pub over-sound : Sound m (2 * m) work over
+  pub under-is : Stack m 0 work under (s .under)
+  pub over-is : Stack m (2 * m) work over (s .over)
   pub together : under + over ≤ m
   pub room : 4 * m ≤ length work
   pub rest : drop (4 * m) work ≡ workRest
