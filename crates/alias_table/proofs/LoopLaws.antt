@@ -39,97 +39,49 @@ left work u o = single (getD work u 0) ⊕ single (getD work o 0) ⊖ one
 abbrev pub settled : List ℕ → List ℕ → ℕ → ℕ → List ℕ
 settled bins work u o = set (set bins (3 * getD work (u + 1) 0) (getD work u 0)) (3 * getD work (u + 1) 0 + 2) (getD work (o + 1) 0)
 
-module _ {m : ℕ} {binsRest workRest : List ℕ} {s : State} {bins work : List ℕ} (un ov : ℕ) (g : Game m binsRest workRest s bins work un ov)
+module _ {m : ℕ} {binsRest workRest : List ℕ} {s : State} {bins work : List ℕ} {un ov : ℕ} (g : Game m binsRest workRest s bins work un ov)
     (u : 0 < un) (o : 0 < ov) where
-  index : ℕ
-  index = getD work (underTop un + 1) 0
-
-  weight : Float
-  weight = single (getD work (underTop un) 0)
-
-  other : ℕ
-  other = getD work (overTop m ov + 1) 0
-
   bs : List Bin
-  unfolding index weight other
-  bs = update (s .bins) index (settle weight other)
+  bs = update (s .bins) (getD work (underTop un + 1) 0) (settle (single (getD work (underTop un) 0)) (getD work (overTop m ov + 1) 0))
 
   turned-is : turn s ≡ push (record { weight = left work (underTop un) (overTop m ov); index = getD work (overTop m ov + 1) 0 })
       (record { bins = bs; under = stackAt 0 work (un - 1); over = stackAt (2 * m) work (ov - 1) })
   unfolding bs turned
   turned-is = rw (← g .stacks .under-is .are, ← g .stacks .over-is .are, stack-top 0 work un u, stack-top (2 * m) work ov o, zero-add)
 
-  low-index : getD work (underTop un + 1) 0 < m
-  low-index = rw zero-add at (g .stacks .under-is .sound (un - 1) (omega arith) .0)
-
-  settled-is : settled bins work (underTop un) (overTop m ov) ≡ binWords bs ++ binsRest
-  unfolding bs
-  settled-is =
-      let own-word : toBits binary32 weight ≡ getD work (underTop un) 0 = rw zero-add at (g .stacks .under-is .sound (un - 1) (omega arith) .1) in
-      rw (g .bins-are) (rw own-word at (settle-words 0 (s .bins) index weight other binsRest (rw (g .count) low-index)))
-
-  count-is : length bs ≡ m
-  unfolding bs
-  count-is = length-update (s .bins) index (settle weight other) ∙ g .count
+  sound : (getD work (underTop un + 1) 0 < m) × (toBits binary32 (single (getD work (underTop un) 0)) ≡ getD work (underTop un) 0)
+  sound = rw zero-add at (g .stacks .under-is .sound (un - 1) (omega arith))
 
   pub settle-in : 3 * getD work (underTop un + 1) 0 + 2 < length bins
-  settle-in = rw (g .bins-are, length-append, length-binWords, g .count) (omega (arith, low-index))
+  settle-in = rw (g .bins-are, length-append, length-binWords, g .count) (omega (arith, sound .0))
 
   pub turn-next : (below : Bool) → lt (left work (underTop un) (overTop m ov)) one ≡ below
       → Game m binsRest workRest (turn s) (settled bins work (underTop un) (overTop m ov))
       (put work (top m (un - 1) (ov - 1) below) (left work (underTop un) (overTop m ov)) (getD work (overTop m ov + 1) 0))
       (cond below un (un - 1)) (cond below (ov - 1) ov)
+  unfolding bs
   turn-next below l =
-      let next : State = record { bins = bs; under = stackAt 0 work (un - 1); over = stackAt (2 * m) work (ov - 1) } in
-      let e : Entry = record { weight = left work (underTop un) (overTop m ov); index = getD work (overTop m ov + 1) 0 } in
-      let back-under : un - 1 + 1 ≡ un = omega arith in
-      let back-over : ov - 1 + 1 ≡ ov = omega arith in
+      let back : (un - 1 + 1 ≡ un) × (ov - 1 + 1 ≡ ov) = (omega arith, omega arith) in
+      let words = settle-words 0 (s .bins) (getD work (underTop un + 1) 0) (single (getD work (underTop un) 0)) (getD work (overTop m ov + 1) 0) binsRest in
       rw turned-is
       (record {
-        bins-are = settled-is ∙ ap (λ (l : List Bin). binWords l ++ binsRest) (sym (push-bins e next));
-        count = ap (λ (l : List Bin). length l) (push-bins e next) ∙ count-is;
+        bins-are = rw (push-bins, g .bins-are) (rw (sound .1) at (words (rw (g .count) (sound .0))));
+        count = rw (push-bins, length-update) (g .count);
         stacks =
-            rw (back-under, back-over) at (stacks-push (popped (g .stacks) bs) (e .weight) (e .index) (sub-fits binary32 _ one)
-            (g .stacks .over-is .sound (ov - 1) (omega arith) .0) (omega (arith, g .stacks .together)) below l);
+            rw (back .0, back .1) at (stacks-push (popped (g .stacks) bs) (left work (underTop un) (overTop m ov)) (getD work (overTop m ov + 1) 0)
+            (sub-fits binary32 _ one) (g .stacks .over-is .sound (ov - 1) (omega arith) .0) (omega (arith, g .stacks .together)) below l);
       })
 
--- a game on its way to its last state: as many turns are left as bins, at least
-pub record Reached (m : ℕ) (binsRest workRest : List ℕ) (last : State) (bins work : List ℕ) (under over : ℕ) : Type 0 where
-  pub state : State
-  pub to-go : ℕ
-  pub enough : under + over ≤ to-go
-  pub then : turns to-go state ≡ last
-  pub game : Game m binsRest workRest state bins work under over
-
-reached-next : {m : ℕ} {binsRest workRest : List ℕ} {last : State} {bins work bins′ work′ : List ℕ} {un ov un′ ov′ : ℕ}
-    (r : Reached m binsRest workRest last bins work un ov) → un′ + ov′ < un + ov → Game m binsRest workRest (turn (r .state)) bins′ work′ un′ ov′
-    → Reached m binsRest workRest last bins′ work′ un′ ov′
-unfolding turns
-reached-next {m} {binsRest} {workRest} {last} {bins} {work} {bins′} {work′} {un} {ov} {un′} {ov′} r less g = go (r .to-go) (r .enough) (r .then)
-  where
-    go : (k : ℕ) → un + ov ≤ k → turns k (r .state) ≡ last → Reached m binsRest workRest last bins′ work′ un′ ov′
-    go zero h t = absurd (omega arith)
-    go (suc k) h t = record { state = turn (r .state); to-go = k; enough = omega arith; then = t; game = g }
-
-reached-last : {m : ℕ} {binsRest workRest : List ℕ} {last : State} {bins work : List ℕ} {un ov : ℕ} → Reached m binsRest workRest last bins work un ov
-    → (un ≡ 0) ⊎ (ov ≡ 0) → Game m binsRest workRest last bins work un ov
-unfolding stackAt
-reached-last {m} {binsRest} {workRest} {last} {bins} {work} {un} {ov} r h =
-    subst (λ (t : State). Game m binsRest workRest t bins work un ov) (sym (turns-stay (r .to-go) (r .state) (⊎-elim under over h)) ∙ r .then) (r .game)
-  where
-    under : un ≡ 0 → (r .state .under ≡ []) ⊎ (r .state .over ≡ [])
-    under e = inl (sym (r .game .stacks .under-is .are) ∙ rw e)
-
-    over : ov ≡ 0 → (r .state .under ≡ []) ⊎ (r .state .over ≡ [])
-    over e = inr (sym (r .game .stacks .over-is .are) ∙ rw e)
-
--- the turns' loop: whatever the game was where it began, it is on its way
+-- The turns' loop. Whatever the game was where it began, it has gone on to a state from which the turns to go lead to its last.
 pub record Going (m : ℕ) (bins₀ work₀ : List ℕ) (under over : ℕ) (bins work : List ℕ) (un ov : ℕ) : Type 0 where
   pub together : un + ov ≤ m
   pub room : 4 * m ≤ length work
   pub same-bins : length bins ≡ length bins₀
   pub same-work : length work ≡ length work₀
-  pub on : (binsRest workRest : List ℕ) (s : State) → Game m binsRest workRest s bins₀ work₀ under over → Reached m binsRest workRest (turns m s) bins work un ov
+  pub to-go : ℕ
+  pub enough : un + ov ≤ to-go
+  pub on : (binsRest workRest : List ℕ) (s : State) → Game m binsRest workRest s bins₀ work₀ under over
+      → (t : State) × (turns to-go t ≡ turns m s) × Game m binsRest workRest t bins work un ov
 
 pub going-none : {m : ℕ} {bins work : List ℕ} {under over : ℕ} → Playing m bins work under over → Going m bins work under over bins work under over
 going-none {m} (binsRest, workRest, s, g) =
@@ -138,12 +90,19 @@ going-none {m} (binsRest, workRest, s, g) =
       room = g .stacks .room;
       same-bins = refl;
       same-work = refl;
-      on = λ binsRest workRest s g. record { state = s; to-go = m; enough = g .stacks .together; then = refl; game = g };
+      to-go = m;
+      enough = g .stacks .together;
+      on = λ binsRest workRest s g. (s, refl, g);
     }
+
+turns-one : (n : ℕ) (s : State) → 0 < n → turns n s ≡ turns (n - 1) (turn s)
+unfolding turns
+turns-one zero s h = absurd (omega arith)
+turns-one (suc n) s h = let e : suc n - 1 ≡ n = omega arith in rw e
 
 module _ {m : ℕ} {bins₀ work₀ : List ℕ} {under over : ℕ} {bins work : List ℕ} {un ov : ℕ} (g : Going m bins₀ work₀ under over bins work un ov) where
   pub going-in : Playing m bins₀ work₀ under over → 0 < un → 0 < ov → 3 * getD work (underTop un + 1) 0 + 2 < length bins
-  going-in (binsRest, workRest, s, p) u o = settle-in un ov (g .on binsRest workRest s p .game) u o
+  going-in (binsRest, workRest, s, p) u o = settle-in (g .on binsRest workRest s p .2) u o
 
   pub going-next : 0 < un → 0 < ov → (below : Bool) → lt (left work (underTop un) (overTop m ov)) one ≡ below
       → Going m bins₀ work₀ under over (settled bins work (underTop un) (overTop m ov))
@@ -155,9 +114,11 @@ module _ {m : ℕ} {bins₀ work₀ : List ℕ} {under over : ℕ} {bins work : 
         room = simp length-set (g .room);
         same-bins = simp length-set (g .same-bins);
         same-work = simp length-set (g .same-work);
+        to-go = g .to-go - 1;
+        enough = omega (arith, less below, g .enough);
         on = λ binsRest workRest s p.
-            let r = g .on binsRest workRest s p in
-            reached-next r (less below) (turn-next un ov (r .game) u o below l);
+            let (t, then, game) = g .on binsRest workRest s p in
+            (turn t, sym (turns-one (g .to-go) t (omega (arith, g .enough))) ∙ then, turn-next game u o below l);
       }
     where
       less : (b : Bool) → cond b un (un - 1) + cond b (ov - 1) ov < un + ov
@@ -165,7 +126,12 @@ module _ {m : ℕ} {bins₀ work₀ : List ℕ} {under over : ℕ} {bins work : 
       less false = omega arith
 
   pub going-last : (un ≡ 0) ⊎ (ov ≡ 0) → Played m bins₀ work₀ under over bins work un ov
-  going-last h = λ binsRest workRest s p. reached-last (g .on binsRest workRest s p) h
+  unfolding stackAt
+  going-last h binsRest workRest s p =
+      let (t, then, game) = g .on binsRest workRest s p in
+      let over : (t .under ≡ []) ⊎ (t .over ≡ []) =
+      ⊎-elim (λ e. inl (sym (game .stacks .under-is .are) ∙ rw e)) (λ e. inr (sym (game .stacks .over-is .are) ∙ rw e)) h in
+      rw (sym (turns-stay (g .to-go) t over) ∙ then) at game
 
 -- ---- the start
 
