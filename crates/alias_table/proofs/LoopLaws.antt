@@ -1,5 +1,4 @@
--- The game's loops: a turn, and the turns on their way to the last state; the start, bin by bin; what is left over; and from the start to the end.
--- Assumes nothing.
+-- The game's loops: the turns on their way to the last state; the start, bin by bin; and what is left over. Assumes nothing.
 use Prim.Native.Nat.{ℕ, zero, suc, _+_, _-_, _*_, _≤_, _<_}
 use mathlib.Core.Path.{_≡_, refl, sym, ap, subst, _∙_}
 use mathlib.Core.Bool.{Bool, true, false, cond}
@@ -14,15 +13,14 @@ use lib.Ieee.Fits.{mul-fits, sub-fits}
 use lib.ListN.{length, getD, set, take, drop, length-set, length-map, length-append, List·getD-map, drop-of-length-le}
 use lib.Seq.{sets, drop-cons, take-all, take-suc, length-take-le}
 use Rattle.ieee.specs.Single.{_⊕_, _⊖_, _⊗_, _⊘_, single, zero as zerof, one}
-use Rattle.words.specs.Limits.{maxLamps}
 use Rattle.words.proofs.RowLaws.{Written, written-none, written-one}
 use Rattle.alias_table.specs.AliasTable.{Bin, Entry, State, none, total, bin, push, pushAll, start}
-use Rattle.alias_table.specs.AliasTable.{update, settle, turned, turn, turns, leftover, finish, binRow, binWords}
+use Rattle.alias_table.specs.AliasTable.{update, settle, turned, turn, turns, leftover, binRow, binWords}
 use Rattle.alias_table.specs.GameLaws.{turns-stay, push-bins, start-bins, length-update, length-leftover}
-use Rattle.alias_table.specs.Stacks.{stackAt, put, top, Game, Stacks, Room, Started, Playing, Played, Left, Wholed, played}
+use Rattle.alias_table.specs.Stacks.{stackAt, put, top, Stack, Stacks, Game, Room, Started, Playing, Played, Left, Wholed}
 use Rattle.alias_table.proofs.StackLaws.{bin-width, length-binWords, settle-words, whole-words, stacks-push, stacks-none, popped, stack-top}
 
--- ---- a turn
+-- ---- the turns
 
 -- where the tops of the stacks stand
 abbrev pub underTop : ℕ → ℕ
@@ -156,8 +154,7 @@ zero-word = refl
 -- the first i bins written and pushed
 pub record Starting (m : ℕ) (ws : List Float) (sum : Float) (bins₀ work₀ bins work : List ℕ) (under over i : ℕ) : Type 0 where
   pub len : length ws ≡ m
-  pub few : m ≤ maxLamps
-  pub bins-room : 3 * m ≤ length bins₀
+  pub room : Room m bins₀ work₀
   pub all : under + over ≡ i
   pub some : i ≤ m
   pub bins-are : Written binRow 3 bin-width [] (take i (map (bin sum) ws)) bins₀ bins
@@ -171,8 +168,7 @@ pub starting-none : {m : ℕ} (ws : List Float) (sum : Float) {bins work : List 
 starting-none {m} ws sum {bins} {work} len r =
     record {
       len = len;
-      few = r .few;
-      bins-room = r .bins-room;
+      room = r;
       all = refl;
       some = omega arith;
       bins-are = written-none binRow 3 bin-width [] bins (omega arith);
@@ -195,13 +191,12 @@ module _ {m : ℕ} {ws : List Float} {sum : Float} {bins₀ work₀ bins work : 
       let done : length (take i xs) ≡ i = length-take-le i xs (omega arith) in
       record {
         len = g .len;
-        few = g .few;
-        bins-room = g .bins-room;
+        room = g .room;
         all = more below;
         some = omega arith;
         bins-are =
             rw (add-one i, take-suc xs i (bin sum zerof) long, is)
-            (rw zero-word at (written-one binRow 3 bin-width (bin sum (getD ws i zerof)) (3 * i) (g .bins-are) (omega arith) (omega (arith, g .bins-room))));
+            (rw zero-word at (written-one binRow 3 bin-width (bin sum (getD ws i zerof)) (3 * i) (g .bins-are) (omega arith) (omega (arith, g .room .bins-room))));
         same = simp length-set (g .same);
         state = push (record { weight = hat m ws sum i; index = i }) (g .state);
         stacks = stacks-push (g .stacks) (hat m ws sum i) i (mul-fits binary32 _ _) h (omega (arith, g .all)) below l;
@@ -240,34 +235,11 @@ whole-next bs binsRest bins work base k e h =
 pub left-in : (bins work : List ℕ) (base n k : ℕ) → Left bins work base n → k < n → 3 * getD work (base + 2 * k + 1) 0 < length bins
 left-in bins work base n k (bs, rest, e, sound, room) h = rw (e, length-append, length-binWords) (omega (arith, sound k h .0))
 
-module _ {m : ℕ} {binsRest workRest : List ℕ} {s : State} {bins work : List ℕ} {un ov : ℕ} (g : Game m binsRest workRest s bins work un ov) where
-  pub left-under : Left bins work 0 un
-  left-under = (s .bins, binsRest, g .bins-are, rw (g .count) (g .stacks .under-is .sound), omega (arith, g .stacks .room, g .stacks .together))
+-- all that a stack still holds
+module _ {m base n : ℕ} {work bins : List ℕ} {es : List Entry} (bs : List Bin) (rest : List ℕ) (k : Stack m base work n es)
+    (is : bins ≡ binWords bs ++ rest) (count : length bs ≡ m) where
+  pub left-of : base + 2 * n ≤ length work → Left bins work base n
+  left-of room = (bs, rest, is, rw count (k .sound), room)
 
-  pub wholed-under : {bins′ : List ℕ} → Wholed bins work 0 un bins′ → bins′ ≡ binWords (leftover (s .under) (s .bins)) ++ binsRest
-  wholed-under w = rw (← g .stacks .under-is .are) (w (s .bins) binsRest (g .bins-are) (rw (g .count) (g .stacks .under-is .sound)))
-
-  over-count : length (leftover (s .under) (s .bins)) ≡ m
-  over-count = length-leftover (s .under) (s .bins) ∙ g .count
-
-  pub left-over : {bins′ : List ℕ} → bins′ ≡ binWords (leftover (s .under) (s .bins)) ++ binsRest → Left bins′ work (2 * m) ov
-  left-over e =
-      (leftover (s .under) (s .bins), binsRest, e, rw over-count (g .stacks .over-is .sound), omega (arith, g .stacks .room, g .stacks .together))
-
-  pub wholed-over : {bins′ bins″ : List ℕ} → bins′ ≡ binWords (leftover (s .under) (s .bins)) ++ binsRest → Wholed bins′ work (2 * m) ov bins″
-      → bins″ ≡ binWords (finish s) ++ binsRest
-  wholed-over e w = rw (← g .stacks .over-is .are) (w (leftover (s .under) (s .bins)) binsRest e (rw over-count (g .stacks .over-is .sound)))
-
--- ---- from the start to the end
-
-module _ (ws : List Float) (bins₀ work₀ : List ℕ) {bins work : List ℕ} {un ov : ℕ} (m : ℕ) (s : Started m ws bins₀ work₀ bins work un ov) where
-  pub playing : Playing m bins work un ov
-  playing = (drop (3 * m) bins₀, drop (4 * m) work₀, start ws, s)
-
-  pub game-over : {bins′ work′ : List ℕ} {un′ ov′ : ℕ} → Played m bins work un ov bins′ work′ un′ ov′
-      → Game m (drop (3 * m) bins₀) (drop (4 * m) work₀) (turns m (start ws)) bins′ work′ un′ ov′
-  game-over p = p (drop (3 * m) bins₀) (drop (4 * m) work₀) (start ws) s
-
-pub played-is : (ws : List Float) (m : ℕ) → length ws ≡ m → finish (turns m (start ws)) ≡ played ws
-unfolding played
-played-is ws m e = rw e
+  pub wholed-of : {bins′ : List ℕ} → Wholed bins work base n bins′ → bins′ ≡ binWords (leftover es bs) ++ rest
+  wholed-of w = rw (← k .are) (w bs rest is (rw count (k .sound)))
