@@ -224,17 +224,6 @@ module _ {m : ℕ} {ws : List Float} {sum : Float} {bins₀ work₀ bins work : 
 
 -- ---- what is left over
 
--- one more is whole
-pub whole-next : (bs : List Bin) (binsRest bins work : List ℕ) (base k : ℕ) → bins ≡ binWords (leftover (stackAt base work k) bs) ++ binsRest
-    → getD work (base + 2 * k + 1) 0 < length bs
-    → set bins (3 * getD work (base + 2 * k + 1) 0) 0x3f80_0000 ≡ binWords (leftover (stackAt base work (k + 1)) bs) ++ binsRest
-unfolding leftover stackAt
-whole-next bs binsRest bins work base k e h =
-    rw (e, add-one k) (whole-words 0 (leftover (stackAt base work k) bs) (getD work (base + 2 * k + 1) 0) binsRest (rw length-leftover h))
-
-pub left-in : (bins work : List ℕ) (base n k : ℕ) → Left bins work base n → k < n → 3 * getD work (base + 2 * k + 1) 0 < length bins
-left-in bins work base n k (bs, rest, e, sound, room) h = rw (e, length-append, length-binWords) (omega (arith, sound k h .0))
-
 -- all that a stack still holds
 module _ {m base n : ℕ} {work bins : List ℕ} {es : List Entry} (bs : List Bin) (rest : List ℕ) (k : Stack m base work n es)
     (is : bins ≡ binWords bs ++ rest) (count : length bs ≡ m) where
