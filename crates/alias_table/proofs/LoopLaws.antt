@@ -102,12 +102,15 @@ module _ {m : ℕ} {bins₀ work₀ : List ℕ} {under over : ℕ} {bins work : 
   pub going-in : Playing m bins₀ work₀ under over → 0 < un → 0 < ov → 3 * getD work (underTop un + 1) 0 + 2 < length bins
   going-in (binsRest, workRest, s, p) u o = settle-in (g .on binsRest workRest s p .2) u o
 
-  pub going-next : 0 < un → 0 < ov → (below : Bool) → lt (left work (underTop un) (overTop m ov)) one ≡ below
-      → Going m bins₀ work₀ under over (settled bins work (underTop un) (overTop m ov))
-      (put work (top m (un - 1) (ov - 1) below) (left work (underTop un) (overTop m ov)) (getD work (overTop m ov + 1) 0))
-      (cond below un (un - 1)) (cond below (ov - 1) ov)
-  going-next u o below l =
-      record {
+  -- a turn, by what its steps promise: x is what is left, and it goes on the stack that b says
+  pub going-next : {x : Float} {bins′ work′ : List ℕ} {b : Bool} → 0 < un → 0 < ov → x ≡ left work (underTop un) (overTop m ov)
+      → bins′ ≡ settled bins work (underTop un) (overTop m ov)
+      → (b ≡ lt x one) × (work′ ≡ put work (top m (un - 1) (ov - 1) (lt x one)) x (getD work (overTop m ov + 1) 0))
+      → (below : Bool) → b ≡ below → Going m bins₀ work₀ under over bins′ work′ (cond below un (un - 1)) (cond below (ov - 1) ov)
+  going-next u o x-is bins-are (b-is, work-is) below e =
+      let l = rw x-is at (sym b-is ∙ e) in
+      rw (bins-are, work-is, x-is, l)
+      (record {
         together = omega (arith, less below, g .together);
         room = simp length-set (g .room);
         same-bins = simp length-set (g .same-bins);
@@ -117,7 +120,7 @@ module _ {m : ℕ} {bins₀ work₀ : List ℕ} {under over : ℕ} {bins work : 
         on = λ binsRest workRest s p.
             let (t, then, game) = g .on binsRest workRest s p in
             (turn t, sym (turns-one (g .to-go) t (omega (arith, g .enough))) ∙ then, turn-next game u o below l);
-      }
+      })
     where
       less : (b : Bool) → cond b un (un - 1) + cond b (ov - 1) ov < un + ov
       less true = omega arith
@@ -133,19 +136,9 @@ module _ {m : ℕ} {bins₀ work₀ : List ℕ} {under over : ℕ} {bins work : 
 
 -- ---- the start
 
-abbrev startWith : ℕ → Float → List Float → State
-startWith m sum ws = pushAll (ofInt binary32 (pos m)) 0 (map (bin sum) ws) (record { bins = map (bin sum) ws; under = []; over = [] })
-
--- a weight's share, and what it is pushed with
-abbrev pub share : List Float → Float → ℕ → Float
-share ws sum i = getD ws i zerof ⊘ sum
-
-abbrev pub hat : ℕ → List Float → Float → ℕ → Float
-hat m ws sum i = share ws sum i ⊗ ofInt binary32 (pos m)
-
--- a bin's words at the start
-abbrev pub fresh : List Float → Float → ℕ → List ℕ
-fresh ws sum i = 0 ∷ toBits binary32 (share ws sum i) ∷ none ∷ []
+-- how many, as a float
+abbrev count : ℕ → Float
+count m = ofInt binary32 (pos m)
 
 zero-word : toBits binary32 zerof ≡ 0
 unfolding toBits ofBits
@@ -161,7 +154,8 @@ pub record Starting (m : ℕ) (ws : List Float) (sum : Float) (bins₀ work₀ b
   pub same : length work ≡ length work₀
   pub state : State
   pub stacks : Stacks m (drop (4 * m) work₀) state work under over
-  pub then : pushAll (ofInt binary32 (pos m)) i (drop i (map (bin sum) ws)) state ≡ startWith m sum ws
+  pub then : pushAll (count m) i (drop i (map (bin sum) ws)) state
+      ≡ pushAll (count m) 0 (map (bin sum) ws) (record { bins = map (bin sum) ws; under = []; over = [] })
 
 pub starting-none : {m : ℕ} (ws : List Float) (sum : Float) {bins work : List ℕ} → length ws ≡ m → Room m bins work
     → Starting m ws sum bins work bins work 0 0 0
@@ -180,16 +174,22 @@ starting-none {m} ws sum {bins} {work} len r =
 
 module _ {m : ℕ} {ws : List Float} {sum : Float} {bins₀ work₀ bins work : List ℕ} {under over i : ℕ}
     (g : Starting m ws sum bins₀ work₀ bins work under over i) where
-  pub starting-next : i < m → (below : Bool) → lt (hat m ws sum i) one ≡ below
-      → Starting m ws sum bins₀ work₀ (sets bins (3 * i) (fresh ws sum i)) (put work (top m under over below) (hat m ws sum i) i)
-      (cond below (under + 1) under) (cond below over (over + 1)) (i + 1)
+  -- one bin more, by what its steps promise: w is its weight, and it goes on the stack that b says
+  pub starting-next : {w : Float} {bins′ work′ : List ℕ} {b : Bool} → i < m → w ≡ getD ws i zerof
+      → bins′ ≡ sets bins (3 * i) (0 ∷ toBits binary32 (w ⊘ sum) ∷ none ∷ [])
+      → (b ≡ lt (w ⊘ sum ⊗ count m) one) × (work′ ≡ put work (top m under over (lt (w ⊘ sum ⊗ count m) one)) (w ⊘ sum ⊗ count m) i)
+      → (below : Bool) → b ≡ below
+      → Starting m ws sum bins₀ work₀ bins′ work′ (cond below (under + 1) under) (cond below over (over + 1)) (i + 1)
   unfolding pushAll
-  starting-next h below l =
+  starting-next h w-is bins-are (b-is, work-is) below e =
+      let hat = getD ws i zerof ⊘ sum ⊗ count m in
+      let l = rw w-is at (sym b-is ∙ e) in
       let xs = map (bin sum) ws in
       let long : i < length xs = rw (length-map, g .len) h in
       let is : getD xs i (bin sum zerof) ≡ bin sum (getD ws i zerof) = List·getD-map (bin sum) ws i zerof in
       let done : length (take i xs) ≡ i = length-take-le i xs (omega arith) in
-      record {
+      rw (bins-are, work-is, w-is, l)
+      (record {
         len = g .len;
         room = g .room;
         all = more below;
@@ -198,10 +198,10 @@ module _ {m : ℕ} {ws : List Float} {sum : Float} {bins₀ work₀ bins work : 
             rw (add-one i, take-suc xs i (bin sum zerof) long, is)
             (rw zero-word at (written-one binRow 3 bin-width (bin sum (getD ws i zerof)) (3 * i) (g .bins-are) (omega arith) (omega (arith, g .room .bins-room))));
         same = simp length-set (g .same);
-        state = push (record { weight = hat m ws sum i; index = i }) (g .state);
-        stacks = stacks-push (g .stacks) (hat m ws sum i) i (mul-fits binary32 _ _) h (omega (arith, g .all)) below l;
+        state = push (record { weight = hat; index = i }) (g .state);
+        stacks = stacks-push (g .stacks) hat i (mul-fits binary32 _ _) h (omega (arith, g .all)) below l;
         then = rw (add-one i) (rw (drop-cons xs i (bin sum zerof) long, is) at (g .then));
-      }
+      })
     where
       more : (b : Bool) → cond b (under + 1) under + cond b over (over + 1) ≡ i + 1
       more true = omega (arith, g .all)

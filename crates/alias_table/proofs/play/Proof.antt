@@ -1,6 +1,5 @@
 -- `alias_table::play` meets its contract: turns go on to the last state, while neither stack is empty. Assumes nothing.
 use Prim.Native.Nat.{_+_}
-use mathlib.Core.Path.{sym, _∙_}
 use mathlib.Core.Bool.{true, false}
 use mathlib.Core.Logic.{inl, inr}
 use borrow.Author.Tests.{ltb-true, ltb-false}
@@ -25,17 +24,15 @@ loop-again : tie.Need-loop-again Inv-loop μ-loop
 loop-again c =
     let pushed = c .before .before .before in
     let sum = pushed .before .before .before .before .before .before .before in
-    let l = rw (sum .joint .ensures) at (sym (pushed .push .ensures .0) ∙ c .if2 .taken) in
-    rw (pushed .push .ensures .1, c .before .before .before .before .before .before .before .settle .ensures, sum .joint .ensures, l)
-    (going-next (sum .before .before .before .before .before .before .loop .inv) (omega arith) (omega (arith, ltb-true)) true l)
+    going-next (sum .before .before .before .before .before .before .loop .inv) (omega arith) (omega (arith, ltb-true)) (sum .joint .ensures)
+    (pushed .before .before .before .before .settle .ensures) (pushed .push .ensures) true (c .if2 .taken)
 
 loop-again-2 : tie.Need-loop-again-2 Inv-loop μ-loop
 loop-again-2 c =
     let pushed = c .before .before .before in
     let sum = pushed .before .before .before .before .before .before .before in
-    let l = rw (sum .joint .ensures) at (sym (pushed .push .ensures .0) ∙ c .if2 .left) in
-    rw (pushed .push .ensures .1, c .before .before .before .before .before .before .before .settle .ensures, sum .joint .ensures, l)
-    (going-next (sum .before .before .before .before .before .before .loop .inv) (omega arith) (omega (arith, ltb-true)) false l)
+    going-next (sum .before .before .before .before .before .before .loop .inv) (omega arith) (omega (arith, ltb-true)) (sum .joint .ensures)
+    (pushed .before .before .before .before .settle .ensures) (pushed .push .ensures) false (c .if2 .left)
 
 pub play-spec : {M : Type 1} → statement M
 play-spec =

@@ -1,6 +1,5 @@
 -- `alias_table::start` meets its contract: the bins passed are written and pushed. Assumes nothing.
 use Prim.Native.Nat.{_-_, _^_}
-use mathlib.Core.Path.{sym, _∙_}
 use mathlib.Core.Bool.{true, false}
 use borrow.Author.Tests.{le-leb}
 use denote.Ref.{now}
@@ -33,17 +32,15 @@ loop-again : tie.Need-loop-again Inv-loop μ-loop
 loop-again c =
     let pushed = c .before .before .before in
     let weight = pushed .before .before .before .before .before .before in
-    let l = rw (weight .weight-at .ensures) at (sym (pushed .push .ensures .0) ∙ c .if1 .taken) in
-    rw (pushed .push .ensures .1, c .before .before .before .before .before .before .before .put-bin .ensures, weight .weight-at .ensures, l)
-    (starting-next (weight .before .before .loop .inv) (omega arith) true l)
+    starting-next (weight .before .before .loop .inv) (omega arith) (weight .weight-at .ensures) (pushed .before .before .before .before .put-bin .ensures)
+    (pushed .push .ensures) true (c .if1 .taken)
 
 loop-again-2 : tie.Need-loop-again-2 Inv-loop μ-loop
 loop-again-2 c =
     let pushed = c .before .before .before in
     let weight = pushed .before .before .before .before .before .before in
-    let l = rw (weight .weight-at .ensures) at (sym (pushed .push .ensures .0) ∙ c .if1 .left) in
-    rw (pushed .push .ensures .1, c .before .before .before .before .before .before .before .put-bin .ensures, weight .weight-at .ensures, l)
-    (starting-next (weight .before .before .loop .inv) (omega arith) false l)
+    starting-next (weight .before .before .loop .inv) (omega arith) (weight .weight-at .ensures) (pushed .before .before .before .before .put-bin .ensures)
+    (pushed .push .ensures) false (c .if1 .left)
 
 returns : tie.Need-returns Inv-loop μ-loop
 returns c = starting-all (c .before .loop .inv) (omega arith) (c .before .before .before .before .before .before .pre .1)
