@@ -195,8 +195,8 @@ module _ {m : ℕ} {ws : List Float} {sum : Float} {bins₀ work₀ bins work : 
         all = more below;
         some = omega arith;
         bins-are =
-            rw (add-one i, take-suc xs i (bin sum zerof) long, is)
-            (rw zero-word at (written-one binRow 3 bin-width (bin sum (getD ws i zerof)) (3 * i) (g .bins-are) (omega arith) (omega (arith, g .room .bins-room))));
+            rw (add-one i, take-suc xs i (bin sum zerof) long, is) (rw zero-word at (written-one binRow 3 bin-width (bin sum (getD ws i zerof)) (3 * i)
+            (g .bins-are) (omega arith) (omega (arith, g .room .bins-room))));
         same = simp length-set (g .same);
         state = push (record { weight = hat; index = i }) (g .state);
         stacks = stacks-push (g .stacks) hat i (mul-fits binary32 _ _) h (omega (arith, g .all)) below l;

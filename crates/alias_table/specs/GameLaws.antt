@@ -13,7 +13,8 @@ use lib.IntN.{pos}
 use lib.Ieee.{Float, binary32, ofInt, eq, lt}
 use lib.ListN.{length, replicate, length-map, length-replicate}
 use Rattle.ieee.specs.Single.{_⊕_, _⊖_, _⊗_, zero as zerof, one}
-use Rattle.alias_table.specs.AliasTable.{Bin, Entry, State, sumFrom, filledIn, total, bin, push, pushAll, start, update, settle, whole, turned, turn, turns, leftover, finish, table}
+use Rattle.alias_table.specs.AliasTable.{Bin, Entry, State, sumFrom, filledIn, total, bin, push, pushAll, start, table}
+use Rattle.alias_table.specs.AliasTable.{update, settle, whole, turned, turn, turns, leftover, finish}
 
 -- ---- pushing
 
@@ -249,7 +250,8 @@ held-inTurns : (i n : ℕ) (s : State) → occurrences i (inTurns n s) ≡ heldI
 unfolding inTurns held
 held-inTurns i zero s = occurrences-append i (places (s .under)) (places (s .over))
 held-inTurns i (suc n) s =
-    omega (arith, occurrences-append i (settledBy (s .under) (s .over)) (inTurns n (turn s)), held-inTurns i n (turn s), held-turned i (s .bins) (s .under) (s .over))
+    let more = occurrences-append i (settledBy (s .under) (s .over)) (inTurns n (turn s)) in
+    omega (arith, more, held-inTurns i n (turn s), held-turned i (s .bins) (s .under) (s .over))
 
 -- the places before and past the bins pushed
 held-outside : (i : ℕ) (count : Float) (j : ℕ) (bs : List Bin) (s : State) → (i < j) ⊎ (j + length bs ≤ i) → heldIn i (pushAll count j bs s) ≡ heldIn i s

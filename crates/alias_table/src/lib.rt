@@ -38,8 +38,10 @@ struct Heights {
 // refusal 2, short bins or work 3, a weight that is NaN, infinite or below zero 8.
 pub fn build_power_alias_table(weights: &[u32], bins: &mut [u32], work: &mut [u32]) -> Counted
     ensures { λ r. ⌜ counted r ≡ count (buildPowerAliasTable (now (weights .entry)) (length (now (bins .entry))) (length (now (work .entry)))) ⌝ }
-    ensures { λ _. ⌜ now (bins .exit) ≡ tray binWords (3 * length (now (weights .entry))) (buildPowerAliasTable (now (weights .entry)) (length (now (bins .entry))) (length (now (work .entry)))) (now (bins .entry)) ⌝ }
-    ensures { λ _. ⌜ now (work .exit) ≡ tray (λ (bs : List Bin). []) (4 * length (now (weights .entry))) (buildPowerAliasTable (now (weights .entry)) (length (now (bins .entry))) (length (now (work .entry)))) (now (work .entry)) ⌝ }
+    ensures { λ _. ⌜ now (bins .exit) ≡ tray binWords (3 * length (now (weights .entry)))
+        (buildPowerAliasTable (now (weights .entry)) (length (now (bins .entry))) (length (now (work .entry)))) (now (bins .entry)) ⌝ }
+    ensures { λ _. ⌜ now (work .exit) ≡ tray (λ (bs : List Bin). []) (4 * length (now (weights .entry)))
+        (buildPowerAliasTable (now (weights .entry)) (length (now (bins .entry))) (length (now (work .entry)))) (now (work .entry)) ⌝ }
 {
     let m = weights.len();
     if m > MAX_LAMPS {
@@ -117,8 +119,10 @@ fn weight_at(weights: &[u32], flat: bool, i: usize) -> f32
 fn build(weights: &[u32], flat: bool, sum: f32, bins: &mut [u32], work: &mut [u32])
     requires { ⌜ Room (length (now weights)) (now bins) (now work) ⌝ }
     requires { ⌜ sum ≡ totalOf (weighted flat (now weights)) ⌝ }
-    ensures { λ _. ⌜ now (bins .exit) ≡ binWords (played (weighted flat (now (weights .entry)))) ++ drop (3 * length (now (weights .entry))) (now (bins .entry)) ⌝ }
-    ensures { λ _. ⌜ now (work .exit) ≡ replicate (4 * length (now (weights .entry))) 0 ++ drop (4 * length (now (weights .entry))) (now (work .entry)) ⌝ }
+    ensures { λ _. ⌜ now (bins .exit)
+        ≡ binWords (played (weighted flat (now (weights .entry)))) ++ drop (3 * length (now (weights .entry))) (now (bins .entry)) ⌝ }
+    ensures { λ _. ⌜ now (work .exit)
+        ≡ replicate (4 * length (now (weights .entry))) 0 ++ drop (4 * length (now (weights .entry))) (now (work .entry)) ⌝ }
 {
     let count = weights.len();
     let first = start(weights, flat, sum, bins, work);
@@ -132,7 +136,8 @@ fn build(weights: &[u32], flat: bool, sum: f32, bins: &mut [u32], work: &mut [u3
 fn start(weights: &[u32], flat: bool, sum: f32, bins: &mut [u32], work: &mut [u32]) -> Heights
     requires { ⌜ Room (length (now weights)) (now bins) (now work) ⌝ }
     requires { ⌜ sum ≡ totalOf (weighted flat (now weights)) ⌝ }
-    ensures { λ r. ⌜ Started (length (now (weights .entry))) (weighted flat (now (weights .entry))) (now (bins .entry)) (now (work .entry)) (now (bins .exit)) (now (work .exit)) (r .under) (r .over) ⌝ }
+    ensures { λ r. ⌜ Started (length (now (weights .entry))) (weighted flat (now (weights .entry))) (now (bins .entry)) (now (work .entry))
+        (now (bins .exit)) (now (work .exit)) (r .under) (r .over) ⌝ }
 {
     let m = weights.len();
     let count = m as f32;

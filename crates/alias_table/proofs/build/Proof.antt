@@ -40,7 +40,8 @@ returns c =
     let args = started .before .before .before .before .before .before .args in
     let g = won .play .ensures _ _ _ (started .start .ensures) in
     let under = wholed-of _ _ (g .stacks .under-is) (g .bins-are) (g .count) (halved .make-whole .ensures) in
-    let over = wholed-of _ _ (g .stacks .over-is) under (length-leftover _ _ ∙ g .count) (c .before .before .before .before .before .before .make-whole2 .ensures) in
+    let whole = c .before .before .before .before .before .before in
+    let over = wholed-of _ _ (g .stacks .over-is) under (length-leftover _ _ ∙ g .count) (whole .make-whole2 .ensures) in
     (rw (weighted-length (args .flat) (now (args .weights))) over, c .before .before .zero-words .ensures ∙ zeroed _ _ _ (g .stacks .room) (g .stacks .rest))
 
 pub build-spec : {M : Type 1} → statement M

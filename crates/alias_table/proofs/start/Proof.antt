@@ -21,12 +21,14 @@ abbrev μ-loop : tie.MeasureT-loop
 
 int-to-float-count : tie.Need-int-to-float-count Inv-loop μ-loop
 unfolding inFloat
-int-to-float-count c = rw (le-leb (length (now (c .before .before .before .before .args .weights))) (2 ^ 24) (omega (arith, c .before .before .before .before .pre))) tt
+int-to-float-count c =
+    let start = c .before .before .before .before in
+    rw (le-leb (length (now (start .args .weights))) (2 ^ 24) (omega (arith, start .pre))) tt
 
 loop-holds : tie.Need-loop-holds Inv-loop μ-loop
 loop-holds c =
-    let args = c .before .before .before .before .args in
-    starting-none (weighted (args .flat) (now (args .weights))) (args .sum) (weighted-length (args .flat) (now (args .weights))) (c .before .before .before .before .pre .0)
+    let start = c .before .before .before .before in
+    starting-none _ (start .args .sum) (weighted-length (start .args .flat) (now (start .args .weights))) (start .pre .0)
 
 loop-again : tie.Need-loop-again Inv-loop μ-loop
 loop-again c =
