@@ -1,6 +1,6 @@
 -- The game's loops: the turns on their way to the last state; the start, bin by bin; and what is left over. Assumes nothing.
 use Prim.Native.Nat.{ℕ, zero, suc, _+_, _-_, _*_, _≤_, _<_}
-use mathlib.Core.Path.{_≡_, refl, sym, ap, subst, _∙_}
+use mathlib.Core.Path.{_≡_, refl, sym, _∙_}
 use mathlib.Core.Bool.{Bool, true, false, cond}
 use mathlib.Core.List.{List, [], _∷_, _++_, map}
 use mathlib.Core.Logic.{_⊎_, inl, inr, ⊎-elim}
@@ -16,9 +16,9 @@ use Rattle.ieee.specs.Single.{_⊕_, _⊖_, _⊗_, _⊘_, single, zero as zerof
 use Rattle.words.proofs.RowLaws.{Written, written-none, written-one}
 use Rattle.alias_table.specs.AliasTable.{Bin, Entry, State, none, total, bin, push, pushAll, start}
 use Rattle.alias_table.specs.AliasTable.{update, settle, turned, turn, turns, leftover, binRow, binWords}
-use Rattle.alias_table.specs.GameLaws.{turns-stay, push-bins, start-bins, length-update, length-leftover}
+use Rattle.alias_table.specs.GameLaws.{turns-stay, push-bins, start-bins, length-update}
 use Rattle.alias_table.specs.Stacks.{stackAt, put, top, Stack, Stacks, Game, Room, Started, Playing, Played, Left, Wholed}
-use Rattle.alias_table.proofs.StackLaws.{bin-width, length-binWords, settle-words, whole-words, stacks-push, stacks-none, popped, stack-top}
+use Rattle.alias_table.proofs.StackLaws.{bin-width, length-binWords, settle-words, stacks-push, stacks-none, popped, stack-top}
 
 -- ---- the turns
 

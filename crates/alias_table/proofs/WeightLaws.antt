@@ -1,20 +1,18 @@
 -- Weights and their sums: which weight ends the pass, both sums on the way and at its end, and the weights that are played. Assumes nothing.
 use Prim.Native.Nat.{ℕ, _+_, _≤_, _<_}
-use mathlib.Core.Path.{_≡_, refl, sym, ap, subst, _∙_}
+use mathlib.Core.Path.{_≡_, refl, sym, subst, _∙_}
 use mathlib.Core.Bool.{Bool, true, false, cond, not, or-true}
 use mathlib.Core.List.{List, _∷_, map}
 use native.Mathlib.Numerals.{add-one}
 use native.Mathlib.Omega.{arith}
 use lib.Dec.{T}
-use lib.Ieee.{Float, nan, inf, fin, binary32, binary64, ofBits, add, lt, eq}
+use lib.Ieee.{Float, nan, inf, fin, binary32, binary64, ofBits, add, lt}
 use lib.Ieee.Scale.{finite}
-use lib.ListN.{length, getD, drop, replicate, length-map, length-replicate, List·getD-map, drop-of-length-le}
+use lib.ListN.{length, getD, drop, length-map, length-replicate, List·getD-map, drop-of-length-le}
 use lib.Seq.{drop-cons}
-use Rattle.ieee.specs.Narrow.{narrow}
 use Rattle.ieee.specs.Single.{single, zero as zerof, one}
-use Rattle.alias_table.specs.AliasTable.{bad, anyBad, sumFrom, total}
+use Rattle.alias_table.specs.AliasTable.{bad, anyBad, sumFrom}
 use Rattle.alias_table.specs.Stacks.{sumsFrom, sumsOf, weighted}
-use Rattle.alias_table.specs.declared.Sums.{Sums}
 use Rattle.alias_table.specs.declared.Sums.the-variants.{Of, Bad}
 
 -- ---- a bad weight

@@ -5,7 +5,6 @@ use mathlib.Core.List.{List, [], _∷_}
 use lib.Ieee.{Float, binary32, ofBits, toBits, ofInt, span, climb, size, odd, units, round, neg, sum, add, sub, mul, div, lt, eq, le}
 use Rattle.ieee.specs.Choose.{fabs}
 use Rattle.ieee.specs.Narrow.{narrow}
-use Rattle.ieee.specs.Single.{single}
 use Rattle.words.specs.Answers.{Answer}
 use Rattle.words.specs.Rows.{rowsFrom}
 use Rattle.words.specs.Tray.{tray}

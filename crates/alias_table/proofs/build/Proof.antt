@@ -1,10 +1,8 @@
 -- `alias_table::build` meets its contract: the game from its start goes on to its last state, and what either stack still holds is whole. Assumes nothing.
 use borrow.Author.Needs.{needs}
-use Prim.Native.Nat.{_*_}
 use mathlib.Core.Path.{_∙_}
 use native.Mathlib.Omega.{arith}
 use denote.Ref.{now}
-use lib.ListN.{length}
 use Rattle.words.proofs.Reserves.{zeroed}
 use Rattle.alias_table.specs.GameLaws.{length-leftover}
 use Rattle.alias_table.specs.Stacks.{played}
