@@ -66,8 +66,8 @@ module _ {m base n : ℕ} {work : List ℕ} {es : List Entry} (g : Stack m base 
   stack-beside : (at + 1 < base) ⊎ (base + 2 * n ≤ at) → Stack m base (put work at w i) n es
   stack-beside out =
       let same : (j : ℕ) → base ≤ j → j < base + 2 * n → getD (put work at w i) j 0 ≡ getD work j 0 = λ j h k.
-          getD-set-other (set work at (toBits binary32 w)) (at + 1) j i 0 (λ e. ⊎-elim (λ l. omega arith) (λ l. omega arith) out)
-          ∙ getD-set-other work at j (toBits binary32 w) 0 (λ e. ⊎-elim (λ l. omega arith) (λ l. omega arith) out) in
+      getD-set-other (set work at (toBits binary32 w)) (at + 1) j i 0 (λ e. ⊎-elim (λ l. omega arith) (λ l. omega arith) out)
+      ∙ getD-set-other work at j (toBits binary32 w) 0 (λ e. ⊎-elim (λ l. omega arith) (λ l. omega arith) out) in
       record {
         are = stack-same base n work (put work at w i) same ∙ g .are;
         sound = λ k l. rw (same (base + 2 * k + 1) (omega arith) (omega arith), same (base + 2 * k) (omega arith) (omega arith)) (g .sound k l);

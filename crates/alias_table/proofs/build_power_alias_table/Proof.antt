@@ -1,5 +1,5 @@
--- `alias_table::build_power_alias_table` meets its contract: its tests are the definition's, in their order, and where they pass the sums say which of the two
--- answers is left. Assumes nothing.
+-- `alias_table::build_power_alias_table` meets its contract: its tests are the definition's, and where they pass the sums say which answer is left.
+-- Assumes nothing.
 use borrow.Author.Needs.{needs}
 use borrow.Author.Tests.{lt-ltb, le-ltb, lt-leb, le-leb, ltb-true, ltb-false}
 use Prim.Native.Nat.{_*_}
@@ -40,8 +40,7 @@ room c = record { few = c .before .before .if1 .left; bins-room = c .before .if2
 
 build-requires : tie.Need-build-requires
 build-requires c κs =
-    let told = c .before .before .before .before in
-    (
+    let told = c .before .before .before .before in (
       room (told .before .before .before),
       c .before .before .total .ensures ∙ total-is _ _ _ (sym (told .s .given .1) ∙ told .before .before .add-up .ensures),
     )

@@ -1,4 +1,4 @@
--- `alias_table::play` meets its contract: turns go on to the last state, while neither stack is empty. Assumes nothing.
+-- `alias_table::play` meets its contract: each turn is the game's, and where a stack is empty the turns to go change nothing. Assumes nothing.
 use Prim.Native.Nat.{_+_}
 use mathlib.Core.Bool.{true, false}
 use mathlib.Core.Logic.{inl, inr}

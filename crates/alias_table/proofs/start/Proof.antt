@@ -1,4 +1,4 @@
--- `alias_table::start` meets its contract: the bins passed are written and pushed. Assumes nothing.
+-- `alias_table::start` meets its contract: the bins passed are written and pushed, and pushing the others leads to the start's state. Assumes nothing.
 use Prim.Native.Nat.{_-_, _^_}
 use mathlib.Core.Bool.{true, false}
 use borrow.Author.Tests.{le-leb}
