@@ -67,12 +67,8 @@ valid-start m sum (w ∷ ws) = (inr refl, valid-start m sum ws)
 -- an entry's place is one of m where the stacks hold no other
 low-place : (m : ℕ) (us os : List Entry) (o : Entry) → ((i : ℕ) → m ≤ i → held i us (o ∷ os) ≡ 0) → o .index < m
 unfolding held
-low-place m us os o h = go (decLe m (o .index))
-  where
-    go : Dec (m ≤ o .index) → o .index < m
-    go (no n) = lt-of-not-le n
-    go (yes l) =
-        absurd (omega (arith, h (o .index) l, occurrences-cons (o .index) (o .index) (places os), hit-same (o .index) (o .index) refl))
+low-place m us os o h =
+    lt-of-not-le (λ l. omega (arith, h (o .index) l, occurrences-cons (o .index) (o .index) (places os), hit-same (o .index) (o .index) refl))
 
 valid-turned : (m : ℕ) (bs : List Bin) (us os : List Entry) → ((i : ℕ) → m ≤ i → held i us os ≡ 0) → AllValid m bs → AllValid m (turned bs us os .bins)
 unfolding turned
@@ -211,27 +207,14 @@ after n ws = turns n (start (filledIn ws))
 
 module _ (ws : List Float) (n : ℕ) (u o : Entry) (us os : List Entry) (eu : after n ws .under ≡ u ∷ us) (eo : after n ws .over ≡ o ∷ os) where
   early : n < length ws
-  early = go (decLe (length ws) n)
-    where
-      go : Dec (length ws ≤ n) → n < length ws
-      go (no l) = lt-of-not-le l
-      go (yes l) =
-          ⊎-elim (λ e. absurd (omega (arith, ap (λ (es : List Entry). length es) (sym eu ∙ e))))
-          (λ e. absurd (omega (arith, ap (λ (es : List Entry). length es) (sym eo ∙ e))))
-          (ends-after (filledIn ws) n (rw filledIn-length l))
+  early =
+      lt-of-not-le (λ l. ⊎-elim (λ e. omega (arith, ap (λ (es : List Entry). length es) (sym eu ∙ e)))
+      (λ e. omega (arith, ap (λ (es : List Entry). length es) (sym eo ∙ e))) (ends-after (filledIn ws) n (rw filledIn-length l)))
 
   low : u .index < length ws
-  low = go (decLe (length ws) (u .index))
-    where
-      go : Dec (length ws ≤ u .index) → u .index < length ws
-      go (no l) = lt-of-not-le l
-      go (yes l) =
-          absurd (omega (
-            arith,
-            held-past (filledIn ws) (u .index) (rw filledIn-length l),
-            held-turns (u .index) n (start (filledIn ws)),
-            held-once (after n ws .bins) _ _ u o us os eu eo,
-          ))
+  low =
+      let held-there = held-once (after n ws .bins) _ _ u o us os eu eo in
+      lt-of-not-le (λ l. omega (arith, held-past (filledIn ws) (u .index) (rw filledIn-length l), held-turns (u .index) n (start (filledIn ws))))
 
   out : heldIn (u .index) (turn (after n ws)) ≡ 0
   out =
