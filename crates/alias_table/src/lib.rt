@@ -34,8 +34,8 @@ struct Heights {
     over: usize,
 }
 
-// Bins of three words (q, p, alias) into `bins`, with `work` of four words a weight, and how many bins. More weights than lamps are allowed is
-// refusal 2, short bins or work 3, a weight that is NaN, infinite or below zero 8.
+// Bins of three words (q, p, alias) into `bins`, with `work` of four words a weight, and how many bins. Over MAX_LAMPS weights is refusal 2, short
+// bins or work 3, a weight that is NaN, infinite or below zero 8.
 pub fn build_power_alias_table(weights: &[u32], bins: &mut [u32], work: &mut [u32]) -> Counted
     ensures { λ r. ⌜ counted r ≡ count (buildPowerAliasTable (now (weights .entry)) (length (now (bins .entry))) (length (now (work .entry)))) ⌝ }
     ensures { λ _. ⌜ now (bins .exit) ≡ tray binWords (3 * length (now (weights .entry)))
