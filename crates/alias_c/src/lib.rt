@@ -17,8 +17,10 @@ pub extern "C" fn alias_build_power_alias_table(
     work: &mut [u32],
 ) -> u32
     ensures { λ r. ⌜ r ≡ code (buildPowerAliasTable (now (weights .entry)) (length (now (bins .entry))) (length (now (work .entry)))) ⌝ }
-    ensures { λ _. ⌜ now (bins .exit) ≡ tray binWords (3 * length (now (weights .entry))) (buildPowerAliasTable (now (weights .entry)) (length (now (bins .entry))) (length (now (work .entry)))) (now (bins .entry)) ⌝ }
-    ensures { λ _. ⌜ now (work .exit) ≡ tray (λ (bs : List Bin). []) (4 * length (now (weights .entry))) (buildPowerAliasTable (now (weights .entry)) (length (now (bins .entry))) (length (now (work .entry)))) (now (work .entry)) ⌝ }
+    ensures { λ _. ⌜ now (bins .exit) ≡ tray binWords (3 * length (now (weights .entry)))
+        (buildPowerAliasTable (now (weights .entry)) (length (now (bins .entry))) (length (now (work .entry)))) (now (bins .entry)) ⌝ }
+    ensures { λ _. ⌜ now (work .exit) ≡ tray (λ (bs : List Bin). []) (4 * length (now (weights .entry)))
+        (buildPowerAliasTable (now (weights .entry)) (length (now (bins .entry))) (length (now (work .entry)))) (now (work .entry)) ⌝ }
 {
     counted_code(build_power_alias_table(weights, bins, work))
 }

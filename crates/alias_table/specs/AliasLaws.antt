@@ -1,5 +1,5 @@
--- Laws of the alias table's definition, beyond the Rust: every alias is a place or none, a bin's share is its weight's, an under bin's q is its weight as it was
--- computed, and a leftover has q 1 and no alias. That the game ends and that every bin is settled once stands in GameLaws. Assumes nothing.
+-- Laws of the alias table's definition, beyond the Rust: every alias is a place or none, a bin's share is its weight's, an under bin's q is its weight
+-- as it was computed, and a leftover has q 1 and no alias. That the game ends and that every bin is settled once stands in GameLaws. Assumes nothing.
 use Prim.Native.Nat.{ℕ, zero, suc, _+_, _-_, _≤_, _<_}
 use mathlib.Core.Path.{_≡_, refl, sym, ap, _∙_}
 use mathlib.Core.Bool.{Bool, true, false}
@@ -13,8 +13,11 @@ use lib.Dec.{eqb}
 use lib.Ieee.{Float}
 use lib.ListN.{length, getD, List·getD-map}
 use Rattle.ieee.specs.Single.{_⊘_, zerof, onef}
-use Rattle.alias_table.specs.AliasTable.{Bin, Entry, State, none, filledIn, total, bin, start, update, settle, whole, turned, turn, turns, leftover, finish, table}
-use Rattle.alias_table.specs.GameLaws.{push-bins, ends-after, start-bins, length-turns, length-leftover, filledIn-length, start-length, table-length, occurrences, places, settledBy, hit-same, hit-other, occurrences-none, occurrences-cons, occurrences-append, held, heldIn, held-turned, held-turns, held-start, held-past}
+use Rattle.alias_table.specs.AliasTable.{Bin, Entry, State, none, filledIn, total, bin, start, table}
+use Rattle.alias_table.specs.AliasTable.{update, settle, whole, turned, turn, turns, leftover, finish}
+use Rattle.alias_table.specs.GameLaws.{push-bins, ends-after, start-bins, length-turns, length-leftover, filledIn-length, start-length, table-length}
+use Rattle.alias_table.specs.GameLaws.{occurrences, places, hit-same, hit-other, occurrences-none, occurrences-cons, occurrences-append}
+use Rattle.alias_table.specs.GameLaws.{settledBy, held, heldIn, held-turned, held-turns, held-start, held-past}
 
 -- ---- the bin at a place
 
@@ -64,12 +67,8 @@ valid-start m sum (w ∷ ws) = (inr refl, valid-start m sum ws)
 -- an entry's place is one of m where the stacks hold no other
 low-place : (m : ℕ) (us os : List Entry) (o : Entry) → ((i : ℕ) → m ≤ i → held i us (o ∷ os) ≡ 0) → o .index < m
 unfolding held
-low-place m us os o h = go (decLe m (o .index))
-  where
-    go : Dec (m ≤ o .index) → o .index < m
-    go (no n) = lt-of-not-le n
-    go (yes l) =
-        absurd (omega (arith, h (o .index) l, occurrences-cons (o .index) (o .index) (places os), hit-same (o .index) (o .index) refl))
+low-place m us os o h =
+    lt-of-not-le (λ l. omega (arith, h (o .index) l, occurrences-cons (o .index) (o .index) (places os), hit-same (o .index) (o .index) refl))
 
 valid-turned : (m : ℕ) (bs : List Bin) (us os : List Entry) → ((i : ℕ) → m ≤ i → held i us os ≡ 0) → AllValid m bs → AllValid m (turned bs us os .bins)
 unfolding turned
@@ -132,7 +131,10 @@ unfolding table
 shares-table ws =
     let s = start (filledIn ws) in
     let t = turns (length ws) s in
-    shares-leftover (t .over) (leftover (t .under) (t .bins)) ∙ shares-leftover (t .under) (t .bins) ∙ shares-turns (length ws) s ∙ ap shares (start-bins (filledIn ws))
+    shares-leftover (t .over) (leftover (t .under) (t .bins))
+    ∙ shares-leftover (t .under) (t .bins)
+    ∙ shares-turns (length ws) s
+    ∙ ap shares (start-bins (filledIn ws))
 
 share-of : (ws : List Float) (sum : Float) (i : ℕ) → i < length ws → getD (shares (map (bin sum) ws)) i zerof ≡ getD ws i zerof ⊘ sum
 unfolding shares
@@ -146,7 +148,8 @@ share-at bs i = sym (List·getD-map (λ (b : Bin). b .p) bs i (record { q = zero
 
 -- p is the weight's share
 pub p-is : (ws : List Float) (i : ℕ) → i < length ws → binAt (table ws) i .p ≡ getD (filledIn ws) i zerof ⊘ total (filledIn ws)
-p-is ws i h = share-at (table ws) i ∙ ap (λ (l : List Float). getD l i zerof) (shares-table ws) ∙ share-of (filledIn ws) (total (filledIn ws)) i (rw filledIn-length h)
+p-is ws i h =
+    share-at (table ws) i ∙ rw (shares-table ws) (share-of (filledIn ws) (total (filledIn ws)) i (rw filledIn-length h))
 
 -- ---- an under bin's q
 
@@ -204,27 +207,14 @@ after n ws = turns n (start (filledIn ws))
 
 module _ (ws : List Float) (n : ℕ) (u o : Entry) (us os : List Entry) (eu : after n ws .under ≡ u ∷ us) (eo : after n ws .over ≡ o ∷ os) where
   early : n < length ws
-  early = go (decLe (length ws) n)
-    where
-      go : Dec (length ws ≤ n) → n < length ws
-      go (no l) = lt-of-not-le l
-      go (yes l) =
-          ⊎-elim (λ e. absurd (omega (arith, ap (λ (es : List Entry). length es) (sym eu ∙ e))))
-          (λ e. absurd (omega (arith, ap (λ (es : List Entry). length es) (sym eo ∙ e))))
-          (ends-after (filledIn ws) n (rw filledIn-length l))
+  early =
+      lt-of-not-le (λ l. ⊎-elim (λ e. omega (arith, ap (λ (es : List Entry). length es) (sym eu ∙ e)))
+      (λ e. omega (arith, ap (λ (es : List Entry). length es) (sym eo ∙ e))) (ends-after (filledIn ws) n (rw filledIn-length l)))
 
   low : u .index < length ws
-  low = go (decLe (length ws) (u .index))
-    where
-      go : Dec (length ws ≤ u .index) → u .index < length ws
-      go (no l) = lt-of-not-le l
-      go (yes l) =
-          absurd (omega (
-            arith,
-            held-past (filledIn ws) (u .index) (rw filledIn-length l),
-            held-turns (u .index) n (start (filledIn ws)),
-            held-once (after n ws .bins) _ _ u o us os eu eo,
-          ))
+  low =
+      let held-there = held-once (after n ws .bins) _ _ u o us os eu eo in
+      lt-of-not-le (λ l. omega (arith, held-past (filledIn ws) (u .index) (rw filledIn-length l), held-turns (u .index) n (start (filledIn ws))))
 
   out : heldIn (u .index) (turn (after n ws)) ≡ 0
   out =

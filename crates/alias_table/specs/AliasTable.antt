@@ -1,5 +1,5 @@
 -- The power alias table, step by step as `build_power_alias_table` of `light_sampler.rs` has it. A weight is a word, its value an f32; a bin is
--- three words: q, p, alias. Assumes nothing.
+-- three words: q, p, alias. Definitions only. Assumes nothing.
 use Prim.Native.Nat.{ℕ, zero, suc, _*_}
 use mathlib.Core.Bool.{Bool, false, cond, not, _||_, _&&_}
 use mathlib.Core.List.{List, [], _∷_, map}
@@ -11,9 +11,8 @@ use lib.ListN.{length, replicate}
 use Rattle.ieee.specs.Narrow.{narrow}
 use Rattle.ieee.specs.Single.{_⊕_, _⊖_, _⊗_, _⊘_, single, zerof, onef}
 use Rattle.words.specs.Answers.{Answer, given, refused}
-use Rattle.words.specs.Refusals.{number}
-use Rattle.alias_table.specs.declared.AliasTable.{AliasTable}
-use Rattle.alias_table.specs.declared.AliasTable.the-variants.{Bins, Refused}
+use Rattle.words.specs.Limits.{maxLamps}
+use Rattle.words.specs.Rows.{rowsFrom}
 
 -- `PowerAliasBin`
 pub record Bin : Type 0 where
@@ -131,15 +130,14 @@ unfoldable pub buildPowerAliasTable : List ℕ → ℕ → ℕ → Answer (List 
 buildPowerAliasTable words binsRoom workRoom =
     let m = length words in
     let ws = map single words in
-    cond (ltb 4096 m) (refused 2)
+    cond (ltb maxLamps m) (refused 2)
     (cond (leb (3 * m) binsRoom && leb (4 * m) workRoom)
     (cond (anyBad ws) (refused 8) (given (table ws)))
     (refused 3))
 
-unfoldable pub binWords : List Bin → List ℕ
-binWords [] = []
-binWords (b ∷ bs) = toBits binary32 (b .q) ∷ toBits binary32 (b .p) ∷ b .alias ∷ binWords bs
+-- a bin's three words; those of bins, in their order
+abbrev pub binRow : ℕ → Bin → List ℕ
+binRow place b = toBits binary32 (b .q) ∷ toBits binary32 (b .p) ∷ b .alias ∷ []
 
-abbrev pub tabled : AliasTable → Answer ℕ
-tabled (Bins n) = given n
-tabled (Refused r) = refused (number r)
+abbrev pub binWords : List Bin → List ℕ
+binWords bs = rowsFrom binRow 0 bs

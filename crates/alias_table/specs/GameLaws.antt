@@ -13,7 +13,8 @@ use lib.IntN.{pos}
 use lib.Ieee.{Float, binary32, ofInt, eq, lt}
 use lib.ListN.{length, replicate, length-map, length-replicate}
 use Rattle.ieee.specs.Single.{_⊕_, _⊖_, _⊗_, zerof, onef}
-use Rattle.alias_table.specs.AliasTable.{Bin, Entry, State, sumFrom, filledIn, total, bin, push, pushAll, start, update, settle, whole, turned, turn, turns, leftover, finish, table}
+use Rattle.alias_table.specs.AliasTable.{Bin, Entry, State, sumFrom, filledIn, total, bin, push, pushAll, start, table}
+use Rattle.alias_table.specs.AliasTable.{update, settle, whole, turned, turn, turns, leftover, finish}
 
 -- ---- pushing
 
@@ -23,20 +24,13 @@ onUnder e s = record { bins = s .bins; under = e ∷ s .under; over = s .over }
 abbrev onOver : Entry → State → State
 onOver e s = record { bins = s .bins; under = s .under; over = e ∷ s .over }
 
-pub under-push : (e : Entry) (s : State) → lt (e .weight) onef ≡ true → push e s ≡ record { bins = s .bins; under = e ∷ s .under; over = s .over }
-unfolding push
-under-push e s h = rw h
-
-pub over-push : (e : Entry) (s : State) → lt (e .weight) onef ≡ false → push e s ≡ record { bins = s .bins; under = s .under; over = e ∷ s .over }
-unfolding push
-over-push e s h = rw h
-
 push-either : (e : Entry) (s : State) → (push e s ≡ onUnder e s) ⊎ (push e s ≡ onOver e s)
-push-either e s = go (lt (e .weight) onef) refl
+unfolding push
+push-either e s = go (lt (e .weight) onef)
   where
-    go : (b : Bool) → lt (e .weight) onef ≡ b → (push e s ≡ onUnder e s) ⊎ (push e s ≡ onOver e s)
-    go true h = inl (under-push e s h)
-    go false h = inr (over-push e s h)
+    go : (b : Bool) → (cond b (onUnder e s) (onOver e s) ≡ onUnder e s) ⊎ (cond b (onUnder e s) (onOver e s) ≡ onOver e s)
+    go true = inl refl
+    go false = inr refl
 
 pub push-bins : (e : Entry) (s : State) → push e s .bins ≡ s .bins
 push-bins e s = ⊎-elim (λ p. rw p) (λ p. rw p) (push-either e s)
@@ -120,10 +114,7 @@ length-turned : (bs : List Bin) (us os : List Entry) → length (turned bs us os
 unfolding turned
 length-turned bs [] os = refl
 length-turned bs (u ∷ us) [] = refl
-length-turned bs (u ∷ us) (o ∷ os) =
-    ap (λ (l : List Bin). length l) (push-bins (record { weight = u .weight ⊕ o .weight ⊖ onef; index = o .index })
-    (record { bins = update bs (u .index) (settle (u .weight) (o .index)); under = us; over = os }))
-    ∙ length-update bs (u .index) (settle (u .weight) (o .index))
+length-turned bs (u ∷ us) (o ∷ os) = rw (push-bins, length-update)
 
 pub length-turns : (n : ℕ) (s : State) → length (turns n s .bins) ≡ length (s .bins)
 unfolding turns
@@ -150,7 +141,7 @@ pub ends : (ws : List Float) → (turns (length ws) (start (filledIn ws)) .under
 ends ws = ends-after (filledIn ws) (length ws) (omega (arith, filledIn-length ws))
 
 pub start-length : (ws : List Float) → length (start ws .bins) ≡ length ws
-start-length ws = ap (λ (l : List Bin). length l) (start-bins ws) ∙ length-map ws (bin (total ws))
+start-length ws = rw (start-bins, length-map)
 
 pub table-length : (ws : List Float) → length (table ws) ≡ length ws
 unfolding table
@@ -249,7 +240,8 @@ held-inTurns : (i n : ℕ) (s : State) → occurrences i (inTurns n s) ≡ heldI
 unfolding inTurns held
 held-inTurns i zero s = occurrences-append i (places (s .under)) (places (s .over))
 held-inTurns i (suc n) s =
-    omega (arith, occurrences-append i (settledBy (s .under) (s .over)) (inTurns n (turn s)), held-inTurns i n (turn s), held-turned i (s .bins) (s .under) (s .over))
+    let more = occurrences-append i (settledBy (s .under) (s .over)) (inTurns n (turn s)) in
+    omega (arith, more, held-inTurns i n (turn s), held-turned i (s .bins) (s .under) (s .over))
 
 -- the places before and past the bins pushed
 held-outside : (i : ℕ) (count : Float) (j : ℕ) (bs : List Bin) (s : State) → (i < j) ⊎ (j + length bs ≤ i) → heldIn i (pushAll count j bs s) ≡ heldIn i s
@@ -258,9 +250,7 @@ held-outside i count j [] s h = refl
 held-outside i count j (b ∷ bs) s h =
     let e = entryOf count j b in
     held-outside i count (suc j) bs (push e s) (⊎-elim (λ l. inl (omega arith)) (λ l. inr (omega arith)) h)
-    ∙ held-push i e s
-    ∙ ap (λ (n : ℕ). n + heldIn i s) (hit-other i j (λ p. ⊎-elim (λ l. omega arith) (λ l. omega arith) h))
-    ∙ zero-add (heldIn i s)
+    ∙ omega (arith, held-push i e s, hit-other i j (λ p. ⊎-elim (λ l. omega arith) (λ l. omega arith) h))
 
 -- and those of the bins
 held-inside : (i : ℕ) (count : Float) (j : ℕ) (bs : List Bin) (s : State) → j ≤ i → i < j + length bs → heldIn i (pushAll count j bs s) ≡ suc (heldIn i s)

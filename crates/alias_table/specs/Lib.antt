@@ -2,5 +2,3 @@ pub mod AliasTable
 pub mod GameLaws
 pub mod AliasLaws
 pub mod Stacks
-pub mod StackLaws
-pub mod TableLaws

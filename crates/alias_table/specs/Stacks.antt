@@ -1,4 +1,5 @@
--- The game of AliasTable.antt in words: how the two stacks stand in the lent work, and what each step of the code does to the words. Assumes nothing.
+-- The game of AliasTable.antt in words: how the two stacks stand in the lent work, and what each step of the code does to the words.
+-- Definitions only. Assumes nothing.
 use Prim.Native.Nat.{ℕ, zero, suc, _+_, _*_, _≤_, _<_}
 use mathlib.Core.Path.{_≡_}
 use mathlib.Core.Bool.{Bool, cond}
@@ -6,6 +7,7 @@ use mathlib.Core.List.{List, [], _∷_, _++_, map}
 use lib.Ieee.{Float, binary32, binary64, toBits}
 use lib.ListN.{length, getD, set, drop, replicate}
 use Rattle.ieee.specs.Single.{single, zerof, onef}
+use Rattle.words.specs.Limits.{maxLamps}
 use Rattle.alias_table.specs.AliasTable.{Bin, Entry, State, anyBad, sumFrom, start, turns, leftover, finish, binWords}
 use Rattle.alias_table.specs.declared.Sums.{Sums}
 use Rattle.alias_table.specs.declared.Sums.the-variants.{Of, Bad}
@@ -54,12 +56,15 @@ SoundAt m base work k =
 abbrev pub Sound : ℕ → ℕ → List ℕ → ℕ → Type 0
 Sound m base work n = (k : ℕ) → k < n → SoundAt m base work k
 
+-- n entries from word `base` on are these
+pub record Stack (m base : ℕ) (work : List ℕ) (n : ℕ) (es : List Entry) : Type 0 where
+  pub are : stackAt base work n ≡ es
+  pub sound : Sound m base work n
+
 -- The stacks of a state as they stand in the work: `under` from word 0 on, `over` from word 2m on; after 4m words `workRest`.
 pub record Stacks (m : ℕ) (workRest : List ℕ) (s : State) (work : List ℕ) (under over : ℕ) : Type 0 where
-  pub under-are : stackAt 0 work under ≡ s .under
-  pub over-are : stackAt (2 * m) work over ≡ s .over
-  pub under-sound : Sound m 0 work under
-  pub over-sound : Sound m (2 * m) work over
+  pub under-is : Stack m 0 work under (s .under)
+  pub over-is : Stack m (2 * m) work over (s .over)
   pub together : under + over ≤ m
   pub room : 4 * m ≤ length work
   pub rest : drop (4 * m) work ≡ workRest
@@ -73,7 +78,7 @@ pub record Game (m : ℕ) (binsRest workRest : List ℕ) (s : State) (bins work 
 -- ---- what each step asks, and what it does
 
 pub record Room (m : ℕ) (bins work : List ℕ) : Type 0 where
-  pub few : m ≤ 4096
+  pub few : m ≤ maxLamps
   pub bins-room : 3 * m ≤ length bins
   pub work-room : 4 * m ≤ length work
 

@@ -1,5 +1,5 @@
-// The power alias table (specs/AliasTable.antt): `build_power_alias_table` of pbrt-r4's light_sampler.rs over lent slices. The two stacks of the Rust stand in the
-// lent work, each entry a weight's word and a place: `under` from word 0 on, `over` from word 2m on.
+// The power alias table (specs/AliasTable.antt): `build_power_alias_table` of pbrt-r4's light_sampler.rs over lent slices. The two stacks of the
+// Rust stand in the lent work, each entry a weight's word and a place: `under` from word 0 on, `over` from word 2m on.
 ghost use mathlib.Core.Path.{_≡_};
 ghost use mathlib.Core.Bool.{cond};
 ghost use mathlib.Core.List.{List, [], _∷_, map, _++_};
@@ -9,22 +9,18 @@ ghost use lib.ListN.{length, getD, set, replicate, drop};
 ghost use lib.Seq.{sets};
 ghost use Rattle.ieee.specs.Single.{_⊕_, _⊖_, single, zerof, onef};
 ghost use Rattle.ieee.specs.Narrow.{narrow as narrowed};
-ghost use Rattle.words.specs.Answers.{count};
+ghost use Rattle.words.specs.Answers.{count, counted};
 ghost use Rattle.words.specs.Tray.{tray};
-ghost use Rattle.alias_table.specs.AliasTable.{Bin, sumFrom, total as totalOf, buildPowerAliasTable, binWords, tabled};
+ghost use Rattle.alias_table.specs.AliasTable.{Bin, sumFrom, total as totalOf, buildPowerAliasTable, binWords};
 ghost use Rattle.alias_table.specs.Stacks.{sumsOf, weighted, played, put, top, Room, Started, Playing, Played, Left, Wholed};
 use floats::narrow::narrow;
 use floats::narrow::widen;
+use words::answers::Counted;
 use words::fill::zero_words;
 use words::floats::f32_of_word;
 use words::floats::word_of_f32;
+use words::limits::MAX_LAMPS;
 use words::refusals::Refusal;
-
-// How many bins were written, or why none.
-pub enum AliasTable {
-    Bins(usize),
-    Refused(Refusal),
-}
 
 // The sum of the weights as f32 and as f64, or a weight is not finite or below zero.
 enum Sums {
@@ -38,21 +34,20 @@ struct Heights {
     over: usize,
 }
 
-// Bins of three words (q, p, alias) into `bins`, with `work` of four words a weight. Over 4,096 weights is refusal 2, short bins or work 3, a weight that is NaN,
-// infinite or below zero 8.
-pub fn build_power_alias_table(weights: &[u32], bins: &mut [u32], work: &mut [u32]) -> AliasTable
-    ensures { λ r. ⌜ tabled r ≡ count (buildPowerAliasTable (now (weights .entry)) (length (now (bins .entry))) (length (now (work .entry)))) ⌝ }
-    ensures { λ _. ⌜ now (bins .exit) ≡ tray binWords (3 * length (now (weights .entry))) (buildPowerAliasTable (now (weights .entry)) (length (now (bins .entry))) (length (now (work .entry)))) (now (bins .entry)) ⌝ }
-    ensures { λ _. ⌜ now (work .exit) ≡ tray (λ (bs : List Bin). []) (4 * length (now (weights .entry))) (buildPowerAliasTable (now (weights .entry)) (length (now (bins .entry))) (length (now (work .entry)))) (now (work .entry)) ⌝ }
+// Bins of three words (q, p, alias) into `bins`, with `work` of four words a weight, and how many bins. Over MAX_LAMPS weights is refusal 2, short
+// bins or work 3, a weight that is NaN, infinite or below zero 8.
+pub fn build_power_alias_table(weights: &[u32], bins: &mut [u32], work: &mut [u32]) -> Counted
+    ensures { λ r. ⌜ counted r ≡ count (buildPowerAliasTable (now (weights .entry)) (length (now (bins .entry))) (length (now (work .entry)))) ⌝ }
+    ensures { λ _. ⌜ now (bins .exit) ≡ tray binWords (3 * length (now (weights .entry)))
+        (buildPowerAliasTable (now (weights .entry)) (length (now (bins .entry))) (length (now (work .entry)))) (now (bins .entry)) ⌝ }
+    ensures { λ _. ⌜ now (work .exit) ≡ tray (λ (bs : List Bin). []) (4 * length (now (weights .entry)))
+        (buildPowerAliasTable (now (weights .entry)) (length (now (bins .entry))) (length (now (work .entry)))) (now (work .entry)) ⌝ }
 {
     let m = weights.len();
-    if m > 4096 {
+    if m > MAX_LAMPS {
         return Counted::Refused(Refusal::Crowded);
     }
-    if bins.len() < 3 * m {
-        return Counted::Refused(Refusal::ShortTray);
-    }
-    if work.len() < 4 * m {
+    if bins.len() < 3 * m || work.len() < 4 * m {
         return Counted::Refused(Refusal::ShortTray);
     }
     let s = add_up(weights);
@@ -79,16 +74,12 @@ fn add_up(weights: &[u32]) -> Sums
     let mut i = 0;
     while i < weights.len() {
         let w = f32_of_word(weights[i]);
-        if w < 0.0 {
+        if !(w < 1.0 / 0.0) || w < 0.0 {
             return Sums::Bad;
         }
-        if w < 1.0 / 0.0 {
-            single = single + w;
-            double = double + widen(w);
-            i += 1;
-        } else {
-            return Sums::Bad;
-        }
+        single = single + w;
+        double = double + widen(w);
+        i += 1;
     }
     Sums::Of(single, double)
 }
@@ -128,8 +119,10 @@ fn weight_at(weights: &[u32], flat: bool, i: usize) -> f32
 fn build(weights: &[u32], flat: bool, sum: f32, bins: &mut [u32], work: &mut [u32])
     requires { ⌜ Room (length (now weights)) (now bins) (now work) ⌝ }
     requires { ⌜ sum ≡ totalOf (weighted flat (now weights)) ⌝ }
-    ensures { λ _. ⌜ now (bins .exit) ≡ binWords (played (weighted flat (now (weights .entry)))) ++ drop (3 * length (now (weights .entry))) (now (bins .entry)) ⌝ }
-    ensures { λ _. ⌜ now (work .exit) ≡ replicate (4 * length (now (weights .entry))) 0 ++ drop (4 * length (now (weights .entry))) (now (work .entry)) ⌝ }
+    ensures { λ _. ⌜ now (bins .exit)
+        ≡ binWords (played (weighted flat (now (weights .entry)))) ++ drop (3 * length (now (weights .entry))) (now (bins .entry)) ⌝ }
+    ensures { λ _. ⌜ now (work .exit)
+        ≡ replicate (4 * length (now (weights .entry))) 0 ++ drop (4 * length (now (weights .entry))) (now (work .entry)) ⌝ }
 {
     let count = weights.len();
     let first = start(weights, flat, sum, bins, work);
@@ -143,7 +136,8 @@ fn build(weights: &[u32], flat: bool, sum: f32, bins: &mut [u32], work: &mut [u3
 fn start(weights: &[u32], flat: bool, sum: f32, bins: &mut [u32], work: &mut [u32]) -> Heights
     requires { ⌜ Room (length (now weights)) (now bins) (now work) ⌝ }
     requires { ⌜ sum ≡ totalOf (weighted flat (now weights)) ⌝ }
-    ensures { λ r. ⌜ Started (length (now (weights .entry))) (weighted flat (now (weights .entry))) (now (bins .entry)) (now (work .entry)) (now (bins .exit)) (now (work .exit)) (r .under) (r .over) ⌝ }
+    ensures { λ r. ⌜ Started (length (now (weights .entry))) (weighted flat (now (weights .entry))) (now (bins .entry)) (now (work .entry))
+        (now (bins .exit)) (now (work .exit)) (r .under) (r .over) ⌝ }
 {
     let m = weights.len();
     let count = m as f32;
@@ -205,10 +199,7 @@ fn play(m: usize, bins: &mut [u32], work: &mut [u32], under: usize, over: usize)
 {
     let mut nu = under;
     let mut no = over;
-    while 0 < nu {
-        if no == 0 {
-            break;
-        }
+    while 0 < nu && 0 < no {
         let u = 2 * (nu - 1);
         let o = 2 * m + 2 * (no - 1);
         let under_word = work[u];

@@ -5,13 +5,14 @@ use mathlib.Core.List.{List, [], _∷_}
 use lib.Ieee.{Float, binary32, ofBits, toBits, ofInt, span, climb, size, odd, units, round, neg, sum, add, sub, mul, div, lt, eq, le}
 use Rattle.ieee.specs.Choose.{fabs}
 use Rattle.ieee.specs.Narrow.{narrow}
-use Rattle.ieee.specs.Single.{single}
 use Rattle.words.specs.Answers.{Answer}
+use Rattle.words.specs.Rows.{rowsFrom}
 use Rattle.words.specs.Tray.{tray}
 use Rattle.ieee.specs.Sqrt.{root, isqrt, rootOf, sqrt}
 use Rattle.trig.specs.Series.{turns, seriesStep, series, arcStep, arc}
 use Rattle.trig.specs.Trig.{cos, acos, asin, twiceArc}
-use Rattle.alias_table.specs.AliasTable.{Bin, buildPowerAliasTable, anyBad, sumFrom, filledIn, total, push, pushAll, start, update, turned, turns as gameTurns, leftover, table, binWords}
+use Rattle.alias_table.specs.AliasTable.{Bin, buildPowerAliasTable, anyBad, sumFrom, filledIn, total, push, pushAll, start, update, turned}
+use Rattle.alias_table.specs.AliasTable.{turns as gameTurns, leftover, table, binWords}
 
 -- a function's answer as a word, of an argument as a word
 abbrev pub word : (Float → Float) → ℕ → ℕ
@@ -36,5 +37,16 @@ pub record Marked : Type 0 where
   pub work-of-one-three : tray (λ (bs : List Bin). []) 8 oneThree (1 ∷ 2 ∷ 3 ∷ 4 ∷ 5 ∷ 6 ∷ 7 ∷ 8 ∷ 9 ∷ []) ≡ 0 ∷ 0 ∷ 0 ∷ 0 ∷ 0 ∷ 0 ∷ 0 ∷ 0 ∷ 9 ∷ []
 
 pub marked : Marked
-unfolding root isqrt rootOf sqrt ofBits toBits ofInt span climb size odd units round neg sum add sub mul div lt eq le fabs narrow turns seriesStep series arcStep arc cos acos asin twiceArc anyBad sumFrom filledIn total push pushAll start update turned gameTurns leftover table binWords buildPowerAliasTable tray
-marked = record { root-of-two = refl; root-of-smallest = refl; cos-of-half-pi = refl; acos-of-minus-one = refl; asin-of-one = refl; alias-of-one-three = refl; work-of-one-three = refl }
+unfolding root isqrt rootOf sqrt ofBits toBits ofInt span climb size odd units round neg sum add sub mul div lt eq le fabs narrow
+    turns seriesStep series arcStep arc cos acos asin twiceArc
+    anyBad sumFrom filledIn total push pushAll start update turned gameTurns leftover table rowsFrom buildPowerAliasTable tray
+marked =
+    record {
+      root-of-two = refl;
+      root-of-smallest = refl;
+      cos-of-half-pi = refl;
+      acos-of-minus-one = refl;
+      asin-of-one = refl;
+      alias-of-one-three = refl;
+      work-of-one-three = refl;
+    }

@@ -1,6 +1,6 @@
-// Replays the stored answers of the alias table: pbrt-r4's own light_sampler.rs (rust/src/reference.rs). A case is 161 words: how many weights, the words lent for the
-// bins and for the work, a refusal's number or 0, weights 17, the bins at exit 60, the work at exit 80. Bins and work are filled with a5a5a5a5 before the call, lent as
-// far as the case says, and compared whole after it.
+// Replays the stored answers of the alias table: pbrt-r4's own light_sampler.rs (rust/src/reference.rs). A case is 161 words: how many weights, the
+// words lent for the bins and for the work, a refusal's number or 0, weights 17, the bins at exit 60, the work at exit 80. Bins and work are filled
+// with a5a5a5a5 before the call, lent as far as the case says, and compared whole after it.
 ghost use Prim.Native.Nat.{_≤_};
 ghost use lib.ListN.{length};
 use alias_table::build_power_alias_table;
@@ -41,15 +41,7 @@ fn alias_agree(case: &[u32; 256]) -> bool {
     let mut bins = [0xa5a5_a5a5u32; 60];
     let mut work = [0xa5a5_a5a5u32; 80];
     let number = alias_answer(case, &mut bins, &mut work);
-    if number == word_or_zero(case, 3) {
-        if same(case, 21, &bins) {
-            same(case, 81, &work)
-        } else {
-            false
-        }
-    } else {
-        false
-    }
+    number == word_or_zero(case, 3) && same(case, 21, &bins) && same(case, 81, &work)
 }
 
 fn replay() -> Tally {

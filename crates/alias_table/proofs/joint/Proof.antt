@@ -1,4 +1,4 @@
--- `alias_table::joint` meets its contract: its steps are the definition's. Assumes nothing.
+-- `alias_table::joint` meets its contract: both words are read as the definition reads them. Assumes nothing.
 use borrow.Author.Needs.{needs}
 use lib.Ieee.{ofBits}
 use Rattle.alias_table.proofs.joint.Statement.{statement}

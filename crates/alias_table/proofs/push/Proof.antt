@@ -1,4 +1,4 @@
--- `alias_table::push` meets its contract: the test picks the stack. Assumes nothing.
+-- `alias_table::push` meets its contract: the test picks the stack, by the definition's comparison. Assumes nothing.
 use borrow.Author.Needs.{needs}
 use mathlib.Core.Path.{refl}
 use Rattle.alias_table.proofs.push.Statement.{statement}

@@ -1,4 +1,4 @@
--- `alias_table::put_bin` meets its contract: three stores. Assumes nothing.
+-- `alias_table::put_bin` meets its contract: three stores in a row are one of three words. Assumes nothing.
 use borrow.Author.Needs.{needs}
 use Prim.Native.Nat.{suc, _+_}
 use mathlib.Core.Path.{_≡_}

@@ -1,4 +1,4 @@
--- `alias_table::put_entry` meets its contract: two stores. Assumes nothing.
+-- `alias_table::put_entry` meets its contract: two stores, the first of the weight's word. Assumes nothing.
 use borrow.Author.Needs.{needs}
 use Rattle.alias_table.proofs.put_entry.Statement.{statement}
 use Rattle.alias_table.proofs.put_entry.Tie as tie

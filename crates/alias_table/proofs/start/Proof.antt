@@ -1,13 +1,13 @@
--- `alias_table::start` meets its contract: the bins passed are written and pushed. Assumes nothing.
+-- `alias_table::start` meets its contract: the bins passed are written and pushed, and pushing the others leads to the start's state. Assumes nothing.
 use Prim.Native.Nat.{_-_, _^_}
-use mathlib.Core.Path.{sym, _∙_}
 use mathlib.Core.Bool.{true, false}
 use borrow.Author.Tests.{le-leb}
 use denote.Ref.{now}
 use lib.Ieee.{inFloat}
 use lib.ListN.{length}
 use Rattle.alias_table.specs.Stacks.{weighted}
-use Rattle.alias_table.specs.StackLaws.{Starting, starting-none, starting-next, starting-all, weighted-length}
+use Rattle.alias_table.proofs.LoopLaws.{Starting, starting-none, starting-next, starting-all}
+use Rattle.alias_table.proofs.WeightLaws.{weighted-length}
 use native.Mathlib.Omega.{arith}
 use Rattle.alias_table.proofs.start.Statement.{statement}
 use Rattle.alias_table.proofs.start.Tie as tie
@@ -21,28 +21,28 @@ abbrev μ-loop : tie.MeasureT-loop
 
 int-to-float-count : tie.Need-int-to-float-count Inv-loop μ-loop
 unfolding inFloat
-int-to-float-count c = rw (le-leb (length (now (c .before .before .before .before .args .weights))) (2 ^ 24) (omega (arith, c .before .before .before .before .pre))) tt
+int-to-float-count c =
+    let start = c .before .before .before .before in
+    rw (le-leb (length (now (start .args .weights))) (2 ^ 24) (omega (arith, start .pre))) tt
 
 loop-holds : tie.Need-loop-holds Inv-loop μ-loop
 loop-holds c =
-    let args = c .before .before .before .before .args in
-    starting-none (weighted (args .flat) (now (args .weights))) (args .sum) (weighted-length (args .flat) (now (args .weights))) (c .before .before .before .before .pre .0)
+    let start = c .before .before .before .before in
+    starting-none _ (start .args .sum) (weighted-length (start .args .flat) (now (start .args .weights))) (start .pre .0)
 
 loop-again : tie.Need-loop-again Inv-loop μ-loop
 loop-again c =
     let pushed = c .before .before .before in
     let weight = pushed .before .before .before .before .before .before in
-    let l = rw (weight .weight-at .ensures) at (sym (pushed .push .ensures .0) ∙ c .if1 .taken) in
-    rw (pushed .push .ensures .1, c .before .before .before .before .before .before .before .put-bin .ensures, weight .weight-at .ensures, l)
-    (starting-next (weight .before .before .loop .inv) (omega arith) true l)
+    starting-next (weight .before .before .loop .inv) (omega arith) (weight .weight-at .ensures) (pushed .before .before .before .before .put-bin .ensures)
+    (pushed .push .ensures) true (c .if1 .taken)
 
 loop-again-2 : tie.Need-loop-again-2 Inv-loop μ-loop
 loop-again-2 c =
     let pushed = c .before .before .before in
     let weight = pushed .before .before .before .before .before .before in
-    let l = rw (weight .weight-at .ensures) at (sym (pushed .push .ensures .0) ∙ c .if1 .left) in
-    rw (pushed .push .ensures .1, c .before .before .before .before .before .before .before .put-bin .ensures, weight .weight-at .ensures, l)
-    (starting-next (weight .before .before .loop .inv) (omega arith) false l)
+    starting-next (weight .before .before .loop .inv) (omega arith) (weight .weight-at .ensures) (pushed .before .before .before .before .put-bin .ensures)
+    (pushed .push .ensures) false (c .if1 .left)
 
 returns : tie.Need-returns Inv-loop μ-loop
 returns c = starting-all (c .before .loop .inv) (omega arith) (c .before .before .before .before .before .before .pre .1)

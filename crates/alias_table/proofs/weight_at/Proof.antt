@@ -1,22 +1,23 @@
 -- `alias_table::weight_at` meets its contract: a weight is one, or its word's value. Assumes nothing.
 use borrow.Author.Needs.{needs}
 use mathlib.Core.Path.{sym}
-use lib.Ieee.{ofBits}
 use denote.Ref.{now}
-use Rattle.alias_table.specs.StackLaws.{weighted-one, weighted-own}
+use lib.Ieee.{ofBits}
+use lib.ListN.{getD-replicate, List·getD-map}
+use Rattle.ieee.specs.Single.{single}
+use Rattle.alias_table.specs.Stacks.{weighted}
 use Rattle.alias_table.proofs.weight_at.Statement.{statement}
 use Rattle.alias_table.proofs.weight_at.Tie as tie
 
 returns : tie.Need-returns
-unfolding ofBits
-returns c =
-    let args = c .before .before .args in
-    rw (c .if1 .taken) (sym (weighted-one (now (args .weights)) (args .i) (c .before .before .pre)))
+unfolding ofBits weighted
+returns c = rw (c .if1 .taken) (sym (getD-replicate _ _ _ _ (c .before .before .pre)))
 
 returns-2 : tie.Need-returns-2
+unfolding weighted
 returns-2 c =
     let args = c .before .before .before .before .args in
-    rw (c .before .before .if1 .left, c .f32-of-word .ensures) (sym (weighted-own (now (args .weights)) (args .i)))
+    rw (c .before .before .if1 .left, c .f32-of-word .ensures) (sym (List·getD-map single (now (args .weights)) (args .i) 0))
 
 pub weight-at-spec : {M : Type 1} → statement M
 weight-at-spec =

@@ -1,0 +1,4 @@
+pub mod WeightLaws
+pub mod StackLaws
+pub mod LoopLaws
+pub mod TableLaws
