@@ -1,4 +1,5 @@
--- The bounds' answers as words, for C. A record is thirteen words, a query six; too few words or an unknown side are refusal 1. Assumes nothing.
+-- The bounds' answers as words, for C. A record is thirteen words, a query six; too few words or an unknown side are refusal 1. Definitions only.
+-- Assumes nothing.
 use Prim.Native.Nat.{ℕ, _+_}
 use mathlib.Core.Bool.{cond}
 use mathlib.Core.List.{List}
@@ -6,34 +7,27 @@ use lib.Dec.{leb}
 use lib.Ieee.{Float, binary32, toBits}
 use lib.ListN.{length}
 use Rattle.words.specs.Answers.{Answer, given, refused, _then_}
-use Rattle.light_bounds.specs.Importance.{importance}
+use Rattle.light_bounds.specs.Importance.{weigh}
 use Rattle.light_bounds.specs.LightBounds.{validate, union}
 use Rattle.light_bounds.specs.RecordWords.{recordAt, recordWords, vecAt}
-use Rattle.light_bounds.specs.declared.light_bounds.LightBounds.{LightBounds}
 use Rattle.light_bounds.specs.declared.importance.Query.{Query}
-use Rattle.light_bounds.specs.declared.record_words.Found.{Found}
-use Rattle.light_bounds.specs.declared.record_words.Found.the-variants.{Record, UnknownSide, Past}
+use Rattle.light_bounds.specs.declared.light_bounds.LightBounds.{LightBounds}
 
 -- a value's bits, or 2^32 and the refusal's number
 abbrev pub valueCode : Answer Float → ℕ
 valueCode (given x) = toBits binary32 x
 valueCode (refused n) = 0x1_0000_0000 + n
 
-abbrev pub found : Found → Answer LightBounds
-found (Record r) = given r
-found UnknownSide = refused 1
-found Past = refused 1
-
 unfoldable pub validateWords : List ℕ → Answer (Unit {0})
-validateWords ws = found (recordAt ws 0) then λ r. validate r
+validateWords ws = recordAt 1 ws 0 then λ r. validate r
 
 -- point, normal
 unfoldable pub queryOf : List ℕ → Query
 queryOf ws = record { p = vecAt ws 0; n = vecAt ws 3 }
 
 unfoldable pub importanceWords : List ℕ → List ℕ → Answer Float
-importanceWords ws qs = cond (leb 6 (length qs)) (found (recordAt ws 0) then λ r. importance r (queryOf qs)) (refused 1)
+importanceWords ws qs = cond (leb 6 (length qs)) (recordAt 1 ws 0 then λ r. weigh r (queryOf qs)) (refused 1)
 
 -- `room` words are lent for the answer
 unfoldable pub unionWords : List ℕ → List ℕ → ℕ → Answer LightBounds
-unionWords ws vs room = found (recordAt ws 0) then λ a. found (recordAt vs 0) then λ b. cond (leb recordWords room) (union a b) (refused 3)
+unionWords ws vs room = recordAt 1 ws 0 then λ a. recordAt 1 vs 0 then λ b. cond (leb recordWords room) (union a b) (refused 3)

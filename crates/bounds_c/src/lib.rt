@@ -5,22 +5,25 @@ ghost use lib.ListN.{length};
 ghost use Rattle.words.specs.Answers.{code};
 ghost use Rattle.words.specs.Tray.{tray};
 ghost use Rattle.trig.specs.Trig.{cos as cosOf, sin as sinOf, acos as acosOf, asin as asinOf};
+ghost use Rattle.light_bounds.specs.Bounds.{validity};
+ghost use Rattle.light_bounds.specs.Importance.{weight};
 ghost use Rattle.light_bounds.specs.LightBounds.{union as unionOf};
+ghost use Rattle.light_bounds.specs.RecordWords.{recordList, recordWords};
 ghost use Rattle.bounds_c.specs.Codes.{valueCode, validateWords, importanceWords, unionWords, queryOf};
-ghost use Rattle.light_bounds.specs.RecordWords.{recordList};
 use light_bounds::bounds::Validity;
-use light_bounds::light_bounds::Joined;
-use light_bounds::light_bounds::LightBounds;
 use light_bounds::importance::Query;
 use light_bounds::importance::Weight;
-use light_bounds::importance::importance;
+use light_bounds::importance::weigh;
+use light_bounds::light_bounds::Bounded;
+use light_bounds::light_bounds::LightBounds;
 use light_bounds::light_bounds::union;
 use light_bounds::light_bounds::validate;
 use light_bounds::record_words::Found;
+use light_bounds::record_words::RECORD_WORDS;
 use light_bounds::record_words::read_record;
 use light_bounds::record_words::vec_at;
 use light_bounds::record_words::write_record;
-use words::fill::fill_words;
+use words::fill::zero_words;
 use words::floats::word_of_f32;
 use words::refusals::refusal_number;
 
@@ -58,12 +61,17 @@ pub extern "C" fn bounds_validate(record: &[u32]) -> u32
     ensures { λ r. ⌜ r ≡ code (validateWords (now («record» .entry))) ⌝ }
 {
     match read_record(record, 0) {
-        Found::Record(whole) => match validate(whole) {
-            Validity::Valid => 0,
-            Validity::Refused(why) => refusal_number(why),
-        },
-        Found::UnknownSide => 1,
-        Found::Past => 1,
+        Found::Record(whole) => validity_code(validate(whole)),
+        Found::Nothing => 1,
+    }
+}
+
+fn validity_code(answer: Validity) -> u32
+    ensures { λ r. ⌜ r ≡ code (validity answer) ⌝ }
+{
+    match answer {
+        Validity::Valid => 0,
+        Validity::Refused(why) => refusal_number(why),
     }
 }
 
@@ -85,31 +93,33 @@ pub extern "C" fn bounds_importance(record: &[u32], query: &[u32]) -> u64
         return 0x1_0000_0001;
     }
     match read_record(record, 0) {
-        Found::Record(whole) => {
-            let query = query_of(query);
-            match importance(whole, query) {
-                Weight::Importance(x) => word_of_f32(x) as u64,
-                Weight::Refused(why) => 0x1_0000_0000 + refusal_number(why) as u64,
-            }
-        }
-        Found::UnknownSide => 0x1_0000_0001,
-        Found::Past => 0x1_0000_0001,
+        Found::Record(whole) => weight_code(weigh(whole, query_of(query))),
+        Found::Nothing => 0x1_0000_0001,
     }
 }
 
-// The union of two records, its thirteen words written, or zeros where it is refused.
+fn weight_code(answer: Weight) -> u64
+    ensures { λ r. ⌜ r ≡ valueCode (weight answer) ⌝ }
+{
+    match answer {
+        Weight::Importance(x) => word_of_f32(x) as u64,
+        Weight::Refused(why) => 0x1_0000_0000 + refusal_number(why) as u64,
+    }
+}
+
+// The union of two records, its words written, or zeros where it is refused.
 fn write_union(a: LightBounds, b: LightBounds, out: &mut [u32]) -> u32
-    requires { ⌜ 13 ≤ length (now out) ⌝ }
+    requires { ⌜ recordWords ≤ length (now out) ⌝ }
     ensures { λ r. ⌜ r ≡ code (unionOf a b) ⌝ }
-    ensures { λ _. ⌜ now (out .exit) ≡ tray recordList 13 (unionOf a b) (now (out .entry)) ⌝ }
+    ensures { λ _. ⌜ now (out .exit) ≡ tray recordList recordWords (unionOf a b) (now (out .entry)) ⌝ }
 {
     match union(a, b) {
-        Joined::Whole(record) => {
+        Bounded::Bounds(record) => {
             write_record(out, 0, record);
             0
         }
-        Joined::Refused(why) => {
-            fill_words(out, 0, 13, 0);
+        Bounded::Refused(why) => {
+            zero_words(out, 0, RECORD_WORDS);
             refusal_number(why)
         }
     }
@@ -119,21 +129,19 @@ fn write_union(a: LightBounds, b: LightBounds, out: &mut [u32]) -> u32
 #[no_mangle]
 pub extern "C" fn bounds_union(a: &[u32], b: &[u32], out: &mut [u32]) -> u32
     ensures { λ r. ⌜ r ≡ code (unionWords (now (a .entry)) (now (b .entry)) (length (now (out .entry)))) ⌝ }
-    ensures { λ _. ⌜ now (out .exit) ≡ tray recordList 13 (unionWords (now (a .entry)) (now (b .entry)) (length (now (out .entry)))) (now (out .entry)) ⌝ }
+    ensures { λ _. ⌜ now (out .exit) ≡ tray recordList recordWords (unionWords (now (a .entry)) (now (b .entry)) (length (now (out .entry)))) (now (out .entry)) ⌝ }
 {
     match read_record(a, 0) {
         Found::Record(first) => match read_record(b, 0) {
             Found::Record(second) => {
-                if out.len() < 13 {
+                if out.len() < RECORD_WORDS {
                     3
                 } else {
                     write_union(first, second, out)
                 }
             }
-            Found::UnknownSide => 1,
-            Found::Past => 1,
+            Found::Nothing => 1,
         },
-        Found::UnknownSide => 1,
-        Found::Past => 1,
+        Found::Nothing => 1,
     }
 }

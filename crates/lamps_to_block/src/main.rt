@@ -2,10 +2,11 @@
 // are no whole word make the list ragged (1), unless it is over the limits (2).
 ghost use Prim.Native.Nat.{_≤_};
 ghost use lib.ListN.{length};
-use words::answers::Counted;
+use lamps::block::EXHAUSTIVE_BOUNDS_WORDS;
 use lamps::build::build_light_bounds;
-use lamps::build::check_list;
+use lamps::lamp_list::check_list;
 use words::answers::Counted;
+use words::limits::MAX_LAMPS;
 use words::little_endian::bytes_of_words;
 use words::little_endian::words_of_bytes;
 use words::refusals::Refusal;
@@ -104,8 +105,8 @@ fn convert(list: &[u32], block: &mut [u32], chunk: &mut [u8]) -> bool
 {
     match build_light_bounds(list, block) {
         Counted::Count(m) => {
-            if m <= 4096 {
-                let end = 1 + 14 * m;
+            if m <= MAX_LAMPS {
+                let end = 1 + EXHAUSTIVE_BOUNDS_WORDS * m;
                 if end <= block.len() {
                     return write_words(&block[0..end], chunk);
                 }

@@ -2,11 +2,11 @@
 // b 13, a refusal's number or 0, result 13. Kinds 201 to 204 are cos, sin, acos and asin of the word a; 205 is the check of the record a, 206 the union of a and b,
 // 207 the importance of a for the query b.
 use light_bounds::bounds::Validity;
-use light_bounds::light_bounds::Joined;
-use light_bounds::light_bounds::LightBounds;
 use light_bounds::importance::Query;
 use light_bounds::importance::Weight;
-use light_bounds::importance::importance;
+use light_bounds::importance::weigh;
+use light_bounds::light_bounds::Bounded;
+use light_bounds::light_bounds::LightBounds;
 use light_bounds::light_bounds::union;
 use light_bounds::light_bounds::validate;
 use light_bounds::record_words::Found;
@@ -48,11 +48,11 @@ fn checked(record: LightBounds) -> u32 {
 
 fn joined(a: LightBounds, b: LightBounds, out: &mut [u32]) -> u32 {
     match union(a, b) {
-        Joined::Whole(record) => {
+        Bounded::Bounds(record) => {
             write_record(out, 0, record);
             0
         }
-        Joined::Refused(why) => refusal_number(why),
+        Bounded::Refused(why) => refusal_number(why),
     }
 }
 
@@ -63,7 +63,7 @@ fn query(case: &[u32]) -> Query {
 }
 
 fn weighed(record: LightBounds, query: Query, out: &mut [u32]) -> u32 {
-    match importance(record, query) {
+    match weigh(record, query) {
         Weight::Importance(x) => {
             put(out, word_of_f32(x));
             0
@@ -76,8 +76,7 @@ fn weighed(record: LightBounds, query: Query, out: &mut [u32]) -> u32 {
 fn with_second(case: &[u32], a: LightBounds, out: &mut [u32]) -> u32 {
     match read_record(case, 13) {
         Found::Record(b) => joined(a, b, out),
-        Found::UnknownSide => 1,
-        Found::Past => 1,
+        Found::Nothing => 1,
     }
 }
 
@@ -100,8 +99,7 @@ fn bounds_answer(kind: u32, case: &[u32], out: &mut [u32]) -> u32 {
     }
     match read_record(case, 0) {
         Found::Record(a) => with_first(kind, case, a, out),
-        Found::UnknownSide => 1,
-        Found::Past => 1,
+        Found::Nothing => 1,
     }
 }
 

@@ -1,45 +1,37 @@
--- `bounds_c::bounds_union` meets its contract: its steps are the definition's. Assumes nothing.
+-- `bounds_c::bounds_union` meets its contract: both records are found, then there is room, then they are joined. Assumes nothing.
 use mathlib.Core.Path.{refl}
-use Rattle.words.specs.Answers.{given, _then_}
-use native.Mathlib.Omega.{arith}
 use denote.Ref.{now}
+use native.Mathlib.Omega.{arith}
 use borrow.Author.Tests.{lt-leb, le-leb}
 use lib.ListN.{length}
-use Rattle.bounds_c.specs.Codes.{unionWords}
+use Rattle.words.specs.Answers.{_then_}
 use Rattle.words.specs.Tray.{tray}
+use Rattle.bounds_c.specs.Codes.{unionWords}
 use borrow.Author.Needs.{needs}
 use Rattle.bounds_c.proofs.bounds_union.Statement.{statement}
 use Rattle.bounds_c.proofs.bounds_union.Tie as tie
 
-enum-told : tie.Need-enum-told
-enum-told c = search needs
-
 returns : tie.Need-returns
 unfolding unionWords _then_ tray
-returns c = rw (← c .before .before .before .before .before .before .before .before .read-record .ensures, c .before .before .before .before .before .before .first .given .1, ← c .before .before .before .before .read-record2 .ensures, c .before .before .second .given .1, lt-leb 13 (length (now (c .before .before .before .before .before .before .before .before .before .before .before .before .args .out))) (omega arith)) (refl, refl)
+returns c =
+    rw (← c .before .before .before .before .before .before .before .before .read-record .ensures 1, c .before .before .before .before .before .before .first .given .1, ← c .before .before .before .before .read-record2 .ensures 1, c .before .before .second .given .1,
+    lt-leb 13 (length (now (c .before .before .before .before .before .before .before .before .before .before .before .before .args .out))) (omega arith)) (refl, refl)
 
 returns-2 : tie.Need-returns-2
-unfolding unionWords _then_ tray
-returns-2 c = rw (← c .before .before .before .before .before .before .before .before .before .before .before .before .read-record .ensures, c .before .before .before .before .before .before .before .before .before .before .first .given .1, ← c .before .before .before .before .before .before .before .before .read-record2 .ensures, c .before .before .before .before .before .before .second .given .1, le-leb 13 (length (now (c .before .before .before .before .before .before .before .before .before .before .before .before .before .before .before .before .args .out))) (omega arith)) (c .before .before .write-union .ensures)
+unfolding unionWords _then_
+returns-2 c =
+    rw (← c .before .before .before .before .before .before .before .before .before .before .before .before .read-record .ensures 1, c .before .before .before .before .before .before .before .before .before .before .first .given .1, ← c .before .before .before .before .before .before .before .before .read-record2 .ensures 1, c .before .before .before .before .before .before .second .given .1,
+    le-leb 13 (length (now (c .before .before .before .before .before .before .before .before .before .before .before .before .before .before .before .before .args .out))) (omega arith)) (c .before .before .write-union .ensures)
 
 returns-3 : tie.Need-returns-3
 unfolding unionWords _then_ tray
-returns-3 c = rw (← c .before .before .before .before .before .before .read-record .ensures, c .before .before .before .before .first .given .1, ← c .before .before .read-record2 .ensures, c .enum-told .given .1) (refl, refl)
+returns-3 c = rw (← c .before .before .before .before .before .before .read-record .ensures 1, c .before .before .before .before .first .given .1, ← c .before .before .read-record2 .ensures 1, c .enum-told .given .1) (refl, refl)
 
 returns-4 : tie.Need-returns-4
 unfolding unionWords _then_ tray
-returns-4 c = rw (← c .before .before .before .before .before .before .read-record .ensures, c .before .before .before .before .first .given .1, ← c .before .before .read-record2 .ensures, c .enum-told2 .given .1) (refl, refl)
-
-returns-5 : tie.Need-returns-5
-unfolding unionWords _then_ tray
-returns-5 c = rw (← c .before .before .read-record .ensures, c .enum-told3 .given .1) (refl, refl)
-
-returns-6 : tie.Need-returns-6
-unfolding unionWords _then_ tray
-returns-6 c = rw (← c .before .before .read-record .ensures, c .enum-told4 .given .1) (refl, refl)
+returns-4 c = rw (← c .before .before .read-record .ensures 1, c .enum-told2 .given .1) (refl, refl)
 
 pub bounds-union-spec : {M : Type 1} → statement M
 bounds-union-spec =
     tie.close (tie.spec (λ c κs. search needs) (λ c. search needs) (λ c κs. search needs) (λ c. search needs) (λ c κs. search needs)
-      enum-told (λ c. search needs) (λ c. search needs) (λ c. search needs) returns (λ c. search needs) returns-2 returns-3 returns-4
-      returns-5 returns-6)
+      (λ c. search needs) (λ c. search needs) returns (λ c. search needs) returns-2 returns-3 returns-4)

@@ -1,6 +1,6 @@
--- `bounds_c::query_of` meets its contract: its steps are the definition's. Assumes nothing.
-use borrow.Author.Needs.{needs}
+-- `bounds_c::query_of` meets its contract: its two vectors. Assumes nothing.
 use Rattle.bounds_c.specs.Codes.{queryOf}
+use borrow.Author.Needs.{needs}
 use Rattle.bounds_c.proofs.query_of.Statement.{statement}
 use Rattle.bounds_c.proofs.query_of.Tie as tie
 
@@ -9,5 +9,4 @@ unfolding queryOf
 returns c = rw (← c .before .vec-at .ensures, ← c .vec-at2 .ensures)
 
 pub query-of-spec : {M : Type 1} → statement M
-query-of-spec =
-    tie.close (tie.spec (λ c κs. search needs) (λ c κs. search needs) returns)
+query-of-spec = tie.close (tie.spec (λ c κs. search needs) (λ c κs. search needs) returns)
