@@ -12,26 +12,17 @@ use Rattle.ieee.specs.OperationOrder.{add-positive}
 use Rattle.ieee.specs.OrderLaws.{nonneg, le→nonneg, lt→le, not-eq-of-lt}
 use Rattle.ieee.specs.Single.{_⊕_, _⊗_, _⊘_, zerof}
 use Rattle.words.specs.Answers.{Answer, given, refused, _then_}
+use Rattle.words.proofs.AnswerLaws.{Gives, gives, gives-none, gives-cond, gives-any, gives-then, gives-value, then-given, given-injective, not-both}
 use Rattle.light_bounds.specs.Bounds.{boxCheck, finiteBox, boxUnion, leastOf, greatestOf, inverted}
 use Rattle.light_bounds.specs.Cones.{unionDirectionCones}
 use Rattle.light_bounds.specs.Importance.{finiteQuery, Seen, dark, lit, facing, finish, geometry, checkedImportance, importance}
-use Rattle.light_bounds.specs.LightBounds.{lightBounds, validate, coneCheck, join, either}
+use Rattle.light_bounds.specs.LightBounds.{lightBounds, operand, union, validate, coneCheck, join, either}
 use Rattle.light_bounds.specs.Vecmath.{finiteVec}
 use Rattle.light_bounds.specs.declared.bounds.Bounds3.{Bounds3}
 use Rattle.light_bounds.specs.declared.light_bounds.LightBounds.{LightBounds}
 use Rattle.light_bounds.specs.declared.importance.Query.{Query}
 
 -- ---- the importance
-
--- an answer that, where given, is no NaN and not below zero
-abbrev Good : Answer Float → Type 0
-Good (given x) = T (nonneg x)
-Good (refused n) = Unit {0}
-
-then-good : {A : Type 0} (v : Answer A) (next : A → Answer Float) → ((a : A) → Good (next a)) → Good (v then next)
-unfolding _then_
-then-good (given a) next h = h a
-then-good (refused n) next h = tt
 
 -- the last step is a max with zero
 finish-nonneg : (phi : Float) (s : Seen) → T (nonneg (finish phi s))
@@ -40,18 +31,29 @@ finish-nonneg phi dark = tt
 finish-nonneg phi (lit p d2) = fmax-nonneg (phi ⊗ p ⊘ d2)
 finish-nonneg phi (facing p d2 i) = fmax-nonneg (phi ⊗ p ⊘ d2 ⊗ i)
 
-good : (r : LightBounds) (q : Query) → Good (importance r q)
+good : (r : LightBounds) (q : Query) → Gives (λ (x : Float). T (nonneg x)) (importance r q)
 unfolding importance checkedImportance
-good r q = then-good (validate r) (λ _. checkedImportance r q) (λ _. go (finiteQuery q))
-  where
-    go : (b : Bool) → Good (cond b (geometry r q then λ (s : Seen). given (finish (r .phi) s)) (refused 5))
-    go true = then-good (geometry r q) (λ (s : Seen). given (finish (r .phi) s)) (finish-nonneg (r .phi))
-    go false = tt
+good r q =
+    gives-then (gives-any (validate r))
+    (λ _ _. gives-cond (finiteQuery q) (gives-then (gives-any (geometry r q)) (λ s _. gives (finish-nonneg (r .phi) s))) gives-none)
 
+-- an importance is no NaN and not below zero
 pub importance-nonneg : (r : LightBounds) (q : Query) (x : Float) → importance r q ≡ given x → T (nonneg x)
-importance-nonneg r q x e = subst Good e (good r q)
+importance-nonneg r q x e = gives-value (good r q) e
 
 -- ---- the union
+
+-- a union that is given: both operands pass the check, and it is their join
+pub union-given : (a b r : LightBounds) → union a b ≡ given r → (validate a ≡ given tt) × (validate b ≡ given tt) × (r ≡ join a b)
+unfolding union
+union-given a b r e =
+    let (u, ea, e′) = then-given (operand (validate a)) (λ _. operand (validate b) then λ _. given (join a b)) r e in
+    let (v, eb, e″) = then-given (operand (validate b)) (λ _. given (join a b)) r e′ in
+    (passed (validate a) u ea, passed (validate b) v eb, sym (given-injective e″))
+  where
+    passed : (x : Answer (Unit {0})) (u : Unit {0}) → operand x ≡ given u → x ≡ given tt
+    passed (given u) v h = refl
+    passed (refused n) v h = absurd (not-both h refl)
 
 -- where neither power is zero, the union is this record
 abbrev made : LightBounds → LightBounds → LightBounds

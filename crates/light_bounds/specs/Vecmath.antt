@@ -32,6 +32,9 @@ cross a b = vec (a .y ⊗ b .z ⊖ a .z ⊗ b .y) (a .z ⊗ b .x ⊖ a .x ⊗ b 
 unfoldable pub scaled : Vec3 → Float → Vec3
 scaled v k = vec (v .x ⊗ k) (v .y ⊗ k) (v .z ⊗ k)
 
+unfoldable pub divided : Vec3 → Float → Vec3
+divided v k = vec (v .x ⊘ k) (v .y ⊘ k) (v .z ⊘ k)
+
 unfoldable pub vecLength : Vec3 → Float
 vecLength v = sqrt binary32 (dot v v)
 
@@ -41,6 +44,10 @@ dividing l = finite l && not (eq l zerof)
 
 unfoldable pub normalize : Vec3 → Answer Vec3
 normalize v = cond (dividing (vecLength v)) (given (scaled v (onef ⊘ vecLength v))) (refused 7)
+
+-- the packed file divides by the length; `light_bounds.rs` multiplies by its reciprocal
+unfoldable pub normalizeByDivision : Vec3 → Answer Vec3
+normalizeByDivision v = cond (dividing (vecLength v)) (given (divided v (vecLength v))) (refused 7)
 
 abbrev pub normalized : Direction → Answer Vec3
 normalized (Unit v) = given v

@@ -1,7 +1,7 @@
 // Vectors of three f32, by value (specs/Vectors.antt). Sums run left to right, each step rounded once.
 ghost use mathlib.Core.Path.{_≡_};
 ghost use lib.Ieee.Scale.{finite};
-ghost use Rattle.light_bounds.specs.Vecmath.{dividing, dot as dotOf, cross as crossOf, plus, minus, scaled, normalized, normalize as normalizeOf, finiteVec, rotate as rotateOf, angleBetween, vecLength};
+ghost use Rattle.light_bounds.specs.Vecmath.{dividing, divided, normalizeByDivision, dot as dotOf, cross as crossOf, plus, minus, scaled, normalized, normalize as normalizeOf, finiteVec, rotate as rotateOf, angleBetween, vecLength};
 use floats::sqrt::sqrt as root;
 use trig::asin;
 use trig::cos;
@@ -72,6 +72,16 @@ pub fn scale_vector(v: Vec3, scale: f32) -> Vec3
     }
 }
 
+pub fn divide_vector(v: Vec3, divisor: f32) -> Vec3
+    ensures { λ r. ⌜ r ≡ divided v divisor ⌝ }
+{
+    Vec3 {
+        x: v.x / divisor,
+        y: v.y / divisor,
+        z: v.z / divisor,
+    }
+}
+
 pub fn length(v: Vec3) -> f32
     ensures { λ r. ⌜ r ≡ vecLength v ⌝ }
 {
@@ -84,13 +94,24 @@ pub enum Direction {
     Refused(Refusal),
 }
 
-// By the reciprocal of the length; the packed file divides instead.
+// By the reciprocal of the length; `normalize_by_division` is the packed file's.
 pub fn normalize(v: Vec3) -> Direction
     ensures { λ r. ⌜ normalized r ≡ normalizeOf v ⌝ }
 {
     let l = length(v);
     if divides(l) {
         return Direction::Unit(scale_vector(v, 1.0 / l));
+    }
+    Direction::Refused(Refusal::NoDirection)
+}
+
+// By the length itself, as the packed file has it.
+pub fn normalize_by_division(v: Vec3) -> Direction
+    ensures { λ r. ⌜ normalized r ≡ normalizeByDivision v ⌝ }
+{
+    let l = length(v);
+    if divides(l) {
+        return Direction::Unit(divide_vector(v, l));
     }
     Direction::Refused(Refusal::NoDirection)
 }

@@ -1,4 +1,4 @@
--- Laws of answers: steps in a row, which refusals an answer can have, and counts. Assumes nothing.
+-- Laws of answers: steps in a row, which refusals an answer can have, what it gives, and counts. Assumes nothing.
 use Prim.Native.Nat.{ℕ, _≤_, _<_}
 use mathlib.Core.Path.{_≡_, refl, ap, subst, sym, _∙_}
 use mathlib.Core.Bool.{Bool, true, false, cond}
@@ -46,6 +46,41 @@ module _ {P : ℕ → Type 0} where
 
   pub only-number : {A : Type 0} {x : Answer A} {n : ℕ} → Only P x → x ≡ refused n → P n
   only-number h e = subst (Only P) e h .number
+
+-- ---- what is given
+
+abbrev GivesAt : {A : Type 0} → (A → Type 0) → Answer A → Type 0
+GivesAt P (given a) = P a
+GivesAt P (refused n) = Unit
+
+-- what is given, if anything, has the property
+pub record Gives {A : Type 0} (P : A → Type 0) (x : Answer A) : Type 0 where
+  pub value : GivesAt P x
+
+module _ {A : Type 0} {P : A → Type 0} where
+  pub gives : {a : A} → P a → Gives P (given a)
+  gives h = record { value = h }
+
+  pub gives-none : {n : ℕ} → Gives P (refused n)
+  gives-none = record { value = tt }
+
+  pub gives-cond : (b : Bool) {x y : Answer A} → Gives P x → Gives P y → Gives P (cond b x y)
+  gives-cond true h k = h
+  gives-cond false h k = k
+
+  pub gives-value : {x : Answer A} {a : A} → Gives P x → x ≡ given a → P a
+  gives-value h e = subst (Gives P) e h .value
+
+  -- by the last step, on what the one before gives
+  pub gives-then : {B : Type 0} {Q : B → Type 0} {x : Answer B} {f : B → Answer A} → Gives Q x → ((b : B) → Q b → Gives P (f b)) → Gives P (x then f)
+  unfolding _then_
+  gives-then {x = given b} h k = k b (h .value)
+  gives-then {x = refused n} h k = record { value = tt }
+
+-- nothing said of it
+pub gives-any : {A : Type 0} (x : Answer A) → Gives (λ (a : A). Unit {0}) x
+gives-any (given a) = gives tt
+gives-any (refused n) = gives-none
 
 -- ---- given and refused apart
 
