@@ -1,26 +1,34 @@
--- Two laws of lists and their blocks. A list whose lamps are each accepted gives a block of as many records as word 0 says, in order, record i with handle i
--- (`accepted-list`, `block-at`). An accepted block passes its own reading: its check gives the count back, and each record is found as it was stored
--- (`block-checked`, `block-read`). Assumes nothing.
+-- Laws of lists and their blocks. A list whose lamps are each accepted gives a block of as many records as word 0 says, in order, record i with handle i, and
+-- only such a list does (`accepted-list`, `list-accepted`, `block-at`). An accepted block passes its own reading, and each record is found as it was
+-- (`block-checked`, `block-read`); of any block whose layout passes, each record below its count is found (`record-found`). Assumes nothing.
 use Prim.Native.Nat.{ℕ, zero, suc, _+_, _*_, _≤_, _<_}
 use mathlib.Core.Path.{_≡_, refl, ap, subst, sym, _∙_}
-use mathlib.Core.Bool.{Bool, true, false}
+use mathlib.Core.Bool.{Bool, true, false, cond, _&&_}
 use mathlib.Core.List.{List, [], _∷_, _++_}
 use native.Mathlib.Omega.{arith}
-use borrow.Author.Tests.{le-leb, le-ltb, eq-eqb}
+use borrow.Author.Tests.{le-leb, lt-leb, le-ltb, leb-true, eq-eqb, eqb-true}
+use lib.Dec.{T, leb, eqb}
+use lib.Ieee.{Float, binary32}
 use lib.ListN.{length, getD, drop}
-use lib.Seq.{getD-drop, drop-drop}
+use lib.Seq.{getD-drop}
 use Rattle.ieee.specs.Single.{single}
-use Rattle.words.specs.Answers.{given, _then_}
-use Rattle.light_bounds.specs.RecordLaws.{recordAt-found}
-use Rattle.light_bounds.specs.RecordWords.{vecAt, readRecord, recordList, sideKnown, sideOf, sideWord}
+use Rattle.words.specs.Answers.{Answer, given, refused, _then_}
+use Rattle.words.specs.Limits.{maxLamps, maxWords, crowded}
+use Rattle.words.specs.Rows.{rowsFrom, below}
+use Rattle.words.proofs.AnswerLaws.{then-given, given-injective, not-both, gives-value}
+use Rattle.words.proofs.LimitLaws.{few-lamps}
+use Rattle.words.proofs.RowLaws.{row-at, below-true, below-at}
+use Rattle.light_bounds.specs.RecordLaws.{RecordFits, reread}
+use Rattle.light_bounds.specs.RecordWords.{recordWords, vecAt, boxAt, readRecord, recordList, sideKnown, sideOf, sideWord, sidePlace}
 use Rattle.light_bounds.specs.declared.light_bounds.LightBounds.{LightBounds}
-use Rattle.light_bounds.specs.declared.record_words.Found.the-variants.{Record}
-use Rattle.lamps.specs.Block.{boundsWords, recordPlace, blockWords, packedFrom, packExhaustiveBounds, below, sideAt, handleAt, sidePlace, handlePlace, blockCheck, blockRecord}
-use Rattle.lamps.specs.BlockLaws.{length-packedFrom}
+use Rattle.light_bounds.proofs.RecordPlaces.{recordAt-found}
+use Rattle.lamps.specs.Block.{boundsWords, boundsRow, blockWords, packExhaustiveBounds, handlePlace, recordPlace, sideAt, handleAt, blockLayout, blockHandles, blockCheck, blockRecord}
 use Rattle.lamps.specs.Build.{boundsOf, allBounds, buildLightBounds}
-use Rattle.lamps.specs.BuildLaws.{list-read, built}
 use Rattle.lamps.specs.LampList.{lampList}
-use Rattle.lamps.specs.declared.cursor.Reading.{Reading}
+use Rattle.lamps.specs.declared.lamp_list.Reading.{Reading}
+use Rattle.lamps.proofs.BuildLaws.{list-read, row-width, length-block}
+use Rattle.lamps.proofs.WalkLaws.{allBounds-length}
+use Rattle.lamp_laws.specs.LampFits.{AllFit, lamps-read, all-fit}
 
 -- ---- accepted lamps
 
@@ -53,49 +61,72 @@ accepted-list ws room rs bs read h enough =
       accepted-length ws rs bs h ∙ size,
     )
 
+-- and the other way round
+all-accepted : (ws : List ℕ) (rs : List Reading) (bs : List LightBounds) → allBounds ws rs ≡ given bs → Accepted ws rs bs
+unfolding allBounds
+all-accepted ws [] bs e = subst (λ (cs : List LightBounds). Accepted ws [] cs) (given-injective e) tt
+all-accepted ws (r ∷ rs) bs e =
+    let (b, eb, e′) = then-given (boundsOf ws r) (λ b. allBounds ws rs then λ cs. given (b ∷ cs)) bs e in
+    let (cs, ec, e″) = then-given (allBounds ws rs) (λ cs. given (b ∷ cs)) bs e′ in
+    subst (λ (xs : List LightBounds). Accepted ws (r ∷ rs) xs) (given-injective e″) (eb, all-accepted ws rs cs ec)
+
+-- a build that was given: the list was read, there was room, and its lamps' bounds are these
+built : (ws : List ℕ) (room : ℕ) (bs : List LightBounds) → buildLightBounds ws room ≡ given bs
+    → (rs : List Reading) × (lampList ws ≡ given rs) × (blockWords (length rs) ≤ room) × (allBounds ws rs ≡ given bs)
+unfolding buildLightBounds
+built ws room bs e =
+    let (rs, read, e′) = then-given (lampList ws) (λ rs. cond (leb (blockWords (length rs)) room) (allBounds ws rs) (refused 3)) bs e in
+    go rs read (leb (blockWords (length rs)) room) refl e′
+  where
+    go : (rs : List Reading) → lampList ws ≡ given rs → (b : Bool) → leb (blockWords (length rs)) room ≡ b → cond b (allBounds ws rs) (refused 3) ≡ given bs
+        → (rs : List Reading) × (lampList ws ≡ given rs) × (blockWords (length rs) ≤ room) × (allBounds ws rs ≡ given bs)
+    go rs read true l e = (rs, read, leb-true _ _ l, e)
+    go rs read false l e = absurd (not-both e refl)
+
+pub list-accepted : (ws : List ℕ) (room : ℕ) (bs : List LightBounds) → buildLightBounds ws room ≡ given bs
+    → (rs : List Reading) × (lampList ws ≡ given rs) × Accepted ws rs bs × (blockWords (getD ws 0 0) ≤ room)
+list-accepted ws room bs e =
+    let (rs, read, enough, all) = built ws room bs e in
+    let (uncrowded, lamps, size) = list-read ws rs read in
+    (rs, read, all-accepted ws rs bs all, omega (arith, size, enough))
+
+-- an accepted list has no more than 4,096 lamps, and its records are of floats of the format
+pub built-few : (ws : List ℕ) (room : ℕ) (bs : List LightBounds) → buildLightBounds ws room ≡ given bs → length bs ≤ maxLamps
+built-few ws room bs e =
+    let (rs, read, enough, all) = built ws room bs e in
+    let (uncrowded, lamps, size) = list-read ws rs read in
+    omega (arith, few-lamps ws uncrowded, size, allBounds-length ws rs bs all)
+
+pub built-fits : (ws : List ℕ) (room : ℕ) (bs : List LightBounds) → buildLightBounds ws room ≡ given bs → AllFit bs
+built-fits ws room bs e =
+    let (rs, read, enough, all) = built ws room bs e in
+    let (uncrowded, lamps, size) = list-read ws rs read in
+    gives-value (all-fit ws rs (gives-value (lamps-read (getD ws 0 0) ws 1) lamps)) all
+
+fit-at : (bs : List LightBounds) (i : ℕ) (d : LightBounds) → AllFit bs → i < length bs → RecordFits (getD bs i d)
+fit-at [] i d h l = absurd (omega arith)
+fit-at (b ∷ bs) zero d h l = h .0
+fit-at (b ∷ bs) (suc i) d h l = fit-at bs i d (h .1) (omega arith)
+
 -- ---- the words of a record in its block
 
-drop-record : (b : LightBounds) (i : ℕ) (ws : List ℕ) → drop boundsWords (i ∷ recordList b ++ ws) ≡ ws
-unfolding recordList
-drop-record b i ws = refl
-
--- from record i on: its handle, its words, then others
-record-at : (k : ℕ) (bs : List LightBounds) (i : ℕ) (d : LightBounds) → i < length bs
-    → (rest : List ℕ) × (drop (boundsWords * i) (packedFrom k bs) ≡ (k + i) ∷ recordList (getD bs i d) ++ rest)
-unfolding packedFrom
-record-at k [] i d h = absurd (omega arith)
-record-at k (b ∷ bs) zero d h = let e : k + 0 ≡ k = omega arith in (packedFrom (suc k) bs, rw e)
-record-at k (b ∷ bs) (suc i) d h =
-    let (rest, is) = record-at (suc k) bs i d (omega arith) in
-    let e : boundsWords * suc i ≡ boundsWords + boundsWords * i = omega arith in
-    let e′ : suc k + i ≡ k + suc i = omega arith in (
-      rest,
-      rw e (sym (drop-drop (boundsWords * i) boundsWords (k ∷ recordList b ++ packedFrom (suc k) bs)) ∙ ap (drop (boundsWords * i)) (drop-record b k (packedFrom (suc k) bs)))
-          ∙ is ∙ ap (λ (j : ℕ). j ∷ recordList (getD bs i d) ++ rest) e′,
-    )
-
--- record i of a block: handle i, then the record's thirteen words
+-- row i of a block: handle i, then the record's words
 pub block-at : (bs : List LightBounds) (i : ℕ) (d : LightBounds) → i < length bs
     → (rest : List ℕ) × (drop (handlePlace i) (packExhaustiveBounds bs) ≡ i ∷ recordList (getD bs i d) ++ rest)
 unfolding packExhaustiveBounds
 block-at bs i d h =
-    let (rest, is) = record-at 0 bs i d h in
     let e : 0 + i ≡ i = omega arith in
     let e′ : handlePlace i ≡ suc (boundsWords * i) = omega arith in
-    (rest, rw e′ (is ∙ ap (λ (j : ℕ). j ∷ recordList (getD bs i d) ++ rest) e))
+    (rowsFrom boundsRow (suc (0 + i)) (drop (suc i) bs),
+    rw e′ (row-at boundsRow boundsWords row-width 0 i bs d h ∙ ap (λ (j : ℕ). boundsRow j (getD bs i d) ++ rowsFrom boundsRow (suc (0 + i)) (drop (suc i) bs)) e))
 
 -- ---- a block read back
-
-below-true : (test : ℕ → Bool) (n : ℕ) → ((i : ℕ) → i < n → test i ≡ true) → below test n ≡ true
-unfolding below
-below-true test zero h = refl
-below-true test (suc n) h = rw (below-true test n (λ i l. h i (omega arith)), h n (omega arith))
 
 known : (side : Bool) → sideKnown (sideWord side) ≡ true
 known true = refl
 known false = refl
 
--- the word j places behind record i's handle
+-- the word j places behind row i's handle
 word-at : (bs : List LightBounds) (i j : ℕ) (d : LightBounds) (h : i < length bs)
     → getD (packExhaustiveBounds bs) (handlePlace i + j) 0 ≡ getD (i ∷ recordList (getD bs i d) ++ block-at bs i d h .0) j 0
 word-at bs i j d h = sym (getD-drop (handlePlace i) (packExhaustiveBounds bs) j 0) ∙ ap (λ (l : List ℕ). getD l j 0) (block-at bs i d h .1)
@@ -112,25 +143,21 @@ handle-is bs i h =
 side-is : (bs : List LightBounds) (i : ℕ) → i < length bs → sideAt (packExhaustiveBounds bs) i ≡ true
 unfolding recordList
 side-is bs i h =
-    let e : handlePlace i + 13 ≡ sidePlace i = omega arith in
+    let e : handlePlace i + recordWords ≡ sidePlace (recordPlace i) = omega arith in
     let b = getD bs i noBounds in
-    subst (λ (n : ℕ). sideKnown (getD (packExhaustiveBounds bs) n 0) ≡ true) e (ap sideKnown (word-at bs i 13 noBounds h) ∙ known (b .«two_sided»))
-
-length-block : (bs : List LightBounds) → length (packExhaustiveBounds bs) ≡ blockWords (length bs)
-unfolding packExhaustiveBounds
-length-block bs = omega (arith, length-packedFrom 0 bs)
+    subst (λ (n : ℕ). sideKnown (getD (packExhaustiveBounds bs) n 0) ≡ true) e (ap sideKnown (word-at bs i recordWords noBounds h) ∙ known (b .«two_sided»))
 
 count-is : (bs : List LightBounds) → getD (packExhaustiveBounds bs) 0 0 ≡ length bs
 unfolding packExhaustiveBounds
 count-is bs = refl
 
-pub block-checked : (bs : List LightBounds) → length bs ≤ 4096 → blockCheck (packExhaustiveBounds bs) ≡ given (length bs)
-unfolding blockCheck
+pub block-checked : (bs : List LightBounds) → length bs ≤ maxLamps → blockCheck (packExhaustiveBounds bs) ≡ given (length bs)
+unfolding blockCheck blockLayout blockHandles crowded _then_
 block-checked bs h =
     rw (
       count-is bs,
-      le-ltb 4096 (length bs) h,
-      le-ltb 0x10_0000 (length (packExhaustiveBounds bs)) (omega (arith, length-block bs)),
+      le-ltb maxLamps (length bs) h,
+      le-ltb maxWords (length (packExhaustiveBounds bs)) (omega (arith, length-block bs)),
       eq-eqb (length (packExhaustiveBounds bs)) (blockWords (length bs)) (length-block bs),
       below-true (sideAt (packExhaustiveBounds bs)) (length bs) (side-is bs),
       below-true (handleAt (packExhaustiveBounds bs)) (length bs) (handle-is bs),
@@ -138,7 +165,37 @@ block-checked bs h =
 
 pub accepted-block-checked : (ws : List ℕ) (room : ℕ) (bs : List LightBounds) → buildLightBounds ws room ≡ given bs
     → blockCheck (packExhaustiveBounds bs) ≡ given (length bs)
-accepted-block-checked ws room bs e = block-checked bs (built ws room bs e)
+accepted-block-checked ws room bs e = block-checked bs (built-few ws room bs e)
+
+-- ---- records found
+
+-- what a layout that passes says
+layout-is : (ws : List ℕ) (m : ℕ) → blockLayout ws ≡ given m → (length ws ≡ blockWords m) × (below (sideAt ws) m ≡ true)
+unfolding blockLayout
+layout-is ws m e = uncrowded (crowded ws) e
+  where
+    halves : (a b : Bool) → a && b ≡ true → (a ≡ true) × (b ≡ true)
+    halves true b e = (refl, e)
+    halves false b e = absurd (subst T (sym e) tt)
+
+    laid : (a b : Bool) → eqb (length ws) (blockWords (getD ws 0 0)) ≡ a → below (sideAt ws) (getD ws 0 0) ≡ b → cond (a && b) (given (getD ws 0 0)) (refused 1) ≡ given m
+        → (length ws ≡ blockWords m) × (below (sideAt ws) m ≡ true)
+    laid true true ea eb e =
+        let is : getD ws 0 0 ≡ m = given-injective e in
+        (eqb-true (length ws) (blockWords (getD ws 0 0)) ea ∙ ap (λ (k : ℕ). blockWords k) is, subst (λ (k : ℕ). below (sideAt ws) k ≡ true) is eb)
+    laid true false ea eb e = absurd (not-both e refl)
+    laid false b ea eb e = absurd (not-both e refl)
+
+    uncrowded : (c : Bool) → cond c (refused 2) (cond (eqb (length ws) (blockWords (getD ws 0 0)) && below (sideAt ws) (getD ws 0 0)) (given (getD ws 0 0)) (refused 1)) ≡ given m
+        → (length ws ≡ blockWords m) × (below (sideAt ws) m ≡ true)
+    uncrowded true e = absurd (not-both e refl)
+    uncrowded false e = laid (eqb (length ws) (blockWords (getD ws 0 0))) (below (sideAt ws) (getD ws 0 0)) refl refl e
+
+-- of any block whose layout passes, each record below its count is found
+pub record-found : (ws : List ℕ) (m i : ℕ) → blockLayout ws ≡ given m → i < m → blockRecord ws i ≡ given (readRecord ws (recordPlace i))
+record-found ws m i e h =
+    let (size, sides) = layout-is ws m e in
+    recordAt-found 1 ws (recordPlace i) (omega (arith, size)) (below-at (sideAt ws) m i sides h)
 
 -- a record is read from its words alone
 read-words : (ws vs : List ℕ) (at : ℕ) → ((k : ℕ) → getD ws (at + k) 0 ≡ getD vs k 0) → readRecord ws at ≡ readRecord vs 0
@@ -162,15 +219,31 @@ behind-record : (b : LightBounds) (rest : List ℕ) → readRecord (recordList b
 unfolding vecAt recordList
 behind-record b rest = refl
 
--- each record is found as it was stored
-pub block-read : (bs : List LightBounds) (i : ℕ) (d : LightBounds) → i < length bs
-    → blockRecord (packExhaustiveBounds bs) i ≡ Record (readRecord (recordList (getD bs i d)) 0)
-block-read bs i d h =
-    let ws = packExhaustiveBounds bs in
+-- a layout that passes gives the block's own count
+layout-count : (ws : List ℕ) (m : ℕ) → blockLayout ws ≡ given m → m ≡ getD ws 0 0
+unfolding blockLayout
+layout-count ws m e = uncrowded (crowded ws) e
+  where
+    laid : (a : Bool) → cond a (given (getD ws 0 0)) (refused 1) ≡ given m → m ≡ getD ws 0 0
+    laid true e = sym (given-injective e)
+    laid false e = absurd (not-both e refl)
+
+    uncrowded : (c : Bool) → cond c (refused 2) (cond (eqb (length ws) (blockWords (getD ws 0 0)) && below (sideAt ws) (getD ws 0 0)) (given (getD ws 0 0)) (refused 1)) ≡ given m
+        → m ≡ getD ws 0 0
+    uncrowded true e = absurd (not-both e refl)
+    uncrowded false e = laid (eqb (length ws) (blockWords (getD ws 0 0)) && below (sideAt ws) (getD ws 0 0)) e
+
+-- each record of an accepted list's block is found, and is the record itself
+pub block-read : (ws : List ℕ) (room : ℕ) (bs : List LightBounds) (i : ℕ) (d : LightBounds) → buildLightBounds ws room ≡ given bs → i < length bs
+    → blockRecord (packExhaustiveBounds bs) i ≡ given (getD bs i d)
+unfolding blockCheck
+block-read ws room bs i d e h =
+    let block = packExhaustiveBounds bs in
     let at = recordPlace i in
     let stored = recordList (getD bs i d) ++ block-at bs i d h .0 in
-    let words : (k : ℕ) → getD ws (at + k) 0 ≡ getD stored k 0 =
-    λ k. let e : handlePlace i + suc k ≡ at + k = omega arith in subst (λ (n : ℕ). getD ws n 0 ≡ getD stored k 0) e (word-at bs i (suc k) d h) in
-    let e : at + 12 ≡ sidePlace i = omega arith in
-    let side : sideKnown (getD ws (at + 12) 0) ≡ true = subst (λ (n : ℕ). sideKnown (getD ws n 0) ≡ true) (sym e) (side-is bs i h) in
-    recordAt-found ws at (omega (arith, length-block bs, h)) side ∙ ap Record (read-words ws stored at words ∙ behind-record (getD bs i d) (block-at bs i d h .0))
+    let words : (k : ℕ) → getD block (at + k) 0 ≡ getD stored k 0 =
+    λ k. let p : handlePlace i + suc k ≡ at + k = omega arith in subst (λ (n : ℕ). getD block n 0 ≡ getD stored k 0) p (word-at bs i (suc k) d h) in
+    let (m, layout, handles) = then-given (blockLayout block) (λ _. blockHandles block) (length bs) (accepted-block-checked ws room bs e) in
+    let count : m ≡ length bs = layout-count block m layout ∙ count-is bs in
+    record-found block m i layout (omega (arith, count, h))
+    ∙ ap given (read-words block stored at words ∙ behind-record (getD bs i d) (block-at bs i d h .0) ∙ reread (getD bs i d) (fit-at bs i d (built-fits ws room bs e) h))

@@ -1,0 +1,1 @@
+// Laws of lamp lists and bounds blocks that no code cites: specs/.
