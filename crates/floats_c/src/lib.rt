@@ -3,10 +3,10 @@ ghost use mathlib.Core.Path.{_≡_};
 ghost use Prim.Native.Nat.{ℕ, _*_, _/_};
 ghost use lib.Ieee.{binary32, binary64, ofBits, toBits};
 ghost use lib.ListN.{getD, length};
-ghost use Rattle.ieee.specs.Choose.{fmin, fmax, clamp, fabs};
+ghost use Rattle.ieee.specs.Choose.{fmin, fmax, clamp, fabs, isSignNegative};
 ghost use Rattle.ieee.specs.Narrow.{narrow};
 ghost use Rattle.ieee.specs.Sqrt.{sqrt};
-ghost use Rattle.ieee.specs.Whole.{floor, ceil, roundAway, toU32, toUsize};
+ghost use Rattle.ieee.specs.Whole.{floor, ceil, roundAway, toU16, toU32, toUsize};
 ghost use Rattle.words.specs.Fill.{filled};
 ghost use Rattle.words.specs.LittleEndian.{wordsOf, bytesOf, setWord, wordCount, readWords, writtenWords};
 ghost use Rattle.words.specs.Answers.{counted, code};
@@ -44,6 +44,13 @@ pub extern "C" fn floats_abs(x: f32) -> f32
 }
 
 #[no_mangle]
+pub extern "C" fn floats_is_sign_negative(x: f32) -> bool
+    ensures { λ r. ⌜ r ≡ isSignNegative x ⌝ }
+{
+    floats::choose::is_sign_negative(x)
+}
+
+#[no_mangle]
 pub extern "C" fn floats_floor(x: f32) -> f32
     ensures { λ r. ⌜ r ≡ floor binary32 x ⌝ }
 {
@@ -62,6 +69,13 @@ pub extern "C" fn floats_round(x: f32) -> f32
     ensures { λ r. ⌜ r ≡ roundAway binary32 x ⌝ }
 {
     floats::whole::round(x)
+}
+
+#[no_mangle]
+pub extern "C" fn floats_to_u16(x: f32) -> u16
+    ensures { λ r. ⌜ r ≡ toU16 x ⌝ }
+{
+    floats::whole::to_u16(x)
 }
 
 #[no_mangle]
