@@ -14,41 +14,20 @@ use lib.Ieee.Exact.{HasValue}
 use borrow.Author.Tests.{le-leb, lt-leb}
 use Rattle.ieee.specs.Nans.{nan-bits}
 use Rattle.ieee.specs.Whole.{negative}
-use Rattle.ieee.specs.WholeLaws.{toUnsigned-units, signed-word}
-use Rattle.ieee.specs.Patterns.{magnitude, magnitude-large, magnitude-lt, magnitude-ge, decode, field-of, inf-bits}
+use Rattle.ieee.specs.WholeLaws.{toUnsigned-units, past-infinity}
+use Rattle.ieee.specs.Patterns.{magnitude, magnitude-large, magnitude-lt, magnitude-ge, decode-plain, inf-bits}
 
 -- a NaN and what is below zero
 nothing : (k : ℕ) (v : Float) → (v ≡ nan) ⊎ (negative v ≡ true) → toUnsigned k v ≡ 0
 unfolding toUnsigned
-nothing k nan h = refl
-nothing k (inf true) h = refl
-nothing k (inf false) (inl e) = absurd (subst other e tt)
-  where
-    other : Float → Type 0
-    other nan = ⊥
-    other (inf s) = Unit {0}
-    other (fin s m e) = Unit {0}
-nothing k (inf false) (inr e) = absurd (true≢false (sym e))
-nothing k (fin true m e) h = refl
-nothing k (fin false m e) (inl p) = absurd (subst other p tt)
-  where
-    other : Float → Type 0
-    other nan = ⊥
-    other (inf s) = Unit {0}
-    other (fin s m e) = Unit {0}
-nothing k (fin false m e) (inr p) = absurd (true≢false (sym p))
+nothing k v (inl e) = rw e
+nothing k nan (inr e) = refl
+nothing k (inf s) (inr e) = rw e
+nothing k (fin s m d) (inr e) = rw e
 
 module _ (w : ℕ) where
-  -- without a sign the word is its own magnitude
-  plain : w < 2 ^ 31 → w % 2 ^ 31 ≡ w
-  plain h = mod-eq-of-lt h
-
   value : w < 255 * 2 ^ 23 → HasValue (ofBits binary32 w) false (magnitude binary32 w) (2 ^ 149)
-  value h =
-      let l : w < 2 ^ 31 = lt-of-lt-of-le h (lit≤ tt) in
-      subst (λ (b : Bool). HasValue (ofBits binary32 w) b (magnitude binary32 w) (2 ^ 149)) (lt-leb (2 ^ 31) w l)
-      (subst (λ (a : ℕ). HasValue (ofBits binary32 w) (leb (2 ^ 31) w) (magnitude binary32 a) (2 ^ 149)) (plain l)
-      (decode binary32 w (field-of binary32 (w % 2 ^ 31) (subst (λ (a : ℕ). a < 255 * 2 ^ 23) (sym (plain l)) h))))
+  value h = decode-plain binary32 w h
 
   pub cast-below : (k : ℕ) → w < 127 * 2 ^ 23 → 0 ≡ toUnsigned k (ofBits binary32 w)
   cast-below k h =
@@ -56,15 +35,7 @@ module _ (w : ℕ) where
       ∙ ap (λ (z : ℕ). min z (2 ^ k - 1)) (div-eq-of-lt (magnitude-lt binary32 w 126 h)) ∙ min-eq-left zero-le)
 
   pub cast-out : (k : ℕ) → 255 * 2 ^ 23 < w → 0 ≡ toUnsigned k (ofBits binary32 w)
-  cast-out k h = sym (nothing k (ofBits binary32 w) (go (decLe (2 ^ 31) w)))
-    where
-      flip : (ofBits binary32 w ≡ nan) ⊎ (negative (ofBits binary32 w) ≡ leb (2 ^ 31) w) → leb (2 ^ 31) w ≡ true → (ofBits binary32 w ≡ nan) ⊎ (negative (ofBits binary32 w) ≡ true)
-      flip (inl e) t = inl e
-      flip (inr e) t = inr (e ∙ t)
-
-      go : Dec (2 ^ 31 ≤ w) → (ofBits binary32 w ≡ nan) ⊎ (negative (ofBits binary32 w) ≡ true)
-      go (yes l) = flip (signed-word binary32 w) (le-leb (2 ^ 31) w l)
-      go (no n) = inl (nan-bits binary32 w (subst (λ (a : ℕ). 255 * 2 ^ 23 < a) (sym (plain (lt-of-not-le n))) h))
+  cast-out k h = sym (nothing k (ofBits binary32 w) (past-infinity binary32 w h))
 
   pub cast-above : (k : ℕ) → suc (126 + k) * 2 ^ 23 ≤ w → w ≤ 255 * 2 ^ 23 → 2 ^ k - 1 ≡ toUnsigned k (ofBits binary32 w)
   cast-above k lo hi = sym (go (eq-or-lt-of-le hi))
@@ -82,7 +53,7 @@ module _ (w : ℕ) where
           le-trans (sub-le (2 ^ k) 1) a
 
       go : (w ≡ 255 * 2 ^ 23) ⊎ (w < 255 * 2 ^ 23) → toUnsigned k (ofBits binary32 w) ≡ 2 ^ k - 1
-      go (inl e) = ap (toUnsigned k) (inf-bits binary32 w (plain l ∙ e) ∙ ap inf (lt-leb (2 ^ 31) w l)) ∙ infinite
+      go (inl e) = ap (toUnsigned k) (inf-bits binary32 w (mod-eq-of-lt l ∙ e) ∙ ap inf (lt-leb (2 ^ 31) w l)) ∙ infinite
       go (inr h) = toUnsigned-units k (ofBits binary32 w) (magnitude binary32 w) (2 ^ 149) (pow-pos 149) (value h) ∙ min-eq-right far
 
   pub cast-part : (k : ℕ) → 25 ≤ k → 127 * 2 ^ 23 ≤ w → w < 150 * 2 ^ 23 → (2 ^ 23 + w % 2 ^ 23) / 2 ^ (150 - w / 2 ^ 23) ≡ toUnsigned k (ofBits binary32 w)

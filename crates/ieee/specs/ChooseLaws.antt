@@ -2,7 +2,7 @@
 use Prim.Native.Nat.{ℕ, zero, suc, _+_, _*_, _<_}
 use mathlib.Core.Path.{_≡_, refl, sym, _∙_, ap, subst}
 use mathlib.Core.Logic.{inl, inr}
-use mathlib.Core.Bool.{true, false, _||_, Bool·beq}
+use mathlib.Core.Bool.{Bool, true, false, cond, _||_, Bool·beq}
 use native.Mathlib.Nat.{mul-one, zero-mul, mul-pos, eq-zero-or-pos, lt-irrefl}
 use native.Mathlib.Omega.{arith}
 use lib.Dec.{T, eqb, eqb→eq}
@@ -12,18 +12,35 @@ use lib.Ieee.Back.{whole-unique}
 use lib.Ieee.Bits.{ofBits-toBits}
 use lib.Ieee.Fits.{up-pos, and-l}
 use borrow.Author.Tests.{ltb-true, ltb-false, eq-eqb}
-use Rattle.ieee.specs.Choose.{fabs, isSignNegative}
+use Rattle.ieee.specs.Choose.{fmin, fmax, fabs, isSignNegative}
 use Rattle.ieee.specs.Whole.{negative}
 use Rattle.ieee.specs.WholeLaws.{signed-word}
 
 -- only a NaN differs from itself
-pub nan-test : (x : Float) → isNan x ≡ ne x x
+nan-test : (x : Float) → isNan x ≡ ne x x
 unfolding isNan ne eq
 nan-test nan = refl
 nan-test (inf true) = refl
 nan-test (inf false) = refl
 nan-test (fin true m e) = rw (eq-eqb (m * up e * down e) (m * up e * down e) refl)
 nan-test (fin false m e) = rw (eq-eqb (m * up e * down e) (m * up e * down e) refl)
+
+-- ---- min and max: the second where the first is a NaN or past it
+
+pick : (x y : Float) (past : Bool) → cond (isNan x) y (cond past y x) ≡ cond (ne x x || past) y x
+pick x y past = ap (λ (b : Bool). cond b y (cond past y x)) (nan-test x) ∙ go (ne x x)
+  where
+    go : (b : Bool) → cond b y (cond past y x) ≡ cond (b || past) y x
+    go true = refl
+    go false = refl
+
+pub fmin-tests : (x y : Float) → fmin x y ≡ cond (ne x x || lt y x) y x
+unfolding fmin
+fmin-tests x y = pick x y (lt y x)
+
+pub fmax-tests : (x y : Float) → fmax x y ≡ cond (ne x x || lt x y) y x
+unfolding fmax
+fmax-tests x y = pick x y (lt x y)
 
 -- ---- abs: a value below zero is negated, a zero becomes +0, any other stays
 

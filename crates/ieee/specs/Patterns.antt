@@ -2,9 +2,9 @@
 -- finite value of u units has the pattern `pattern f u`. Over the format. Assumes nothing.
 use Prim.Native.Nat.{ℕ, zero, suc, _+_, _-_, _*_, _/_, _%_, _^_, _≤_, _<_}
 use mathlib.Core.Path.{_≡_, refl, sym, _∙_, ap, subst}
-use mathlib.Core.Bool.{Bool, true, cond}
+use mathlib.Core.Bool.{Bool, true, false, cond}
 use mathlib.Core.Logic.{_≢_, _⊎_, inl, inr}
-use native.Mathlib.Nat.{mod-mod-of-dvd, dvd-mul-right, mod-eq-of-lt, mul-one, one-mul, mul-div-cancel, le-div-iff-mul-le, lt-irrefl, lt-of-not-le, not-le-of-lt, le-refl, le-antisymm, eq-or-lt-of-le, lt-of-le-of-lt, le-of-suc-le-suc, zero-lt-suc, add-assoc, sub-eq-zero-of-le, mul-le-mul-right, pow-succ', mul-left-comm, mul-right-comm, mul-assoc, mul-le-mul-left, mod-lt, div-lt-iff-lt-mul, lt-of-lt-of-le, mul-lt-mul-of-pos-right, le-trans, le-of-eq, mul-le-mul, le-add-right, mul-mod-left, mul-pos, div-eq-of-lt-le, div-eq-of-lt, zero-mul}
+use native.Mathlib.Nat.{mod-mod-of-dvd, dvd-mul-right, mod-eq-of-lt, mul-one, one-mul, mul-div-cancel, le-div-iff-mul-le, lt-irrefl, lt-of-not-le, not-le-of-lt, le-refl, le-of-lt, le-antisymm, eq-or-lt-of-le, lt-of-le-of-lt, le-of-suc-le-suc, zero-lt-suc, add-assoc, sub-eq-zero-of-le, mul-le-mul-right, pow-succ', mul-left-comm, mul-right-comm, mul-assoc, mul-le-mul-left, mod-lt, div-lt-iff-lt-mul, lt-of-lt-of-le, mul-lt-mul-of-pos-right, le-trans, le-of-eq, mul-le-mul, le-add-right, mul-mod-left, mul-pos, div-eq-of-lt-le, div-eq-of-lt, zero-mul}
 use native.Mathlib.Decide.{decLe}
 use native.Mathlib.Omega.{arith}
 use lib.Dec.{T, ltb, leb, lit<}
@@ -58,6 +58,15 @@ decode f w n = fields f (leb (top f) w) (w % top f / hid f) (w % hid f) (w % top
 -- below the infinity's pattern the field is not all ones
 pub field-of : (f : Format) (a : ℕ) → a < ones f * hid f → a / hid f ≢ ones f
 field-of f a h e = lt-irrefl (ones f) (subst (λ (z : ℕ). z < ones f) e (div-lt-iff-lt-mul (hid-pos f) .1 h))
+
+-- a word up to the infinity's has no sign's bit
+pub no-sign : (f : Format) (w : ℕ) → w ≤ ones f * hid f → w < top f
+no-sign f w h = omega (arith, hid-pos f)
+
+pub decode-plain : (f : Format) (w : ℕ) → w < ones f * hid f → HasValue (ofBits f w) false (magnitude f w) (2 ^ low f)
+decode-plain f w h =
+    let l : w < top f = no-sign f w (le-of-lt h) in
+    rw (lt-leb (top f) w l, mod-eq-of-lt l) at (decode f w (field-of f (w % top f) (rw (mod-eq-of-lt l) h)))
 
 -- ---- writing a value
 
@@ -203,8 +212,12 @@ sign-bit f w x h = go (decLe (top f) w)
 
 -- ---- a function on floats, taken by its words
 
-pub by-words : (f g : Format) (F : Float → Float) (x : Float) → fits f x ≡ true → T (fits g (F x)) → ofBits g (toBits g (F (ofBits f (toBits f x)))) ≡ F x
-by-words f g F x h k = ap (λ (y : Float). ofBits g (toBits g (F y))) (ofBits-toBits f x (subst T (sym h) tt)) ∙ ofBits-toBits g (F x) k
+pub through-words : (f g : Format) (F : Float → Float) (x r : Float) (w v : ℕ) → fits f x ≡ true → (T (fits f x) → T (fits g (F x)))
+    → w ≡ toBits f x → v ≡ toBits g (F (ofBits f w)) → r ≡ ofBits g v → r ≡ F x
+through-words f g F x r w v h k a b c =
+    let t : T (fits f x) = subst T (sym h) tt in
+    let back : ofBits f w ≡ x = ap (ofBits f) a ∙ ofBits-toBits f x t in
+    c ∙ ap (ofBits g) (b ∙ ap (λ (y : Float). toBits g (F y)) back) ∙ ofBits-toBits g (F x) (k t)
 
 -- ---- a finite pattern's value is its own rounding
 

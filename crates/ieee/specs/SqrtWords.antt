@@ -20,10 +20,10 @@ use lib.Ieee.Order.{drop, kept}
 use borrow.Author.Tests.{eq-eqb, ne-eqb, le-leb, lt-leb}
 use Rattle.ieee.specs.Nans.{nan-bits}
 use Rattle.ieee.specs.Whole.{negative}
-use Rattle.ieee.specs.WholeLaws.{signed-word}
+use Rattle.ieee.specs.WholeLaws.{past-infinity}
 use Rattle.ieee.specs.Sqrt.{isqrt, rootOf, sqrt}
 use Rattle.ieee.specs.SqrtLaws.{Root, isqrt-law, root-unique, root-below}
-use Rattle.ieee.specs.Patterns.{size-is, two-hid, hid-pos, pow-lt-inv, pattern-at, toBits-value, magnitude, magnitude-small, magnitude-large, magnitude-pos, decode, field-of, inf-bits}
+use Rattle.ieee.specs.Patterns.{size-is, two-hid, hid-pos, pow-lt-inv, pattern-at, toBits-value, magnitude, magnitude-small, magnitude-large, magnitude-pos, decode-plain, inf-bits, no-sign}
 use Rattle.ieee.specs.Rounding.{round-bits, closest-sticky, closest-scale, closest-le}
 
 -- twice the whole root, and one more where it leaves a rest
@@ -359,61 +359,51 @@ module _ (f : Format) (w : ℕ) (W : w < 2 * top f) where
   pub sqrt-infinite : w ≡ ones f * hid f → w ≡ toBits f (sqrt f (ofBits f w))
   unfolding sqrt toBits
   sqrt-infinite e =
-      let below : w < top f = subst (λ (k : ℕ). k < top f) (sym e) (subst (λ (k : ℕ). ones f * hid f < k) (mul-comm (suc (ones f)) (hid f)) (mul-lt-mul-of-pos-right (le-refl (suc (ones f))) (hid-pos f))) in
+      let below : w < top f = no-sign f w (le-of-eq e) in
       let v : ofBits f w ≡ inf false = inf-bits f w (mod-eq-of-lt below ∙ e) ∙ ap inf (lt-leb (top f) w below) in
       e ∙ sym (ap (λ (y : Float). toBits f (sqrt f y)) v ∙ zero-add (ones f * hid f))
 
-  -- below zero, or a NaN
-  pub sqrt-none : w % top f ≢ 0 → ones f * hid f < w → sqrt f (ofBits f w) ≡ nan
-  sqrt-none n h = go (ofBits f w) refl (decLe (top f) w)
-    where
-      none : (y : Float) → (y ≡ nan) ⊎ (negative y ≡ true) → ((s : Bool) (e : ℤ) → y ≡ fin s 0 e → ⊥) → sqrt f y ≡ nan
-      none y (inl e) z = ap (sqrt f) e ∙ (unfold sqrt in refl)
-      none nan (inr e) z = unfold sqrt in refl
-      none (inf true) (inr e) z = unfold sqrt in refl
-      none (inf false) (inr e) z = absurd (true≢false (sym e))
-      none (fin s zero x) (inr e) z = absurd (z s x refl)
-      none (fin true (suc m) x) (inr e) z = unfold sqrt in refl
-      none (fin false (suc m) x) (inr e) z = absurd (true≢false (sym e))
+  module _ (n : w % top f ≢ 0) where
+    -- below zero, or a NaN
+    pub sqrt-none : ones f * hid f < w → toBits f nan ≡ toBits f (sqrt f (ofBits f w))
+    unfolding sqrt
+    sqrt-none h = ap (toBits f) (sym (none (ofBits f w) (past-infinity f w h) no-zero))
+      where
+        none : (y : Float) → (y ≡ nan) ⊎ (negative y ≡ true) → ((s : Bool) (e : ℤ) → y ≡ fin s 0 e → ⊥) → sqrt f y ≡ nan
+        none y (inl e) z = rw e
+        none nan (inr e) z = refl
+        none (inf s) (inr e) z = rw e
+        none (fin s zero x) (inr e) z = absurd (z s x refl)
+        none (fin s (suc m) x) (inr e) z = rw e
 
-      zero-bits : (s : Bool) (e : ℤ) → toBits f (fin s 0 e) ≡ cond s (top f) 0
-      zero-bits s e =
-          toBits-value f (fin s 0 e) s 0 (refl, ap (λ (k : ℕ). k * 2 ^ low f) (zero-mul (up e)) ∙ zero-mul (2 ^ low f) ∙ sym (zero-mul (down e)))
-          ∙ ap (λ (k : ℕ). cond s (top f) 0 + k) (pattern-at f 0 0 (zero-le, inl refl) ∙ ap (λ (k : ℕ). k + 0) (zero-mul (hid f)))
-          ∙ add-zero (cond s (top f) 0)
+        zero-bits : (s : Bool) (e : ℤ) → toBits f (fin s 0 e) ≡ cond s (top f) 0
+        zero-bits s e =
+            toBits-value f (fin s 0 e) s 0 (refl, ap (λ (k : ℕ). k * 2 ^ low f) (zero-mul (up e)) ∙ zero-mul (2 ^ low f) ∙ sym (zero-mul (down e)))
+            ∙ ap (λ (k : ℕ). cond s (top f) 0 + k) (pattern-at f 0 0 (zero-le, inl refl) ∙ ap (λ (k : ℕ). k + 0) (zero-mul (hid f)))
+            ∙ add-zero (cond s (top f) 0)
 
-      remains : (s : Bool) → cond s (top f) 0 % top f ≡ 0
-      remains true = mod-self (top f)
-      remains false = zero-mod (top f)
+        remains : (s : Bool) → cond s (top f) 0 % top f ≡ 0
+        remains true = mod-self (top f)
+        remains false = zero-mod (top f)
 
-      no-zero : (s : Bool) (e : ℤ) → ofBits f w ≡ fin s 0 e → ⊥
-      no-zero s e v = n (ap (λ (k : ℕ). k % top f) (sym (toBits-ofBits f w W (subst (λ (y : Float). T (not (isNan y))) (sym v) (unfold isNan in tt))) ∙ ap (toBits f) v ∙ zero-bits s e) ∙ remains s)
+        no-zero : (s : Bool) (e : ℤ) → ofBits f w ≡ fin s 0 e → ⊥
+        no-zero s e v =
+            let known : T (not (isNan (ofBits f w))) = rw v (unfold isNan in tt) in
+            n (ap (λ (k : ℕ). k % top f) (sym (toBits-ofBits f w W known) ∙ ap (toBits f) v ∙ zero-bits s e) ∙ remains s)
 
-      go : (y : Float) → ofBits f w ≡ y → Dec (top f ≤ w) → sqrt f (ofBits f w) ≡ nan
-      go y e (yes l) = none (ofBits f w) (flip (signed-word f w)) no-zero
-        where
-          flip : (ofBits f w ≡ nan) ⊎ (negative (ofBits f w) ≡ leb (top f) w) → (ofBits f w ≡ nan) ⊎ (negative (ofBits f w) ≡ true)
-          flip (inl p) = inl p
-          flip (inr p) = inr (p ∙ le-leb (top f) w l)
-      go y e (no g) = ap (sqrt f) (nan-bits f w (subst (λ (k : ℕ). ones f * hid f < k) (sym (mod-eq-of-lt (lt-of-not-le g))) h)) ∙ (unfold sqrt in refl)
+    finite-root : w < ones f * hid f → sqrt f (ofBits f w) ≡ rootOf f (suc (low f)) (magnitude f w * 2 ^ (low f + 2))
+    finite-root F = sqrt-units f (ofBits f w) (magnitude f w) (decode-plain f w F) (magnitude-pos f w above-zero)
+      where
+        above-zero : 0 < w
+        above-zero = elim (eq-zero-or-pos w) [ inl z ↦ absurd (n (ap (λ (k : ℕ). k % top f) z ∙ zero-mod (top f))) | inr l ↦ l ]
 
-  module _ (P : 0 < w) (F : w < ones f * hid f) where
-    finite-root : sqrt f (ofBits f w) ≡ rootOf f (suc (low f)) (magnitude f w * 2 ^ (low f + 2))
-    finite-root =
-        let below : w < top f = lt-of-lt-of-le F (subst (λ (k : ℕ). ones f * hid f ≤ k) (mul-comm (suc (ones f)) (hid f)) (mul-le-mul-right (hid f) (le-suc (ones f)))) in
-        let plain : w % top f ≡ w = mod-eq-of-lt below in
-        let v : HasValue (ofBits f w) false (magnitude f w) (2 ^ low f) =
-        subst (λ (b : Bool). HasValue (ofBits f w) b (magnitude f w) (2 ^ low f)) (lt-leb (top f) w below)
-        (subst (λ (a : ℕ). HasValue (ofBits f w) (leb (top f) w) (magnitude f a) (2 ^ low f)) plain (decode f w (field-of f (w % top f) (subst (λ (a : ℕ). a < ones f * hid f) (sym plain) F)))) in
-        sqrt-units f (ofBits f w) (magnitude f w) v (magnitude-pos f w P)
+    pub sqrt-subnormal : w < ones f * hid f → w < hid f → toBits f (rootOf f (suc (low f)) (w * 2 ^ (low f + 2))) ≡ toBits f (sqrt f (ofBits f w))
+    sqrt-subnormal F h = sym (ap (toBits f) (finite-root F ∙ ap (λ (u : ℕ). rootOf f (suc (low f)) (u * 2 ^ (low f + 2))) (magnitude-small f w h)))
 
-    pub sqrt-subnormal : w < hid f → toBits f (rootOf f (suc (low f)) (w * 2 ^ (low f + 2))) ≡ toBits f (sqrt f (ofBits f w))
-    sqrt-subnormal h = sym (ap (toBits f) (finite-root ∙ ap (λ (u : ℕ). rootOf f (suc (low f)) (u * 2 ^ (low f + 2))) (magnitude-small f w h)))
-
-    pub sqrt-normal : hid f ≤ w → toBits f (rootOf f (suc (low f)) ((hid f + w % hid f) * 2 ^ (w / hid f + (low f + 1)))) ≡ toBits f (sqrt f (ofBits f w))
-    sqrt-normal h =
+    pub sqrt-normal : w < ones f * hid f → hid f ≤ w → toBits f (rootOf f (suc (low f)) ((hid f + w % hid f) * 2 ^ (w / hid f + (low f + 1)))) ≡ toBits f (sqrt f (ofBits f w))
+    sqrt-normal F h =
         let x : 1 ≤ w / hid f = le-div-iff-mul-le (hid-pos f) .1 (subst (λ (k : ℕ). k ≤ w) (sym (one-mul (hid f))) h) in
         let e : w / hid f - 1 + (low f + 2) ≡ w / hid f + (low f + 1) = omega arith in
         let u : magnitude f w * 2 ^ (low f + 2) ≡ (hid f + w % hid f) * 2 ^ (w / hid f + (low f + 1)) =
         ap (λ (k : ℕ). k * 2 ^ (low f + 2)) (magnitude-large f w h) ∙ mul-assoc (hid f + w % hid f) (2 ^ (w / hid f - 1)) (2 ^ (low f + 2)) ∙ ap (λ (k : ℕ). (hid f + w % hid f) * k) (sym (pow-add 2 (w / hid f - 1) (low f + 2)) ∙ ap (λ (k : ℕ). 2 ^ k) e) in
-        sym (ap (toBits f) (finite-root ∙ ap (rootOf f (suc (low f))) u))
+        sym (ap (toBits f) (finite-root F ∙ ap (rootOf f (suc (low f))) u))

@@ -4,7 +4,8 @@ use Prim.Native.Nat.{ℕ, zero, suc, _+_, _-_, _*_, _/_, _%_, _^_, _≤_, _<_, m
 use mathlib.Core.Path.{_≡_, refl, sym, _∙_, ap, subst}
 use mathlib.Core.Bool.{Bool, true, false, cond, not}
 use mathlib.Core.Logic.{_⊎_, inl, inr}
-use native.Mathlib.Nat.{mul-assoc, mul-one, zero-mul, mul-pos, mul-right-comm, div-add-mod', mod-lt, add-mul, eq-zero-or-pos, div-eq-of-lt-le, lt-irrefl, add-zero}
+use native.Mathlib.Nat.{mul-assoc, mul-one, zero-mul, mul-pos, mul-right-comm, div-add-mod', mod-lt, add-mul, eq-zero-or-pos, div-eq-of-lt-le, lt-irrefl, add-zero, mod-eq-of-lt, lt-of-not-le}
+use native.Mathlib.Decide.{decLe}
 use native.Mathlib.Omega.{arith}
 use lib.Dec.{T, leb, eqb}
 use lib.IntN.{ℤ}
@@ -14,7 +15,8 @@ use lib.Ieee.Exact.{HasValue}
 use lib.Ieee.Back.{round-whole}
 use lib.Ieee.Fits.{down-pos, nan-fits, inf-fits, round-fits}
 use lib.Ieee.Nearest.{div-same}
-use borrow.Author.Tests.{eq-eqb, ne-eqb}
+use borrow.Author.Tests.{eq-eqb, ne-eqb, le-leb}
+use Rattle.ieee.specs.Nans.{nan-bits}
 use Rattle.ieee.specs.Whole.{outward, nextWhole, negative, floor, ceil, halfUp, roundAway}
 use Rattle.ieee.specs.Patterns.{Digits, pattern-at, toBits-value}
 
@@ -130,27 +132,30 @@ pub signed-word : (f : Format) (w : ℕ) → (ofBits f w ≡ nan) ⊎ (negative 
 unfolding ofBits
 signed-word f w = signed f (leb (top f) w) (w % top f / hid f) (w % hid f)
 
-pub floor-word : (f : Format) (w : ℕ) → nextWhole f (leb (top f) w) (ofBits f w) ≡ floor f (ofBits f w)
-unfolding floor nextWhole
-floor-word f w = go (ofBits f w) (signed-word f w)
+-- a word above the infinity's is a NaN's, or has the sign
+pub past-infinity : (f : Format) (w : ℕ) → ones f * hid f < w → (ofBits f w ≡ nan) ⊎ (negative (ofBits f w) ≡ true)
+past-infinity f w h = go (decLe (top f) w) (signed-word f w)
   where
-    s : Bool
-    s = leb (top f) w
+    go : Dec (top f ≤ w) → (ofBits f w ≡ nan) ⊎ (negative (ofBits f w) ≡ leb (top f) w) → (ofBits f w ≡ nan) ⊎ (negative (ofBits f w) ≡ true)
+    go d (inl e) = inl e
+    go (yes l) (inr e) = inr (e ∙ le-leb (top f) w l)
+    go (no n) (inr e) = inl (nan-bits f w (rw (mod-eq-of-lt (lt-of-not-le n)) h))
 
-    go : (v : Float) → (v ≡ nan) ⊎ (negative v ≡ s) → nextWhole f s v ≡ nextWhole f (negative v) v
-    go v (inl e) = ap (nextWhole f s) e ∙ sym (ap (λ (y : Float). nextWhole f (negative y) y) e)
-    go v (inr e) = ap (λ (b : Bool). nextWhole f b v) (sym e)
+-- `away` is the sign, or is not: a NaN is the same both ways
+next-word : (f : Format) (w : ℕ) (away : Bool → Bool) → nextWhole f (away (leb (top f) w)) (ofBits f w) ≡ nextWhole f (away (negative (ofBits f w))) (ofBits f w)
+next-word f w away = go (ofBits f w) (signed-word f w)
+  where
+    go : (v : Float) → (v ≡ nan) ⊎ (negative v ≡ leb (top f) w) → nextWhole f (away (leb (top f) w)) v ≡ nextWhole f (away (negative v)) v
+    go v (inl e) = rw e (unfold nextWhole in refl)
+    go v (inr e) = rw e
+
+pub floor-word : (f : Format) (w : ℕ) → nextWhole f (leb (top f) w) (ofBits f w) ≡ floor f (ofBits f w)
+unfolding floor
+floor-word f w = next-word f w (λ (b : Bool). b)
 
 pub ceil-word : (f : Format) (w : ℕ) → nextWhole f (not (leb (top f) w)) (ofBits f w) ≡ ceil f (ofBits f w)
-unfolding ceil nextWhole
-ceil-word f w = go (ofBits f w) (signed-word f w)
-  where
-    s : Bool
-    s = leb (top f) w
-
-    go : (v : Float) → (v ≡ nan) ⊎ (negative v ≡ s) → nextWhole f (not s) v ≡ nextWhole f (not (negative v)) v
-    go v (inl e) = ap (nextWhole f (not s)) e ∙ sym (ap (λ (y : Float). nextWhole f (not (negative y)) y) e)
-    go v (inr e) = ap (λ (b : Bool). nextWhole f (not b) v) (sym e)
+unfolding ceil
+ceil-word f w = next-word f w not
 
 -- ---- the results are values of the format
 

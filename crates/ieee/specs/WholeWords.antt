@@ -2,7 +2,7 @@
 -- below 1, and between them the last 150 - field digits are the fraction. Assumes nothing.
 use Prim.Native.Nat.{ℕ, zero, suc, _+_, _-_, _*_, _/_, _%_, _^_, _≤_, _<_}
 use mathlib.Core.Path.{_≡_, refl, sym, _∙_, ap, subst}
-use mathlib.Core.Bool.{Bool, true, false, cond, not}
+use mathlib.Core.Bool.{Bool, true, false, cond, not, true≢false}
 use mathlib.Core.Logic.{_≢_, _⊎_, inl, inr}
 use native.Mathlib.Nat.{mul-assoc, mul-comm, mul-one, mul-pos, mul-left-comm, div-add-mod', eq-or-lt-of-le, div-eq-of-lt-le, div-eq-of-lt, lt-of-lt-of-le, lt-of-le-of-lt, le-trans, add-zero, mul-add-div-right, div-div-eq-div-mul, le-div-iff-mul-le, div-lt-iff-lt-mul, mul-le-mul-right, mul-div-mul-right, add-mul}
 use native.Mathlib.Omega.{arith}
@@ -126,11 +126,18 @@ module _ (w : ℕ) (W : w < 2 ^ 32) (hi : w % 2 ^ 31 < 127 * 2 ^ 23) where
       none true = ap (λ (u : ℕ). (u + (2 ^ 149 - 1)) / 2 ^ 149) u-zero
       none false = ap (λ (u : ℕ). (u + 0) / 2 ^ 149) u-zero
 
-  pub nextWhole-one : w % 2 ^ 31 ≢ 0 → w - w % 2 ^ 31 + 127 * 2 ^ 23 ≡ toBits binary32 (nextWhole binary32 true (ofBits binary32 w))
-  nextWhole-one z = sym (next true 1 (once-up (magnitude binary32 (w % 2 ^ 31)) (2 ^ 149) (magnitude-pos binary32 (w % 2 ^ 31) (omega arith)) below-one) ∙ one-word (leb (2 ^ 31) w) ∙ ap (λ (k : ℕ). k + 127 * 2 ^ 23) sign)
+  -- away from zero any other becomes 1, toward it 0
+  pub nextWhole-one : (away : Bool) → not away ≡ false → w % 2 ^ 31 ≢ 0 → w - w % 2 ^ 31 + 127 * 2 ^ 23 ≡ toBits binary32 (nextWhole binary32 away (ofBits binary32 w))
+  nextWhole-one false e z = absurd (true≢false e)
+  nextWhole-one true e z =
+      let up = once-up (magnitude binary32 (w % 2 ^ 31)) (2 ^ 149) (magnitude-pos binary32 (w % 2 ^ 31) (omega arith)) below-one in
+      sym (next true 1 up ∙ one-word (leb (2 ^ 31) w) ∙ ap (λ (k : ℕ). k + 127 * 2 ^ 23) sign)
 
-  pub nextWhole-none : w - w % 2 ^ 31 ≡ toBits binary32 (nextWhole binary32 false (ofBits binary32 w))
-  nextWhole-none = sym (next false 0 (ap (λ (z : ℕ). z / 2 ^ 149) (add-zero (magnitude binary32 (w % 2 ^ 31))) ∙ div-eq-of-lt below-one) ∙ zero-word (leb (2 ^ 31) w) ∙ sign)
+  pub nextWhole-none : (away : Bool) → not away ≡ true → w - w % 2 ^ 31 ≡ toBits binary32 (nextWhole binary32 away (ofBits binary32 w))
+  nextWhole-none true e = absurd (true≢false (sym e))
+  nextWhole-none false e =
+      let cut = ap (λ (z : ℕ). z / 2 ^ 149) (add-zero (magnitude binary32 (w % 2 ^ 31))) ∙ div-eq-of-lt below-one in
+      sym (next false 0 cut ∙ zero-word (leb (2 ^ 31) w) ∙ sign)
 
   nearest : (n : ℕ) → (2 * magnitude binary32 (w % 2 ^ 31) + 2 ^ 149) / (2 * 2 ^ 149) ≡ n → toBits binary32 (roundAway binary32 (ofBits binary32 w)) ≡ toBits binary32 (round binary32 (leb (2 ^ 31) w) n 1)
   nearest n e =
