@@ -347,21 +347,25 @@ sticky-lt n a h = go (isqrt n) (eqb (isqrt n * isqrt n) n) (root-below n (isqrt 
 -- ---- the cases of a bit pattern w
 
 module _ (f : Format) (w : ℕ) (W : w < 2 * top f) where
-  -- a zero is its own root
-  pub sqrt-zero : w % top f ≡ 0 → w ≡ toBits f (sqrt f (ofBits f w))
+  zero-own : w % top f ≡ 0 → w ≡ toBits f (sqrt f (ofBits f w))
   unfolding ofBits ofFields odd sqrt
-  sqrt-zero z =
+  zero-own z =
       let x : w % top f / hid f ≡ 0 = ap (λ (k : ℕ). k / hid f) z ∙ zero-div (hid f) in
       let t : w % hid f ≡ 0 = sym (mod-mod-of-dvd (hid f) w (dvd-mul-right (hid f) (suc (ones f)))) ∙ ap (λ (k : ℕ). k % hid f) z ∙ zero-mod (hid f) in
       let v : ofBits f w ≡ fin (leb (top f) w) 0 (pos 0) = ap (λ (k : ℕ). ofFields f (leb (top f) w) k (w % hid f)) x ∙ ap (ofFields f (leb (top f) w) 0) t in
       sym (ap (λ (y : Float). toBits f (sqrt f y)) v ∙ ap (toBits f) (sym v) ∙ toBits-ofBits f w W (subst (λ (y : Float). T (not (isNan y))) (sym v) (unfold isNan in tt)))
 
-  pub sqrt-infinite : w ≡ ones f * hid f → w ≡ toBits f (sqrt f (ofBits f w))
+  infinity-own : w ≡ ones f * hid f → w ≡ toBits f (sqrt f (ofBits f w))
   unfolding sqrt toBits
-  sqrt-infinite e =
+  infinity-own e =
       let below : w < top f = no-sign f w (le-of-eq e) in
       let v : ofBits f w ≡ inf false = inf-bits f w (mod-eq-of-lt below ∙ e) ∙ ap inf (lt-leb (top f) w below) in
       e ∙ sym (ap (λ (y : Float). toBits f (sqrt f y)) v ∙ zero-add (ones f * hid f))
+
+  -- a zero and the infinity are their own roots
+  pub sqrt-own : (w % top f ≡ 0) ⊎ (w ≡ ones f * hid f) → w ≡ toBits f (sqrt f (ofBits f w))
+  sqrt-own (inl z) = zero-own z
+  sqrt-own (inr e) = infinity-own e
 
   module _ (n : w % top f ≢ 0) where
     -- below zero, or a NaN
