@@ -1,4 +1,5 @@
--- The series under cos, sin, acos and asin, in f64 steps of one rounding each, as document 01 writes them. The coefficients are whole numbers, which f64 holds. Assumes nothing.
+-- The series under cos, sin, acos and asin, in f64 steps of one rounding each, as document 01 writes them. The coefficients are whole numbers, which f64
+-- holds. Definitions only. Assumes nothing.
 use Prim.Native.Nat.{ℕ, zero, suc, _+_, _-_, _*_}
 use lib.IntN.{pos}
 use lib.Ieee.{Float, binary64, ofBits, ofInt, add, sub, mul, div}

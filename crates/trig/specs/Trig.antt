@@ -1,4 +1,5 @@
--- cos, sin, acos and asin of an f32, as document 01 writes them: X is the argument widened, which is the same value, and results narrow to f32. Assumes nothing.
+-- cos, sin, acos and asin of an f32, as document 01 writes them: X is the argument widened, which is the same value, and results narrow to f32.
+-- Definitions only. Assumes nothing.
 use mathlib.Core.Bool.{cond}
 use lib.Ieee.{Float, nan, binary64, ofBits, neg, add, sub, mul, div, lt, le}
 use Rattle.ieee.specs.Choose.{fabs}

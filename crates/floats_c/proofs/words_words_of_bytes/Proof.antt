@@ -1,4 +1,4 @@
--- `floats_c::words_words_of_bytes` meets its contract. Assumes nothing.
+-- `floats_c::words_words_of_bytes`: the code is that of the answer that the call gives, and the words stay as the call left them. Assumes nothing.
 use mathlib.Core.Path.{_∙_, ap}
 use Rattle.words.specs.Answers.{code}
 use borrow.Author.Needs.{needs}

@@ -1,4 +1,5 @@
--- `floats::narrow::narrow_word` meets its contract: each branch is a case of NarrowLaws. Assumes nothing.
+-- `floats::narrow::narrow_word`: the tests part the magnitudes into too large, normal, too small and subnormal; NarrowLaws says which digits each
+-- keeps. Assumes nothing.
 use Prim.Native.Nat.{_*_, _%_, _^_, _≤_}
 use native.Mathlib.Omega.{arith}
 use borrow.Author.Needs.{needs}

@@ -1,4 +1,4 @@
--- `floats::root::halving_root` meets its contract: the root lies from `low` up to `low + range`, and the range falls to 1. Assumes nothing.
+-- `floats::root::halving_root`: the root lies from `low` up to `low + range`, and the range falls to 1. Assumes nothing.
 use Prim.Native.Nat.{ℕ, suc, _+_, _-_, _*_, _/_, _^_, _≤_, _<_}
 use mathlib.Core.Path.{_≡_, subst}
 use native.Mathlib.Nat.{mul-le-mul}

@@ -1,4 +1,5 @@
--- `floats::root::wide_sticky_root` meets its contract: the three branches are SqrtWords' three ways. Assumes nothing.
+-- `floats::root::wide_sticky_root`: what the upper half leaves, over twice the upper half, is the lower half or one more, and the rest of that
+-- division says which. Assumes nothing.
 use Prim.Native.Nat.{ℕ, _-_, _*_, _/_, _%_, _^_, _≤_, _<_}
 use native.Mathlib.Nat.{mul-le-mul}
 use native.Mathlib.Omega.{arith}

@@ -1,4 +1,5 @@
--- `floats::sqrt::digits_root64` meets its contract: SqrtWords' pattern of a root, of 54 digits more and with none to spare. Assumes nothing.
+-- `floats::sqrt::digits_root64`: with 54 zeros behind the normalised digits the root has one digit more than f64 keeps, and one rounding drops it.
+-- Assumes nothing.
 use Prim.Native.Nat.{ℕ, _+_, _-_, _*_, _^_, _≤_, _<_}
 use mathlib.Core.Path.{_≡_, ap, _∙_, sym}
 use native.Mathlib.Nat.{mul-le-mul-right, mul-lt-mul-of-pos-right, mul-assoc, zero-add}

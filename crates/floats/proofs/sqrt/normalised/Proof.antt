@@ -1,4 +1,4 @@
--- `floats::sqrt::normalised` meets its contract: the leading zeros say how far the digits can be shifted. Assumes nothing.
+-- `floats::sqrt::normalised`: the leading zeros say how far the digits can be shifted. Assumes nothing.
 use Prim.Native.Nat.{ℕ, _-_, _*_, _%_, _^_, _≤_, _<_}
 use mathlib.Core.Path.{_≡_, subst, sym}
 use mathlib.Core.Logic.{⊎-elim}

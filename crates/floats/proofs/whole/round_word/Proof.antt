@@ -1,4 +1,5 @@
--- `floats::whole::round_word` meets its contract: each branch is a case of WholeWords. Assumes nothing.
+-- `floats::whole::round_word`: adding half the weight of a one and cutting the fraction off rounds halves away from zero; each range of magnitudes
+-- is a case of WholeWords. Assumes nothing.
 use Prim.Native.Nat.{_+_, _-_, _%_, _/_, _^_, _≤_}
 use native.Mathlib.Nat.{mod-le}
 use native.Mathlib.Omega.{arith}
