@@ -60,13 +60,22 @@ pub abs-zero : (f : Format) (x : Float) → fits f x ≡ true → eq x (fin fals
 unfolding eq fabs fits
 abs-zero f nan t h = absurd (subst T (sym h) tt)
 abs-zero f (inf s) t h = absurd (subst T (sym h) tt)
-abs-zero f (fin s m e) t h = go m t (zero-of (eqb→eq (m * up e * 1) (0 * 1 * down e) (and-l (eqb (m * up e * 1) (0 * 1 * down e)) (Bool·beq s false || eqb (m * up e * 1) 0) (subst T (sym h) tt))))
+abs-zero f (fin s m e) t h =
+    go m t (zero-of (eqb→eq (m * up e * 1) (0 * 1 * down e)
+    (and-l (eqb (m * up e * 1) (0 * 1 * down e)) (Bool·beq s false || eqb (m * up e * 1) 0) (subst T (sym h) tt))))
   where
     zero-of : m * up e * 1 ≡ 0 * 1 * down e → m ≡ 0
-    zero-of p = elim (eq-zero-or-pos m) [ inl z ↦ z | inr g ↦ absurd (lt-irrefl 0 (subst (λ (k : ℕ). 0 < k) (sym (mul-one (m * up e)) ∙ p ∙ at-zero m e) (mul-pos g (up-pos e)))) ]
+    zero-of p =
+        elim (eq-zero-or-pos m) [
+          | inl z ↦ z
+          | inr g ↦ absurd
+              (lt-irrefl 0 (subst (λ (k : ℕ). 0 < k) (sym (mul-one (m * up e)) ∙ p ∙ at-zero m e) (mul-pos g (up-pos e))))
+        ]
 
     go : (m : ℕ) → fits f (fin s m e) ≡ true → m ≡ 0 → fin false 0 (pos 0) ≡ fin false m e
-    go zero t z = whole-unique f (fin false 0 (pos 0)) (fin false 0 e) false 0 tt (subst T (sym t) tt) (refl, refl) (refl, ap (λ (k : ℕ). k * 1) (zero-mul (up e)) ∙ zero-mul 1 ∙ sym (zero-mul (down e)))
+    go zero t z =
+        whole-unique f (fin false 0 (pos 0)) (fin false 0 e) false 0 tt (subst T (sym t) tt) (refl, refl)
+        (refl, ap (λ (k : ℕ). k * 1) (zero-mul (up e)) ∙ zero-mul 1 ∙ sym (zero-mul (down e)))
     go (suc n) t z = absurd (omega arith)
 
 pub abs-other : (x : Float) → lt x (fin false 0 (pos 0)) ≡ false → eq x (fin false 0 (pos 0)) ≡ false → x ≡ fabs x

@@ -7,7 +7,8 @@ use native.Mathlib.Nat.{mul-pos, mul-comm, mul-le-mul, mul-sub, mul-one, eq-zero
 use native.Mathlib.Omega.{arith}
 use lib.Dec.{T, ltb, eqb, eqb→eq, ltb→lt, lt→ltb, nltb→le}
 use lib.IntN.{ℤ, pos}
-use lib.Ieee.{Format, binary32, Float, nan, inf, fin, prec, emax, low, unlike, up, down, size, nearest, odd, units, round, sum, neg, add, sub, mul, div, lt, le, fits, isNan, ofBits}
+use lib.Ieee.{Format, binary32, Float, nan, inf, fin, prec, emax, low, unlike, up, down, size, nearest, odd, units, round, sum, neg, add, sub, mul, div, lt, le}
+use lib.Ieee.{fits, isNan, ofBits}
 use lib.Ieee.Fits.{eq→eqb, up-pos, down-pos, round-is, and-l, and-r}
 use lib.Ieee.Exact.{HasValue, round-exact}
 use lib.Ieee.Order.{round-mono}
@@ -17,7 +18,8 @@ use lib.Pow.{pow-pos}
 use borrow.Author.Tests.{le-ltb, ne-eqb}
 use Rattle.ieee.specs.Choose.{fabs}
 use Rattle.ieee.specs.FormatLaws.{fabs-fits, round-self}
-use Rattle.ieee.specs.OrderLaws.{finite-below, gain, le-fin, le-left, le-refl, le-right, le-sizes, le-top, le-trans, le→nonneg, loss, lt-of-lt-of-le, lt→le, nonneg, nonneg→le, nonneg-known, nonneg-up, or-right}
+use Rattle.ieee.specs.OrderLaws.{finite-below, gain, le-fin, le-left, le-refl, le-right, le-sizes, le-top, le-trans, le→nonneg, loss, lt-of-lt-of-le}
+use Rattle.ieee.specs.OrderLaws.{lt→le, nonneg, nonneg→le, nonneg-known, nonneg-up, or-right}
 
 -- ---- what an operation gives, up to the sign of a zero
 
@@ -54,7 +56,9 @@ value-zero (fin t m e) s c C h =
     or-right (not t) (eqb m 0) (eq→eqb z)
 
 round-nonneg : (f : Format) (s : Bool) (n d : ℕ) → 0 < d → (T s → n ≡ 0) → T (nonneg (round f s n d))
-round-nonneg f true n d D h = subst (λ (z : ℕ). T (nonneg (round f true z d))) (sym (h tt)) (value-zero (round f true 0 d) true d D (round-exact f true 0 d 0 0 D (pow-pos (prec f)) (pow-pos (low f + suc (emax f))) (simp zero-mul)))
+round-nonneg f true n d D h =
+    subst (λ (z : ℕ). T (nonneg (round f true z d))) (sym (h tt))
+    (value-zero (round f true 0 d) true d D (round-exact f true 0 d 0 0 D (pow-pos (prec f)) (pow-pos (low f + suc (emax f))) (simp zero-mul)))
 round-nonneg f false n d D h = subst (λ (z : Float). T (nonneg z)) (abs-round f false n d) (abs-nonneg (round f false n d) known)
   where
     known : T (not (isNan (round f false n d)))
@@ -72,7 +76,9 @@ unfolding fabs
 abs-le nan h = absurd h
 abs-le (inf true) h = absurd h
 abs-le (inf false) h = (unfold le in tt, unfold le in tt)
-abs-le (fin true m e) h = let z : m * up e ≡ 0 = ap (λ (z : ℕ). z * up e) (eqb→eq m 0 h) ∙ zero-mul (up e) in (le-fin true m e false m e .1 (omega arith), le-fin false m e true m e .1 (omega (arith, ap (λ (k : ℕ). k * down e) z)))
+abs-le (fin true m e) h =
+    let z : m * up e ≡ 0 = ap (λ (z : ℕ). z * up e) (eqb→eq m 0 h) ∙ zero-mul (up e) in
+    (le-fin true m e false m e .1 (omega arith), le-fin false m e true m e .1 (omega (arith, ap (λ (k : ℕ). k * down e) z)))
 abs-le (fin false m e) h = (le-refl (fin false m e) (unfold isNan in tt), le-refl (fin false m e) (unfold isNan in tt))
 
 le-rounds : (f : Format) (x y : Float) (a b c d : ℕ) → 0 < b → 0 < d → Rounds f x a b → Rounds f y c d → a * d ≤ c * b → T (le x y)
@@ -84,7 +90,8 @@ le-rounds f x y a b c d B D p q h =
 
 -- ---- each operation on values that are finite and not below zero
 
-sum-rounds : (f : Format) (s : Bool) (a : ℕ) (t : Bool) (b c : ℕ) → 0 < c → loss s a + loss t b ≤ gain s a + gain t b → Rounds f (sum f s a t b c) (gain s a + gain t b - (loss s a + loss t b)) c
+sum-rounds : (f : Format) (s : Bool) (a : ℕ) (t : Bool) (b c : ℕ) → 0 < c → loss s a + loss t b ≤ gain s a + gain t b
+    → Rounds f (sum f s a t b c) (gain s a + gain t b - (loss s a + loss t b)) c
 unfolding sum
 sum-rounds f false a false b c C h = rounds f false (a + b) c (a + b - (0 + 0)) C (omega arith) (λ t. absurd t)
 sum-rounds f false a true b c C h = go (ltb a b) (ltb→lt a b)
@@ -116,7 +123,8 @@ cross (fin s m e) nan p q a b h = absurd b
 cross (fin s m e) (inf t) p q a b h = absurd b
 cross (fin s m e) (fin t n d) p q a b h = omega (arith, le-sizes s (m * up e * down d) t (n * up d * down e) .0 h, own s m e (down d) p, own t n d (down e) q)
 
-add-rounds : (f : Format) (x y : Float) → T (nonneg x) → T (nonneg y) → T (finite x) → T (finite y) → Rounds f (add f x y) (num x * den y + num y * den x) (den x * den y)
+add-rounds : (f : Format) (x y : Float) → T (nonneg x) → T (nonneg y) → T (finite x) → T (finite y)
+    → Rounds f (add f x y) (num x * den y + num y * den x) (den x * den y)
 unfolding add
 add-rounds f nan y p q a b = absurd a
 add-rounds f (inf s) y p q a b = absurd a
@@ -130,7 +138,8 @@ add-rounds f (fin s m e) (fin t n d) p q a b =
     subst (λ (z : ℕ). Rounds f (sum f s A t B (down e * down d)) z (down e * down d)) (omega (arith, g, h))
     (sum-rounds f s A t B (down e * down d) (mul-pos (down-pos e) (down-pos d)) (omega (arith, g, h)))
 
-sub-rounds : (f : Format) (x y : Float) → T (nonneg x) → T (nonneg y) → T (finite x) → T (finite y) → T (le y x) → Rounds f (sub f x y) (num x * den y - num y * den x) (den x * den y)
+sub-rounds : (f : Format) (x y : Float) → T (nonneg x) → T (nonneg y) → T (finite x) → T (finite y) → T (le y x)
+    → Rounds f (sub f x y) (num x * den y - num y * den x) (den x * den y)
 unfolding sub
 sub-rounds f nan y p q a b l = absurd a
 sub-rounds f (inf s) y p q a b l = absurd a
@@ -156,7 +165,8 @@ mul-rounds f nan y p q a b = absurd a
 mul-rounds f (inf s) y p q a b = absurd a
 mul-rounds f (fin s m e) nan p q a b = absurd b
 mul-rounds f (fin s m e) (inf t) p q a b = absurd b
-mul-rounds f (fin s m e) (fin t n d) p q a b = rounds f (unlike s t) (m * up e * (n * up d)) (down e * down d) (m * up e * (n * up d)) (mul-pos (down-pos e) (down-pos d)) refl (none s t p q)
+mul-rounds f (fin s m e) (fin t n d) p q a b =
+    rounds f (unlike s t) (m * up e * (n * up d)) (down e * down d) (m * up e * (n * up d)) (mul-pos (down-pos e) (down-pos d)) refl (none s t p q)
   where
     none : (s t : Bool) → T (nonneg (fin s m e)) → T (nonneg (fin t n d)) → T (unlike s t) → m * up e * (n * up d) ≡ 0
     none true true p q u = absurd u
@@ -173,7 +183,8 @@ div-rounds f (fin s m e) (inf t) p a q = absurd q
 div-rounds f (fin s m e) (fin true n d) p a q = absurd q
 div-rounds f (fin s m e) (fin false n d) p a q =
     rw (ne-eqb n 0 (λ (z : n ≡ 0). omega (arith, ltb→lt 0 n q)))
-    (rounds f (unlike s false) (m * up e * down d) (n * up d * down e) (m * up e * down d) (mul-pos (mul-pos (ltb→lt 0 n q) (up-pos d)) (down-pos e)) refl (none s p))
+    (rounds f (unlike s false) (m * up e * down d) (n * up d * down e) (m * up e * down d) (mul-pos (mul-pos (ltb→lt 0 n q) (up-pos d)) (down-pos e)) refl
+    (none s p))
   where
     none : (s : Bool) → T (nonneg (fin s m e)) → T (unlike s false) → m * up e * down d ≡ 0
     none true p u = zero-size m e (down d) p
@@ -186,7 +197,8 @@ unfolding lt
 lt→positive nan a h = absurd a
 lt→positive (inf s) a h = absurd a
 lt→positive (fin true m e) a h = absurd h
-lt→positive (fin false m e) a h = lt→ltb 0 m (elim (eq-zero-or-pos m) [ inl z ↦ absurd (omega (arith, ltb→lt (0 * 1 * down e) (m * up e * 1) h, ap (λ (k : ℕ). k * up e) z)) | inr p ↦ p ])
+lt→positive (fin false m e) a h =
+    lt→ltb 0 m (elim (eq-zero-or-pos m) [ inl z ↦ absurd (omega (arith, ltb→lt (0 * 1 * down e) (m * up e * 1) h, ap (λ (k : ℕ). k * up e) z)) | inr p ↦ p ])
 
 pub positive→lt : (x : Float) → T (positive x) → T (lt (fin false 0 (pos 0)) x)
 unfolding lt
@@ -334,7 +346,8 @@ mul-mono f u v w z p q h k i j =
     under v z (mul f v z) (mul f u w) i (mul-top f v z (nonneg-up u v p h) (nonneg-up w z q k) j) (mul-finite f u v w z p q h k)
 
 -- u / s grows with u
-pub div-mono : (f : Format) (u v s : Float) → T (nonneg u) → T (finite v) → T (finite s) → T (lt (fin false 0 (pos 0)) s) → T (le u v) → T (le (div f u s) (div f v s))
+pub div-mono : (f : Format) (u v s : Float) → T (nonneg u) → T (finite v) → T (finite s) → T (lt (fin false 0 (pos 0)) s) → T (le u v)
+    → T (le (div f u s) (div f v s))
 div-mono f u v s p a b l h =
     let c = finite-below u v p h a in
     let q = nonneg-up u v p h in
@@ -411,7 +424,8 @@ add-positive f x y F h q = lt-of-lt-of-le (fin false 0 (pos 0)) x (add f x y) h 
 
 -- ---- 1 - s for an s up to 1 - 2 ^ -23
 
-pub below-one : (s : Float) → T (nonneg s) → T (le s (ofBits binary32 0x3f7f_fffe)) → T (lt (fin false 0 (pos 0)) (sub binary32 (ofBits binary32 0x3f80_0000) s))
+pub below-one : (s : Float) → T (nonneg s) → T (le s (ofBits binary32 0x3f7f_fffe))
+    → T (lt (fin false 0 (pos 0)) (sub binary32 (ofBits binary32 0x3f80_0000) s))
 unfolding ofBits
 below-one s p h =
     let c = ofBits binary32 0x3f7f_fffe in

@@ -4,7 +4,8 @@ use Prim.Native.Nat.{ℕ, zero, suc, _+_, _-_, _*_, _/_, _%_, _^_, _≤_, _<_, m
 use mathlib.Core.Path.{_≡_, refl, sym, _∙_, ap, subst}
 use mathlib.Core.Bool.{Bool, true, false, cond, not}
 use mathlib.Core.Logic.{_⊎_, inl, inr}
-use native.Mathlib.Nat.{mul-assoc, mul-one, zero-mul, mul-pos, mul-right-comm, div-add-mod', mod-lt, add-mul, eq-zero-or-pos, div-eq-of-lt-le, lt-irrefl, add-zero, mod-eq-of-lt, lt-of-not-le}
+use native.Mathlib.Nat.{mul-assoc, mul-one, zero-mul, mul-pos, mul-right-comm, div-add-mod', mod-lt, add-mul, eq-zero-or-pos, div-eq-of-lt-le, lt-irrefl}
+use native.Mathlib.Nat.{add-zero, mod-eq-of-lt, lt-of-not-le}
 use native.Mathlib.Decide.{decLe}
 use native.Mathlib.Omega.{arith}
 use lib.Dec.{T, leb, eqb}
@@ -73,7 +74,8 @@ outward-units true m e u d D h =
     ∙ ap (λ (b : Bool). u / d + cond (not b) 1 0) (rest-test (m * up e) (down e) u d (down-pos e) D h)
     ∙ rounded-up u d D
 
-pub nextWhole-units : (f : Format) (away : Bool) (v : Float) (s : Bool) (u d : ℕ) → 0 < d → HasValue v s u d → nextWhole f away v ≡ round f s ((u + cond away (d - 1) 0) / d) 1
+pub nextWhole-units : (f : Format) (away : Bool) (v : Float) (s : Bool) (u d : ℕ) → 0 < d → HasValue v s u d
+    → nextWhole f away v ≡ round f s ((u + cond away (d - 1) 0) / d) 1
 unfolding nextWhole
 nextWhole-units f away nan s u d D h = absurd h
 nextWhole-units f away (inf t) s u d D h = absurd h
@@ -85,7 +87,8 @@ unfolding roundAway
 roundAway-units f nan s u d D h = absurd h
 roundAway-units f (inf t) s u d D h = absurd h
 roundAway-units f (fin t m e) s u d D h =
-    ap (λ (z : ℕ). round f t z 1) (div-same (2 * (m * up e) + down e) (2 * down e) (2 * u + d) (2 * d) (twice (down e) (down-pos e)) (twice d D) (halves (m * up e) (down e) u d (h .1)))
+    ap (λ (z : ℕ). round f t z 1)
+    (div-same (2 * (m * up e) + down e) (2 * down e) (2 * u + d) (2 * d) (twice (down e) (down-pos e)) (twice d D) (halves (m * up e) (down e) u d (h .1)))
     ∙ ap (λ (b : Bool). round f b ((2 * u + d) / (2 * d)) 1) (h .0)
   where
     twice : (k : ℕ) → 0 < k → 0 < 2 * k
@@ -108,7 +111,8 @@ rescaled nan s n d h = h
 rescaled (inf t) s n d h = h
 rescaled (fin t m e) s n d h = (h .0, ap (λ (z : ℕ). z * d) (sym (mul-one (m * up e)) ∙ h .1) ∙ mul-right-comm n (down e) d)
 
-pub whole-pattern : (f : Format) (s : Bool) (n g k : ℕ) → n ≤ 2 ^ prec f → g + k ≡ low f → Digits f (n * 2 ^ g) k → toBits f (round f s n 1) ≡ cond s (top f) 0 + (k * hid f + n * 2 ^ g)
+pub whole-pattern : (f : Format) (s : Bool) (n g k : ℕ) → n ≤ 2 ^ prec f → g + k ≡ low f → Digits f (n * 2 ^ g) k
+    → toBits f (round f s n 1) ≡ cond s (top f) 0 + (k * hid f + n * 2 ^ g)
 whole-pattern f s n g k h e d =
     let p : n * 2 ^ low f ≡ n * 2 ^ g * 2 ^ k = ap (λ (z : ℕ). n * 2 ^ z) (sym e) ∙ ap (λ (z : ℕ). n * z) (pow-add 2 g k) ∙ sym (mul-assoc n (2 ^ g) (2 ^ k)) in
     toBits-value f (round f s n 1) s (n * 2 ^ low f) (rescaled (round f s n 1) s n (2 ^ low f) (round-whole f s n h))
@@ -122,7 +126,8 @@ signed f s zero zero = inr refl
 signed f s zero (suc t) = inr refl
 signed f s (suc x) t = go (eqb (suc x) (ones f)) (eqb t 0) (hid f + t)
   where
-    go : (a b : Bool) (q : ℕ) → (cond a (cond b (inf s) nan) (odd (prec f) s q x (low f)) ≡ nan) ⊎ (negative (cond a (cond b (inf s) nan) (odd (prec f) s q x (low f))) ≡ s)
+    go : (a b : Bool) (q : ℕ)
+        → (cond a (cond b (inf s) nan) (odd (prec f) s q x (low f)) ≡ nan) ⊎ (negative (cond a (cond b (inf s) nan) (odd (prec f) s q x (low f))) ≡ s)
     go true true q = inr refl
     go true false q = inl refl
     go false b zero = inr refl
@@ -142,7 +147,8 @@ past-infinity f w h = go (decLe (top f) w) (signed-word f w)
     go (no n) (inr e) = inl (nan-bits f w (rw (mod-eq-of-lt (lt-of-not-le n)) h))
 
 -- `away` is the sign, or is not: a NaN is the same both ways
-next-word : (f : Format) (w : ℕ) (away : Bool → Bool) → nextWhole f (away (leb (top f) w)) (ofBits f w) ≡ nextWhole f (away (negative (ofBits f w))) (ofBits f w)
+next-word : (f : Format) (w : ℕ) (away : Bool → Bool)
+    → nextWhole f (away (leb (top f) w)) (ofBits f w) ≡ nextWhole f (away (negative (ofBits f w))) (ofBits f w)
 next-word f w away = go (ofBits f w) (signed-word f w)
   where
     go : (v : Float) → (v ≡ nan) ⊎ (negative v ≡ leb (top f) w) → nextWhole f (away (leb (top f) w)) v ≡ nextWhole f (away (negative v)) v
