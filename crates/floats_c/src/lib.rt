@@ -190,7 +190,8 @@ pub extern "C" fn words_word_count(bytes: &[u8]) -> usize
 #[no_mangle]
 pub extern "C" fn words_words_of_bytes(bytes: &[u8], words: &mut [u32]) -> u32
     ensures { λ r. ⌜ r ≡ code (readWords (now (bytes .entry)) (length (now (words .entry)))) ⌝ }
-    ensures { λ _. ⌜ now (words .exit) ≡ tray (λ (n : ℕ). wordsOf (now (bytes .entry))) (length (now (bytes .entry)) / 4) (readWords (now (bytes .entry)) (length (now (words .entry)))) (now (words .entry)) ⌝ }
+    ensures { λ _. ⌜ now (words .exit) ≡ tray (λ (n : ℕ). wordsOf (now (bytes .entry))) (length (now (bytes .entry)) / 4)
+        (readWords (now (bytes .entry)) (length (now (words .entry)))) (now (words .entry)) ⌝ }
 {
     counted_code(words::little_endian::words_of_bytes(bytes, words))
 }
@@ -198,7 +199,8 @@ pub extern "C" fn words_words_of_bytes(bytes: &[u8], words: &mut [u32]) -> u32
 #[no_mangle]
 pub extern "C" fn words_bytes_of_words(words: &[u32], bytes: &mut [u8]) -> u32
     ensures { λ r. ⌜ r ≡ code (writtenWords (now (words .entry)) (length (now (bytes .entry)))) ⌝ }
-    ensures { λ _. ⌜ now (bytes .exit) ≡ tray (λ (n : ℕ). bytesOf (now (words .entry))) (4 * length (now (words .entry))) (writtenWords (now (words .entry)) (length (now (bytes .entry)))) (now (bytes .entry)) ⌝ }
+    ensures { λ _. ⌜ now (bytes .exit) ≡ tray (λ (n : ℕ). bytesOf (now (words .entry))) (4 * length (now (words .entry)))
+        (writtenWords (now (words .entry)) (length (now (bytes .entry)))) (now (bytes .entry)) ⌝ }
 {
     counted_code(words::little_endian::bytes_of_words(words, bytes))
 }

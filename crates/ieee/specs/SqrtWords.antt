@@ -402,49 +402,49 @@ module _ (f : Format) (w : ℕ) (W : w < 2 * top f) where
   sqrt-own (inl z) = zero-own z
   sqrt-own (inr e) = infinity-own e
 
-  module _ (n : w % top f ≢ 0) where
-    -- below zero, or a NaN
-    pub sqrt-none : ones f * hid f < w → toBits f nan ≡ toBits f (sqrt f (ofBits f w))
-    unfolding sqrt
-    sqrt-none h = ap (toBits f) (sym (none (ofBits f w) (past-infinity f w h) no-zero))
-      where
-        none : (y : Float) → (y ≡ nan) ⊎ (negative y ≡ true) → ((s : Bool) (e : ℤ) → y ≡ fin s 0 e → ⊥) → sqrt f y ≡ nan
-        none y (inl e) z = rw e
-        none nan (inr e) z = refl
-        none (inf s) (inr e) z = rw e
-        none (fin s zero x) (inr e) z = absurd (z s x refl)
-        none (fin s (suc m) x) (inr e) z = rw e
+  -- below zero, or a NaN
+  pub sqrt-none : w % top f ≢ 0 → ones f * hid f < w → toBits f nan ≡ toBits f (sqrt f (ofBits f w))
+  unfolding sqrt
+  sqrt-none n h = ap (toBits f) (sym (none (ofBits f w) (past-infinity f w h) no-zero))
+    where
+      none : (y : Float) → (y ≡ nan) ⊎ (negative y ≡ true) → ((s : Bool) (e : ℤ) → y ≡ fin s 0 e → ⊥) → sqrt f y ≡ nan
+      none y (inl e) z = rw e
+      none nan (inr e) z = refl
+      none (inf s) (inr e) z = rw e
+      none (fin s zero x) (inr e) z = absurd (z s x refl)
+      none (fin s (suc m) x) (inr e) z = rw e
 
-        zero-bits : (s : Bool) (e : ℤ) → toBits f (fin s 0 e) ≡ cond s (top f) 0
-        zero-bits s e =
-            toBits-value f (fin s 0 e) s 0 (refl, ap (λ (k : ℕ). k * 2 ^ low f) (zero-mul (up e)) ∙ zero-mul (2 ^ low f) ∙ sym (zero-mul (down e)))
-            ∙ ap (λ (k : ℕ). cond s (top f) 0 + k) (pattern-at f 0 0 (zero-le, inl refl) ∙ ap (λ (k : ℕ). k + 0) (zero-mul (hid f)))
-            ∙ add-zero (cond s (top f) 0)
+      zero-bits : (s : Bool) (e : ℤ) → toBits f (fin s 0 e) ≡ cond s (top f) 0
+      zero-bits s e =
+          toBits-value f (fin s 0 e) s 0 (refl, ap (λ (k : ℕ). k * 2 ^ low f) (zero-mul (up e)) ∙ zero-mul (2 ^ low f) ∙ sym (zero-mul (down e)))
+          ∙ ap (λ (k : ℕ). cond s (top f) 0 + k) (pattern-at f 0 0 (zero-le, inl refl) ∙ ap (λ (k : ℕ). k + 0) (zero-mul (hid f)))
+          ∙ add-zero (cond s (top f) 0)
 
-        remains : (s : Bool) → cond s (top f) 0 % top f ≡ 0
-        remains true = mod-self (top f)
-        remains false = zero-mod (top f)
+      remains : (s : Bool) → cond s (top f) 0 % top f ≡ 0
+      remains true = mod-self (top f)
+      remains false = zero-mod (top f)
 
-        no-zero : (s : Bool) (e : ℤ) → ofBits f w ≡ fin s 0 e → ⊥
-        no-zero s e v =
-            let known : T (not (isNan (ofBits f w))) = rw v (unfold isNan in tt) in
-            n (ap (λ (k : ℕ). k % top f) (sym (toBits-ofBits f w W known) ∙ ap (toBits f) v ∙ zero-bits s e) ∙ remains s)
+      no-zero : (s : Bool) (e : ℤ) → ofBits f w ≡ fin s 0 e → ⊥
+      no-zero s e v =
+          let known : T (not (isNan (ofBits f w))) = rw v (unfold isNan in tt) in
+          n (ap (λ (k : ℕ). k % top f) (sym (toBits-ofBits f w W known) ∙ ap (toBits f) v ∙ zero-bits s e) ∙ remains s)
 
-    finite-root : w < ones f * hid f → sqrt f (ofBits f w) ≡ rootOf f (suc (low f)) (magnitude f w * 2 ^ (low f + 2))
-    finite-root F = sqrt-units f (ofBits f w) (magnitude f w) (decode-plain f w F) (magnitude-pos f w above-zero)
-      where
-        above-zero : 0 < w
-        above-zero = elim (eq-zero-or-pos w) [ inl z ↦ absurd (n (ap (λ (k : ℕ). k % top f) z ∙ zero-mod (top f))) | inr l ↦ l ]
+module _ (f : Format) (w : ℕ) (n : w % top f ≢ 0) where
+  finite-root : w < ones f * hid f → sqrt f (ofBits f w) ≡ rootOf f (suc (low f)) (magnitude f w * 2 ^ (low f + 2))
+  finite-root F = sqrt-units f (ofBits f w) (magnitude f w) (decode-plain f w F) (magnitude-pos f w above-zero)
+    where
+      above-zero : 0 < w
+      above-zero = elim (eq-zero-or-pos w) [ inl z ↦ absurd (n (ap (λ (k : ℕ). k % top f) z ∙ zero-mod (top f))) | inr l ↦ l ]
 
-    pub sqrt-subnormal : w < ones f * hid f → w < hid f → toBits f (rootOf f (suc (low f)) (w * 2 ^ (low f + 2))) ≡ toBits f (sqrt f (ofBits f w))
-    sqrt-subnormal F h = sym (ap (toBits f) (finite-root F ∙ ap (λ (u : ℕ). rootOf f (suc (low f)) (u * 2 ^ (low f + 2))) (magnitude-small f w h)))
+  pub sqrt-subnormal : w < ones f * hid f → w < hid f → toBits f (rootOf f (suc (low f)) (w * 2 ^ (low f + 2))) ≡ toBits f (sqrt f (ofBits f w))
+  sqrt-subnormal F h = sym (ap (toBits f) (finite-root F ∙ ap (λ (u : ℕ). rootOf f (suc (low f)) (u * 2 ^ (low f + 2))) (magnitude-small f w h)))
 
-    pub sqrt-normal : w < ones f * hid f → hid f ≤ w
-        → toBits f (rootOf f (suc (low f)) ((hid f + w % hid f) * 2 ^ (w / hid f + (low f + 1)))) ≡ toBits f (sqrt f (ofBits f w))
-    sqrt-normal F h =
-        let x : 1 ≤ w / hid f = le-div-iff-mul-le (hid-pos f) .1 (subst (λ (k : ℕ). k ≤ w) (sym (one-mul (hid f))) h) in
-        let e : w / hid f - 1 + (low f + 2) ≡ w / hid f + (low f + 1) = omega arith in
-        let u : magnitude f w * 2 ^ (low f + 2) ≡ (hid f + w % hid f) * 2 ^ (w / hid f + (low f + 1)) =
-        ap (λ (k : ℕ). k * 2 ^ (low f + 2)) (magnitude-large f w h) ∙ mul-assoc (hid f + w % hid f) (2 ^ (w / hid f - 1)) (2 ^ (low f + 2))
-        ∙ ap (λ (k : ℕ). (hid f + w % hid f) * k) (sym (pow-add 2 (w / hid f - 1) (low f + 2)) ∙ ap (λ (k : ℕ). 2 ^ k) e) in
-        sym (ap (toBits f) (finite-root F ∙ ap (rootOf f (suc (low f))) u))
+  pub sqrt-normal : w < ones f * hid f → hid f ≤ w
+      → toBits f (rootOf f (suc (low f)) ((hid f + w % hid f) * 2 ^ (w / hid f + (low f + 1)))) ≡ toBits f (sqrt f (ofBits f w))
+  sqrt-normal F h =
+      let x : 1 ≤ w / hid f = le-div-iff-mul-le (hid-pos f) .1 (subst (λ (k : ℕ). k ≤ w) (sym (one-mul (hid f))) h) in
+      let e : w / hid f - 1 + (low f + 2) ≡ w / hid f + (low f + 1) = omega arith in
+      let u : magnitude f w * 2 ^ (low f + 2) ≡ (hid f + w % hid f) * 2 ^ (w / hid f + (low f + 1)) =
+      ap (λ (k : ℕ). k * 2 ^ (low f + 2)) (magnitude-large f w h) ∙ mul-assoc (hid f + w % hid f) (2 ^ (w / hid f - 1)) (2 ^ (low f + 2))
+      ∙ ap (λ (k : ℕ). (hid f + w % hid f) * k) (sym (pow-add 2 (w / hid f - 1) (low f + 2)) ∙ ap (λ (k : ℕ). 2 ^ k) e) in
+      sym (ap (toBits f) (finite-root F ∙ ap (rootOf f (suc (low f))) u))

@@ -36,7 +36,10 @@ twiceArc y = mul binary64 two64 (arc (sqrt binary64 (div binary64 (sub binary64 
 
 -- "size up to 0.5, π/2 - K(X); above, 2 × K(sqrt((1-X)/2)); below -0.5, π - 2 × K(sqrt((1+X)/2))". 1 + X is 1 - (-X).
 unfoldable pub acos : Float → Float
-acos x = cond (le (fabs x) one64) (narrow (cond (le (fabs x) half) (sub binary64 halfPi (arc x)) (cond (lt half x) (twiceArc x) (sub binary64 pi (twiceArc (neg x)))))) nan
+acos x =
+    cond (le (fabs x) one64)
+    (narrow (cond (le (fabs x) half) (sub binary64 halfPi (arc x)) (cond (lt half x) (twiceArc x) (sub binary64 pi (twiceArc (neg x))))))
+    nan
 
 -- "K(X) up to 0.5, else π/2 - 2 × K(sqrt((1-|X|)/2)) with X's sign"
 abbrev pub withSign : Float → Float → Float

@@ -34,8 +34,8 @@ returns-3 c =
     let i = t .before .before .before in
     let x = i .before .before .args .x in
     rw (sized x one64 (i .before .abs .ensures) (i .if1 .taken), sized x half (i .before .abs .ensures) (t .before .if2 .left), t .if3 .left)
-    (c .narrow3 .ensures
-    ∙ ap (λ (v : Float). narrow (sub binary64 pi v)) (c .before .twice-arc2 .ensures ∙ ap (λ (w : Float). twiceArc (neg w)) (t .before .before .widen .ensures)))
+    (c .narrow3 .ensures ∙ ap (λ (v : Float). narrow (sub binary64 pi v))
+    (c .before .twice-arc2 .ensures ∙ ap (λ (w : Float). twiceArc (neg w)) (t .before .before .widen .ensures)))
 
 returns-4 : tie.Need-returns-4
 unfolding acos div ofBits

@@ -28,7 +28,8 @@ returns-2 c =
     let t = c .before .before in
     let l = t .before .before in
     let s = l .before .before in
-    rw (sized (s .before .args .x) one64 (s .abs .ensures) (l .before .if1 .taken), sized (s .before .args .x) half (s .abs .ensures) (l .if2 .left), c .before .if3 .taken)
+    let x = s .before .args .x in
+    rw (sized x one64 (s .abs .ensures) (l .before .if1 .taken), sized x half (s .abs .ensures) (l .if2 .left), c .before .if3 .taken)
     (c .narrow2 .ensures ∙ ap (λ (v : Float). narrow (neg (sub binary64 halfPi v))) (magnitude t))
 
 returns-3 : tie.Need-returns-3
@@ -37,7 +38,8 @@ returns-3 c =
     let t = c .before .before in
     let l = t .before .before in
     let s = l .before .before in
-    rw (sized (s .before .args .x) one64 (s .abs .ensures) (l .before .if1 .taken), sized (s .before .args .x) half (s .abs .ensures) (l .if2 .left), c .before .if3 .left)
+    let x = s .before .args .x in
+    rw (sized x one64 (s .abs .ensures) (l .before .if1 .taken), sized x half (s .abs .ensures) (l .if2 .left), c .before .if3 .left)
     (c .narrow3 .ensures ∙ ap (λ (v : Float). narrow (sub binary64 halfPi v)) (magnitude t))
 
 returns-4 : tie.Need-returns-4

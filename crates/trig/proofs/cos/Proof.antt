@@ -13,7 +13,8 @@ returns : tie.Need-returns
 unfolding cos ofBits
 returns c =
     let t = c .before .before .before in
-    within (t .before .before .args .x) eight (t .before .abs .ensures) (t .if1 .taken) (c .narrow .ensures ∙ ap narrow (c .before .series .ensures ∙ ap (λ (w : Float). series 1 (mul binary64 w w)) (c .before .before .widen .ensures)))
+    within (t .before .before .args .x) eight (t .before .abs .ensures) (t .if1 .taken)
+    (c .narrow .ensures ∙ ap narrow (c .before .series .ensures ∙ ap (λ (w : Float). series 1 (mul binary64 w w)) (c .before .before .widen .ensures)))
 
 returns-2 : tie.Need-returns-2
 unfolding cos div ofBits

@@ -32,7 +32,8 @@ sub-result : tie.Need-sub-result
 sub-result c = mod-le (c .before .before .before .before .args .w % 2 ^ 31 + c .power .result / 2) (c .power .result)
 
 returns-5 : tie.Need-returns-5
-returns-5 c = rw (c .power .ensures) (roundAway-part (c .before .before .before .before .args .w) (omega arith) (c .before .if3 .left) (c .before .before .if2 .left))
+returns-5 c =
+    rw (c .power .ensures) (roundAway-part (c .before .before .before .before .args .w) (omega arith) (c .before .if3 .left) (c .before .before .if2 .left))
 
 pub round-word-spec : {M : Type 1} → statement M
 round-word-spec =
