@@ -1,7 +1,7 @@
 -- cos, sin, acos and asin of an f32, as document 01 writes them: X is the argument widened, which is the same value, and results narrow to f32.
 -- Definitions only. Assumes nothing.
 use mathlib.Core.Bool.{cond}
-use lib.Ieee.{Float, nan, binary64, ofBits, neg, add, sub, mul, div, lt, le}
+use lib.Ieee.{Float, nan, binary64, ofBits, neg, sub, mul, div, lt, le}
 use Rattle.ieee.specs.Choose.{fabs}
 use Rattle.ieee.specs.Narrow.{narrow}
 use Rattle.ieee.specs.Sqrt.{sqrt}

@@ -1,5 +1,5 @@
 -- `trig::twice_arc`: the arc is taken of the root that `sqrt64` gives, and doubled. Assumes nothing.
-use mathlib.Core.Path.{_≡_, _∙_, ap}
+use mathlib.Core.Path.{_∙_, ap}
 use borrow.Author.Needs.{needs}
 use lib.Ieee.{binary64, mul}
 use Rattle.trig.specs.Series.{arc}
