@@ -45,6 +45,8 @@ macro_rules! word {
 word! {
     f32, Width::F32, f32::from_bits, standins::word;
     f64, Width::F64, f64::from_bits, standins::word64;
+    bool, Width::F32, |word: u64| word != 0, u64::from;
+    u16, Width::F32, identity::<u16>, identity;
     u32, Width::F32, identity::<u32>, identity;
     u64, Width::F64, identity::<u64>, identity;
     usize, Width::F64, identity::<usize>, identity;
@@ -86,6 +88,8 @@ functions! {
     13 widen(x: f32), standins::widen, f64::from;
     14 word_of_f32(x: f32), standins::word, |x: f32| if x.is_nan() { f32::NAN.to_bits() } else { x.to_bits() };
     15 word_of_f64(x: f64), standins::word64, |x: f64| if x.is_nan() { f64::NAN.to_bits() } else { x.to_bits() };
+    16 to_u16(x: f32), standins::to_u16, |x| x as u16;
+    17 is_sign_negative(x: f32), standins::is_sign_negative, f32::is_sign_negative, if !x.is_nan();
     0 f32_of_word(w: u32), f32::from_bits, f32::from_bits;
     0 f64_of_word(w: u64), f64::from_bits, f64::from_bits;
     0 cos(x: f32), trig::cos, f32::cos, if OWN_ANGLES;

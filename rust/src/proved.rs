@@ -11,12 +11,16 @@ unsafe extern "C" {
     pub safe fn clamp(x: f32, lo: f32, hi: f32) -> f32;
     #[link_name = "floats_abs"]
     pub safe fn abs(x: f32) -> f32;
+    #[link_name = "floats_is_sign_negative"]
+    pub safe fn is_sign_negative(x: f32) -> bool;
     #[link_name = "floats_floor"]
     pub safe fn floor(x: f32) -> f32;
     #[link_name = "floats_ceil"]
     pub safe fn ceil(x: f32) -> f32;
     #[link_name = "floats_round"]
     pub safe fn round(x: f32) -> f32;
+    #[link_name = "floats_to_u16"]
+    pub safe fn to_u16(x: f32) -> u16;
     #[link_name = "floats_to_u32"]
     pub safe fn to_u32(x: f32) -> u32;
     #[link_name = "floats_to_usize"]

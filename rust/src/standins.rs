@@ -70,6 +70,11 @@ pub fn abs(x: f32) -> f32 {
     f32::from_bits(x.to_bits() & 0x7fff_ffff)
 }
 
+/// Whether the stored word has its sign bit; a NaN's has none.
+pub fn is_sign_negative(x: f32) -> bool {
+    word(x) >> 31 == 1
+}
+
 /// One of the two whole numbers about x: the one away from zero where `away` says so, given whether x is negative and whether
 /// its fraction is at least a half. A whole x is its own answer. The sign stays, also on a zero.
 fn whole(x: f32, away: fn(bool, bool) -> bool) -> f32 {
@@ -119,6 +124,10 @@ fn saturated(x: f32, bits: u32) -> u64 {
     } else {
         significand << (exponent - 23)
     }
+}
+
+pub fn to_u16(x: f32) -> u16 {
+    saturated(x, 16) as u16
 }
 
 pub fn to_u32(x: f32) -> u32 {

@@ -9,4 +9,7 @@ macro_rules! runs {
     };
 }
 
-runs! { min max clamp abs floor ceil round to_u32 to_usize sqrt sqrt64 narrow widen word_of_f32 word_of_f64 f32_of_word f64_of_word }
+runs! {
+    min max clamp abs is_sign_negative floor ceil round to_u16 to_u32 to_usize sqrt sqrt64 narrow widen
+    word_of_f32 word_of_f64 f32_of_word f64_of_word
+}

@@ -7,26 +7,14 @@ use words::floats::word_of_f32;
 pub fn min(x: f32, y: f32) -> f32
     ensures { λ r. ⌜ r ≡ fmin x y ⌝ }
 {
-    if x != x {
-        y
-    } else if y < x {
-        y
-    } else {
-        x
-    }
+    if x != x || y < x { y } else { x }
 }
 
 // The greater, likewise.
 pub fn max(x: f32, y: f32) -> f32
     ensures { λ r. ⌜ r ≡ fmax x y ⌝ }
 {
-    if x != x {
-        y
-    } else if x < y {
-        y
-    } else {
-        x
-    }
+    if x != x || x < y { y } else { x }
 }
 
 // lo where x is below it, then hi where that is above it; a NaN stays. Ends that are turned round give hi.

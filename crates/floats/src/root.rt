@@ -49,15 +49,11 @@ fn root(n: u64) -> u64
 {
     let q = guess(n);
     let square = q * q;
-    if square <= n {
-        if n - square <= 2 * q {
-            return q;
-        }
-    } else {
-        let p = q - 1;
-        if p * p <= n {
-            return p;
-        }
+    if square <= n && n - square <= 2 * q {
+        return q;
+    }
+    if square > n && (q - 1) * (q - 1) <= n {
+        return q - 1;
     }
     halving_root(n)
 }

@@ -37,16 +37,13 @@ fn root_word(w: u32) -> u32
 fn sqrt_word(w: u32) -> u32
     ensures { λ r. ⌜ r ≡ toBits binary32 (rooted binary32 (ofBits binary32 w)) ⌝ }
 {
-    // both zeros
-    if w % 0x8000_0000 == 0 {
+    // both zeros, and infinity
+    if w % 0x8000_0000 == 0 || w == 0x7f80_0000 {
         return w;
     }
     // below zero, or NaN
     if w > 0x7f80_0000 {
         return 0x7fc0_0000;
-    }
-    if w == 0x7f80_0000 {
-        return w;
     }
     // subnormal: the digits as they are, with the exponent of a field of 1
     if w < 0x80_0000 {
@@ -61,14 +58,11 @@ fn sqrt_word(w: u32) -> u32
 fn sqrt64_word(w: u64) -> u64
     ensures { λ r. ⌜ r ≡ toBits binary64 (rooted binary64 (ofBits binary64 w)) ⌝ }
 {
-    if w % 0x8000_0000_0000_0000 == 0 {
+    if w % 0x8000_0000_0000_0000 == 0 || w == 0x7ff0_0000_0000_0000 {
         return w;
     }
     if w > 0x7ff0_0000_0000_0000 {
         return 0x7ff8_0000_0000_0000;
-    }
-    if w == 0x7ff0_0000_0000_0000 {
-        return w;
     }
     if w < 0x10_0000_0000_0000 {
         return digits_root64(w, 1076);

@@ -43,13 +43,10 @@ fn next_whole_word(w: u32, away: bool) -> u32
     }
     let sign = w - a;
     if a < 0x3f80_0000 {
-        if a == 0 {
+        if a == 0 || !away {
             return sign;
         }
-        if away {
-            return sign + 0x3f80_0000;
-        }
-        return sign;
+        return sign + 0x3f80_0000;
     }
     let part = power(150 - a / 0x80_0000);
     if away {
@@ -114,7 +111,11 @@ pub fn to_u32(x: f32) -> u32
     ensures { λ r. ⌜ r ≡ toU32 x ⌝ }
 {
     let n = to_usize(x);
-    if n > 0xffff_ffff { 0xffff_ffff } else { n as u32 }
+    if n > 0xffff_ffff {
+        0xffff_ffff
+    } else {
+        n as u32
+    }
 }
 
 pub fn to_u16(x: f32) -> u16

@@ -3,10 +3,10 @@ ghost use mathlib.Core.Path.{_≡_};
 ghost use Prim.Native.Nat.{ℕ, _*_, _/_};
 ghost use lib.Ieee.{binary32, binary64, ofBits, toBits};
 ghost use lib.ListN.{getD, length};
-ghost use Rattle.ieee.specs.Choose.{fmin, fmax, clamp, fabs};
+ghost use Rattle.ieee.specs.Choose.{fmin, fmax, clamp, fabs, isSignNegative};
 ghost use Rattle.ieee.specs.Narrow.{narrow};
 ghost use Rattle.ieee.specs.Sqrt.{sqrt};
-ghost use Rattle.ieee.specs.Whole.{floor, ceil, roundAway, toU32, toUsize};
+ghost use Rattle.ieee.specs.Whole.{floor, ceil, roundAway, toU16, toU32, toUsize};
 ghost use Rattle.words.specs.Fill.{filled};
 ghost use Rattle.words.specs.LittleEndian.{wordsOf, bytesOf, setWord, wordCount, readWords, writtenWords};
 ghost use Rattle.words.specs.Answers.{counted, code};
@@ -44,6 +44,13 @@ pub extern "C" fn floats_abs(x: f32) -> f32
 }
 
 #[no_mangle]
+pub extern "C" fn floats_is_sign_negative(x: f32) -> bool
+    ensures { λ r. ⌜ r ≡ isSignNegative x ⌝ }
+{
+    floats::choose::is_sign_negative(x)
+}
+
+#[no_mangle]
 pub extern "C" fn floats_floor(x: f32) -> f32
     ensures { λ r. ⌜ r ≡ floor binary32 x ⌝ }
 {
@@ -62,6 +69,13 @@ pub extern "C" fn floats_round(x: f32) -> f32
     ensures { λ r. ⌜ r ≡ roundAway binary32 x ⌝ }
 {
     floats::whole::round(x)
+}
+
+#[no_mangle]
+pub extern "C" fn floats_to_u16(x: f32) -> u16
+    ensures { λ r. ⌜ r ≡ toU16 x ⌝ }
+{
+    floats::whole::to_u16(x)
 }
 
 #[no_mangle]
@@ -176,7 +190,8 @@ pub extern "C" fn words_word_count(bytes: &[u8]) -> usize
 #[no_mangle]
 pub extern "C" fn words_words_of_bytes(bytes: &[u8], words: &mut [u32]) -> u32
     ensures { λ r. ⌜ r ≡ code (readWords (now (bytes .entry)) (length (now (words .entry)))) ⌝ }
-    ensures { λ _. ⌜ now (words .exit) ≡ tray (λ (n : ℕ). wordsOf (now (bytes .entry))) (length (now (bytes .entry)) / 4) (readWords (now (bytes .entry)) (length (now (words .entry)))) (now (words .entry)) ⌝ }
+    ensures { λ _. ⌜ now (words .exit) ≡ tray (λ (n : ℕ). wordsOf (now (bytes .entry))) (length (now (bytes .entry)) / 4)
+        (readWords (now (bytes .entry)) (length (now (words .entry)))) (now (words .entry)) ⌝ }
 {
     counted_code(words::little_endian::words_of_bytes(bytes, words))
 }
@@ -184,7 +199,8 @@ pub extern "C" fn words_words_of_bytes(bytes: &[u8], words: &mut [u32]) -> u32
 #[no_mangle]
 pub extern "C" fn words_bytes_of_words(words: &[u32], bytes: &mut [u8]) -> u32
     ensures { λ r. ⌜ r ≡ code (writtenWords (now (words .entry)) (length (now (bytes .entry)))) ⌝ }
-    ensures { λ _. ⌜ now (bytes .exit) ≡ tray (λ (n : ℕ). bytesOf (now (words .entry))) (4 * length (now (words .entry))) (writtenWords (now (words .entry)) (length (now (bytes .entry)))) (now (bytes .entry)) ⌝ }
+    ensures { λ _. ⌜ now (bytes .exit) ≡ tray (λ (n : ℕ). bytesOf (now (words .entry))) (4 * length (now (words .entry)))
+        (writtenWords (now (words .entry)) (length (now (bytes .entry)))) (now (bytes .entry)) ⌝ }
 {
     counted_code(words::little_endian::bytes_of_words(words, bytes))
 }

@@ -70,4 +70,5 @@ fmax-mono x y c n l =
 pub fmax-nonneg : (x : Float) → T (nonneg (fmax x (fin false 0 (pos 0))))
 fmax-nonneg nan = subst (λ (z : Float). T (nonneg z)) (sym (fmax-nan (fin false 0 (pos 0)))) tt
 fmax-nonneg (inf s) = le→nonneg (fmax (inf s) (fin false 0 (pos 0))) (fmax-le (inf s) (fin false 0 (pos 0)) (unfold isNan in tt) (unfold isNan in tt) .1)
-fmax-nonneg (fin s m e) = le→nonneg (fmax (fin s m e) (fin false 0 (pos 0))) (fmax-le (fin s m e) (fin false 0 (pos 0)) (unfold isNan in tt) (unfold isNan in tt) .1)
+fmax-nonneg (fin s m e) =
+    le→nonneg (fmax (fin s m e) (fin false 0 (pos 0))) (fmax-le (fin s m e) (fin false 0 (pos 0)) (unfold isNan in tt) (unfold isNan in tt) .1)

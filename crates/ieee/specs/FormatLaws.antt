@@ -63,14 +63,14 @@ sqrt-fits f (fin false (suc m) e) h = round-fits f false _ _
 self-value : (f : Format) (s : Bool) (m : ℕ) (e : ℤ) → Held f m e → HasValue (round f s (m * up e) (down e)) s (m * up e) (down e)
 self-value f s m (pos j) H =
     let v : m * 2 ^ j * 2 ^ low f ≡ m * 2 ^ (j + low f) * 1 =
-        mul-assoc m (2 ^ j) (2 ^ low f) ∙ ap (λ (z : ℕ). m * z) (sym (pow-add 2 j (low f))) ∙ sym (mul-one (m * 2 ^ (j + low f)))
+    mul-assoc m (2 ^ j) (2 ^ low f) ∙ ap (λ (z : ℕ). m * z) (sym (pow-add 2 j (low f))) ∙ sym (mul-one (m * 2 ^ (j + low f)))
     in
     round-exact f s (m * 2 ^ j) 1 m (j + low f) (down-pos (pos j)) (H .digits) (held-units f m (pos j) (m * 2 ^ (j + low f)) H v) v
 self-value f s m (negsuc j) H =
     let i = low f - suc j in
     let l : 2 ^ low f ≡ 2 ^ i * 2 ^ suc j = ap (λ (z : ℕ). 2 ^ z) (sym (back (low f) (suc j) (pow-le-inv (suc j) (low f) (H .places)))) ∙ pow-add 2 i (suc j) in
     let v : m * 1 * 2 ^ low f ≡ m * 2 ^ i * 2 ^ suc j =
-        ap (λ (z : ℕ). z * 2 ^ low f) (mul-one m) ∙ ap (λ (z : ℕ). m * z) l ∙ sym (mul-assoc m (2 ^ i) (2 ^ suc j))
+    ap (λ (z : ℕ). z * 2 ^ low f) (mul-one m) ∙ ap (λ (z : ℕ). m * z) l ∙ sym (mul-assoc m (2 ^ i) (2 ^ suc j))
     in
     round-exact f s (m * 1) (2 ^ suc j) m i (down-pos (negsuc j)) (H .digits) (held-units f m (negsuc j) (m * 2 ^ i) H v) v
 

@@ -1,4 +1,4 @@
--- f64 to f32: the nearest value of binary32, "ties to even". Assumes nothing.
+-- f64 to f32: the nearest value of binary32, "ties to even". Definitions only. Assumes nothing.
 use Prim.Native.Nat.{_*_}
 use lib.Ieee.{Float, nan, inf, fin, binary32, up, down, round}
 

@@ -3,7 +3,9 @@ use Prim.Native.Nat.{ℕ, suc, _+_, _-_, _*_, _/_, _%_, _^_, _≤_, _<_, min}
 use mathlib.Core.Path.{_≡_, refl, sym, _∙_, ap, subst}
 use mathlib.Core.Bool.{Bool, cond}
 use mathlib.Core.Logic.{_≢_, _⊎_, inl, inr}
-use native.Mathlib.Nat.{zero-add, eq-or-lt-of-le, add-zero, mul-le-mul-left, mul-assoc, mul-comm, mul-one, mul-div-mul-right, mul-right-comm, le-div-iff-mul-le, div-lt-iff-lt-mul, mul-le-mul-right, mul-lt-mul-of-pos-right, lt-of-lt-of-le, lt-of-le-of-lt, le-trans, le-of-eq, sub-eq-zero-of-le, min-eq-left, min-eq-right, mul-pos}
+use native.Mathlib.Nat.{zero-add, eq-or-lt-of-le, add-zero, mul-le-mul-left, mul-assoc, mul-comm, mul-one, mul-div-mul-right, mul-right-comm, le-div-iff-mul-le}
+use native.Mathlib.Nat.{div-lt-iff-lt-mul, mul-le-mul-right, mul-lt-mul-of-pos-right, lt-of-lt-of-le, lt-of-le-of-lt, le-trans, le-of-eq, sub-eq-zero-of-le}
+use native.Mathlib.Nat.{min-eq-left, min-eq-right, mul-pos}
 use native.Mathlib.Omega.{arith}
 use lib.Dec.{T, leb, lit<, lit≤}
 use lib.Pow.{pow-pos, pow-mono, pow-add}
@@ -35,7 +37,9 @@ abbrev left : ℕ → ℕ
 left u = kept 24 (u * 2 ^ 149) (2 ^ 1074)
 
 narrow-bits : (w : ℕ) → w % top binary64 / hid binary64 ≢ ones binary64
-    → toBits binary32 (narrow (ofBits binary64 w)) ≡ cond (leb (top binary64) w) (2 ^ 31) 0 + min (gone (magnitude binary64 (w % top binary64)) * 2 ^ 23 + left (magnitude binary64 (w % top binary64))) (255 * 2 ^ 23)
+    → toBits binary32 (narrow (ofBits binary64 w))
+    ≡ cond (leb (top binary64) w) (2 ^ 31) 0 + min (gone (magnitude binary64 (w % top binary64)) * 2 ^ 23 + left (magnitude binary64 (w % top binary64)))
+    (255 * 2 ^ 23)
 narrow-bits w n =
     let u = magnitude binary64 (w % top binary64) in
     ap (toBits binary32) (narrow-value (ofBits binary64 w) (leb (top binary64) w) u (decode binary64 w n))
@@ -45,7 +49,9 @@ narrow-bits w n =
 
 module _ (m i : ℕ) (lo : 2 ^ 52 ≤ m) (hi : m < 2 ^ 53) where
   scaled : m * 2 ^ (896 + i) * 2 ^ 149 ≡ m * 2 ^ i * 2 ^ 1045
-  scaled = ap (λ (z : ℕ). m * z * 2 ^ 149) (pow-add 2 896 i) ∙ ap (λ (z : ℕ). z * 2 ^ 149) (sym (mul-assoc m (2 ^ 896) (2 ^ i)) ∙ mul-right-comm m (2 ^ 896) (2 ^ i)) ∙ mul-assoc (m * 2 ^ i) (2 ^ 896) (2 ^ 149)
+  scaled =
+      ap (λ (z : ℕ). m * z * 2 ^ 149) (pow-add 2 896 i) ∙ ap (λ (z : ℕ). z * 2 ^ 149) (sym (mul-assoc m (2 ^ 896) (2 ^ i)) ∙ mul-right-comm m (2 ^ 896) (2 ^ i))
+      ∙ mul-assoc (m * 2 ^ i) (2 ^ 896) (2 ^ 149)
 
   digits : m * 2 ^ (896 + i) * 2 ^ 149 / 2 ^ 1074 ≡ m * 2 ^ i / 2 ^ 29
   digits = ap (λ (z : ℕ). z / 2 ^ 1074) scaled ∙ mul-div-mul-right (m * 2 ^ i) (2 ^ 29) (pow-pos 1045)
@@ -56,7 +62,9 @@ module _ (m i : ℕ) (lo : 2 ^ 52 ≤ m) (hi : m < 2 ^ 53) where
   pub normal-gone : gone (m * 2 ^ (896 + i)) ≡ i
   normal-gone =
       let b : 2 ^ (23 + i) ≤ m * 2 ^ i / 2 ^ 29 = le-div-iff-mul-le (pow-pos 29) .1 (le-trans (le-of-eq (over 23)) (mul-le-mul-right (2 ^ i) lo)) in
-      let a : m * 2 ^ i / 2 ^ 29 < 2 ^ suc (23 + i) = div-lt-iff-lt-mul (pow-pos 29) .1 (lt-of-lt-of-le (mul-lt-mul-of-pos-right hi (pow-pos i)) (le-of-eq (sym (ap (λ (z : ℕ). 2 ^ z * 2 ^ 29) (suc-sum i) ∙ over 24)))) in
+      let a : m * 2 ^ i / 2 ^ 29 < 2 ^ suc (23 + i) =
+      div-lt-iff-lt-mul (pow-pos 29) .1
+      (lt-of-lt-of-le (mul-lt-mul-of-pos-right hi (pow-pos i)) (le-of-eq (sym (ap (λ (z : ℕ). 2 ^ z * 2 ^ 29) (suc-sum i) ∙ over 24)))) in
       ap (λ (z : ℕ). size z - 24) digits ∙ ap (λ (z : ℕ). z - 24) (size-is (m * 2 ^ i / 2 ^ 29) (23 + i) b a) ∙ back i
     where
       suc-sum : (i : ℕ) → suc (23 + i) ≡ 24 + i
@@ -81,7 +89,9 @@ places m j g e =
     ∙ mul-assoc (2 ^ g) (2 ^ j) (2 ^ 149)
 
 short : (u : ℕ) → u < 2 ^ 948 → gone u ≡ 0
-short u h = sub-eq-zero-of-le (size-le (u * 2 ^ 149 / 2 ^ 1074) 24 (div-lt-iff-lt-mul (pow-pos 1074) .1 (lt-of-lt-of-le (mul-lt-mul-of-pos-right h (pow-pos 149)) (lit≤ tt))))
+short u h =
+    sub-eq-zero-of-le (size-le (u * 2 ^ 149 / 2 ^ 1074) 24
+    (div-lt-iff-lt-mul (pow-pos 1074) .1 (lt-of-lt-of-le (mul-lt-mul-of-pos-right h (pow-pos 149)) (lit≤ tt))))
 
 no-field : (u : ℕ) → u < 2 ^ 948 → gone u * 2 ^ 23 + left u ≡ left u
 no-field u h = ap (λ (z : ℕ). z * 2 ^ 23 + left u) (short u h) ∙ zero-add (left u)
@@ -97,7 +107,8 @@ small-left : (u : ℕ) → u < 2 ^ 924 → left u ≡ 0
 small-left u h =
     let l : u < 2 ^ 948 = lt-of-lt-of-le h (lit≤ tt) in
     ap (λ (z : ℕ). closest (u * 2 ^ 149) (2 ^ 1074 * 2 ^ z)) (short u l)
-    ∙ closest-small (u * 2 ^ 149) (2 ^ 1074 * 2 ^ 0) (subst (λ (z : ℕ). z < 2 ^ 1074 * 2 ^ 0) (sym (mul-assoc u (2 ^ 149) 2)) (lt-of-lt-of-le (mul-lt-mul-of-pos-right h (lit< tt)) (lit≤ tt)))
+    ∙ closest-small (u * 2 ^ 149) (2 ^ 1074 * 2 ^ 0)
+    (subst (λ (z : ℕ). z < 2 ^ 1074 * 2 ^ 0) (sym (mul-assoc u (2 ^ 149) 2)) (lt-of-lt-of-le (mul-lt-mul-of-pos-right h (lit< tt)) (lit≤ tt)))
 
 -- ---- too large: from 2 ^ 128 on more digits go than the field can say
 
@@ -134,21 +145,28 @@ infinite s = refl
 module _ (w : ℕ) (W : w < 2 ^ 64) where
   -- the pattern of a finite value, with its sign's bit as a word
   finite-bits : w % 2 ^ 63 < 2047 * 2 ^ 52
-      → toBits binary32 (narrow (ofBits binary64 w)) ≡ w / 2 ^ 63 * 2 ^ 31 + min (gone (magnitude binary64 (w % 2 ^ 63)) * 2 ^ 23 + left (magnitude binary64 (w % 2 ^ 63))) (255 * 2 ^ 23)
+      → toBits binary32 (narrow (ofBits binary64 w))
+      ≡ w / 2 ^ 63 * 2 ^ 31 + min (gone (magnitude binary64 (w % 2 ^ 63)) * 2 ^ 23 + left (magnitude binary64 (w % 2 ^ 63))) (255 * 2 ^ 23)
   finite-bits h =
       narrow-bits w (λ (e : w % 2 ^ 63 / 2 ^ 52 ≡ 2047). omega arith)
-      ∙ ap (λ (z : ℕ). z + min (gone (magnitude binary64 (w % 2 ^ 63)) * 2 ^ 23 + left (magnitude binary64 (w % 2 ^ 63))) (255 * 2 ^ 23)) (sign-bit binary64 w (2 ^ 31) W)
+      ∙ ap (λ (z : ℕ). z + min (gone (magnitude binary64 (w % 2 ^ 63)) * 2 ^ 23 + left (magnitude binary64 (w % 2 ^ 63))) (255 * 2 ^ 23))
+      (sign-bit binary64 w (2 ^ 31) W)
 
   -- infinite, or too large
   pub narrow-large : 1151 * 2 ^ 52 ≤ w % 2 ^ 63 → w % 2 ^ 63 ≤ 2047 * 2 ^ 52 → w / 2 ^ 63 * 2 ^ 31 + 255 * 2 ^ 23 ≡ toBits binary32 (narrow (ofBits binary64 w))
   narrow-large lo hi = go (eq-or-lt-of-le hi)
     where
       go : (w % 2 ^ 63 ≡ 2047 * 2 ^ 52) ⊎ (w % 2 ^ 63 < 2047 * 2 ^ 52) → w / 2 ^ 63 * 2 ^ 31 + 255 * 2 ^ 23 ≡ toBits binary32 (narrow (ofBits binary64 w))
-      go (inl e) = sym (ap (λ (v : Float). toBits binary32 (narrow v)) (inf-bits binary64 w e) ∙ infinite (leb (2 ^ 63) w) ∙ ap (λ (z : ℕ). z + 255 * 2 ^ 23) (sign-bit binary64 w (2 ^ 31) W))
-      go (inr l) = sym (finite-bits l ∙ ap (λ (z : ℕ). w / 2 ^ 63 * 2 ^ 31 + z) (min-eq-right (large-left (magnitude binary64 (w % 2 ^ 63)) (magnitude-ge binary64 (w % 2 ^ 63) 1150 lo))))
+      go (inl e) =
+          sym (ap (λ (v : Float). toBits binary32 (narrow v)) (inf-bits binary64 w e) ∙ infinite (leb (2 ^ 63) w)
+          ∙ ap (λ (z : ℕ). z + 255 * 2 ^ 23) (sign-bit binary64 w (2 ^ 31) W))
+      go (inr l) =
+          sym (finite-bits l ∙ ap (λ (z : ℕ). w / 2 ^ 63 * 2 ^ 31 + z)
+          (min-eq-right (large-left (magnitude binary64 (w % 2 ^ 63)) (magnitude-ge binary64 (w % 2 ^ 63) 1150 lo))))
 
   -- normal, or carried to the infinity
-  pub narrow-normal : 897 * 2 ^ 52 ≤ w % 2 ^ 63 → w % 2 ^ 63 < 1151 * 2 ^ 52 → w / 2 ^ 63 * 2 ^ 31 + closest (w % 2 ^ 63 - 896 * 2 ^ 52) (2 ^ 29) ≡ toBits binary32 (narrow (ofBits binary64 w))
+  pub narrow-normal : 897 * 2 ^ 52 ≤ w % 2 ^ 63 → w % 2 ^ 63 < 1151 * 2 ^ 52
+      → w / 2 ^ 63 * 2 ^ 31 + closest (w % 2 ^ 63 - 896 * 2 ^ 52) (2 ^ 29) ≡ toBits binary32 (narrow (ofBits binary64 w))
   narrow-normal lo hi =
       let a = w % 2 ^ 63 in
       let i = a / 2 ^ 52 - 897 in
@@ -160,10 +178,13 @@ module _ (w : ℕ) (W : w < 2 ^ 64) where
       let g : gone (magnitude binary64 a) ≡ i = ap gone u ∙ normal-gone m i ml mh in
       let k : left (magnitude binary64 a) ≡ closest m (2 ^ 29) = ap left u ∙ normal-left m i ml mh in
       let b : a - 896 * 2 ^ 52 ≡ 2 * (i * 2 ^ 22) * 2 ^ 29 + m = omega arith in
-      let c : closest (a - 896 * 2 ^ 52) (2 ^ 29) ≡ 2 * (i * 2 ^ 22) + closest m (2 ^ 29) = ap (λ (z : ℕ). closest z (2 ^ 29)) b ∙ closest-add (i * 2 ^ 22) m (2 ^ 29) (pow-pos 29) in
-      let p : gone (magnitude binary64 a) * 2 ^ 23 + left (magnitude binary64 a) ≡ 2 * (i * 2 ^ 22) + closest m (2 ^ 29) = ap (λ (z : ℕ). z * 2 ^ 23 + left (magnitude binary64 a)) g ∙ ap (λ (z : ℕ). i * 2 ^ 23 + z) k ∙ ap (λ (z : ℕ). z + closest m (2 ^ 29)) (steps i) in
+      let c : closest (a - 896 * 2 ^ 52) (2 ^ 29) ≡ 2 * (i * 2 ^ 22) + closest m (2 ^ 29) =
+      ap (λ (z : ℕ). closest z (2 ^ 29)) b ∙ closest-add (i * 2 ^ 22) m (2 ^ 29) (pow-pos 29) in
+      let p : gone (magnitude binary64 a) * 2 ^ 23 + left (magnitude binary64 a) ≡ 2 * (i * 2 ^ 22) + closest m (2 ^ 29) =
+      ap (λ (z : ℕ). z * 2 ^ 23 + left (magnitude binary64 a)) g ∙ ap (λ (z : ℕ). i * 2 ^ 23 + z) k ∙ ap (λ (z : ℕ). z + closest m (2 ^ 29)) (steps i) in
       let room : 2 * (i * 2 ^ 22) + closest m (2 ^ 29) ≤ 255 * 2 ^ 23 = subst (λ (z : ℕ). z ≤ 255 * 2 ^ 23) c (normal-room a hi) in
-      sym (finite-bits (lt-of-lt-of-le hi (lit≤ tt)) ∙ ap (λ (z : ℕ). w / 2 ^ 63 * 2 ^ 31 + z) (ap (λ (z : ℕ). min z (255 * 2 ^ 23)) p ∙ min-eq-left room ∙ sym c))
+      sym (finite-bits (lt-of-lt-of-le hi (lit≤ tt))
+      ∙ ap (λ (z : ℕ). w / 2 ^ 63 * 2 ^ 31 + z) (ap (λ (z : ℕ). min z (255 * 2 ^ 23)) p ∙ min-eq-left room ∙ sym c))
     where
       steps : (i : ℕ) → i * 2 ^ 23 ≡ 2 * (i * 2 ^ 22)
       steps i = omega arith
@@ -177,7 +198,8 @@ module _ (w : ℕ) (W : w < 2 ^ 64) where
       sym (finite-bits (lt-of-lt-of-le h (lit≤ tt)) ∙ ap (λ (z : ℕ). w / 2 ^ 63 * 2 ^ 31 + min z (255 * 2 ^ 23)) p ∙ add-zero (w / 2 ^ 63 * 2 ^ 31))
 
   -- subnormal
-  pub narrow-subnormal : 873 * 2 ^ 52 ≤ w % 2 ^ 63 → w % 2 ^ 63 < 897 * 2 ^ 52 → w / 2 ^ 63 * 2 ^ 31 + closest (2 ^ 52 + w % 2 ^ 63 % 2 ^ 52) (2 ^ (926 - w % 2 ^ 63 / 2 ^ 52)) ≡ toBits binary32 (narrow (ofBits binary64 w))
+  pub narrow-subnormal : 873 * 2 ^ 52 ≤ w % 2 ^ 63 → w % 2 ^ 63 < 897 * 2 ^ 52
+      → w / 2 ^ 63 * 2 ^ 31 + closest (2 ^ 52 + w % 2 ^ 63 % 2 ^ 52) (2 ^ (926 - w % 2 ^ 63 / 2 ^ 52)) ≡ toBits binary32 (narrow (ofBits binary64 w))
   narrow-subnormal lo hi =
       let a = w % 2 ^ 63 in
       let j = a / 2 ^ 52 - 1 in
@@ -186,7 +208,8 @@ module _ (w : ℕ) (W : w < 2 ^ 64) where
       let u : magnitude binary64 a ≡ m * 2 ^ j = magnitude-large binary64 a (le-trans (lit≤ tt) lo) in
       let l : m * 2 ^ j < 2 ^ 948 = subst (λ (z : ℕ). z < 2 ^ 948) u (magnitude-lt binary64 a 896 hi) in
       let e : j + g ≡ 925 = omega arith in
-      let p : gone (magnitude binary64 a) * 2 ^ 23 + left (magnitude binary64 a) ≡ closest m (2 ^ g) = no-field (magnitude binary64 a) (magnitude-lt binary64 a 896 hi) ∙ ap left u ∙ subnormal-left m j g l e in
+      let p : gone (magnitude binary64 a) * 2 ^ 23 + left (magnitude binary64 a) ≡ closest m (2 ^ g) =
+      no-field (magnitude binary64 a) (magnitude-lt binary64 a 896 hi) ∙ ap left u ∙ subnormal-left m j g l e in
       let room : closest m (2 ^ g) ≤ 255 * 2 ^ 23 = le-trans (subnormal-room a hi) (lit≤ tt) in
       sym (finite-bits (lt-of-lt-of-le hi (lit≤ tt)) ∙ ap (λ (z : ℕ). w / 2 ^ 63 * 2 ^ 31 + z) (ap (λ (z : ℕ). min z (255 * 2 ^ 23)) p ∙ min-eq-left room))
 

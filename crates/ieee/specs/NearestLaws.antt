@@ -5,7 +5,9 @@ use Prim.Native.Nat.{ℕ, zero, suc, _+_, _-_, _*_, _/_, _%_, _^_, _≤_, _<_, m
 use mathlib.Core.Path.{_≡_, refl, sym, _∙_, ap, subst}
 use mathlib.Core.Bool.{Bool, false, _&&_}
 use mathlib.Core.Logic.{_≢_, _⊎_, inl, inr}
-use native.Mathlib.Nat.{le-trans, le-of-eq, le-of-lt, le-of-suc-le-suc, lt-of-lt-of-le, lt-of-le-of-lt, lt-of-not-le, not-le-of-lt, eq-zero-or-pos, mul-one, one-mul, zero-mul, mul-assoc, mul-comm, mul-left-comm, mul-pos, mul-le-mul-right, mul-lt-mul-of-pos-right, lt-of-mul-lt-mul-right, lt-of-mul-lt-mul-left, eq-of-mul-eq-mul-right, pow-succ', div-add-mod', div-div-eq-div-mul, le-div-iff-mul-le, mod-lt}
+use native.Mathlib.Nat.{le-trans, le-of-eq, le-of-lt, le-of-suc-le-suc, lt-of-lt-of-le, lt-of-le-of-lt, lt-of-not-le, not-le-of-lt, eq-zero-or-pos, mul-one}
+use native.Mathlib.Nat.{one-mul, zero-mul, mul-assoc, mul-comm, mul-left-comm, mul-pos, mul-le-mul-right, mul-lt-mul-of-pos-right, lt-of-mul-lt-mul-right}
+use native.Mathlib.Nat.{lt-of-mul-lt-mul-left, eq-of-mul-eq-mul-right, pow-succ', div-add-mod', div-div-eq-div-mul, le-div-iff-mul-le, mod-lt}
 use native.Mathlib.Decide.{decLe}
 use native.Mathlib.Omega.{arith}
 use lib.IntN.{ℤ, pos, negsuc}
@@ -32,11 +34,21 @@ pub record Held (f : Format) (m : ℕ) (e : ℤ) : Type 0 where
 
 pub held : (f : Format) (s : Bool) (m : ℕ) (e : ℤ) → T (fits f (fin s m e)) → Held f m e
 unfolding fits
-held f s zero e t = record { digits = pow-pos (prec f); places = le-trans one (pow-pos (low f)); limit = subst (λ (z : ℕ). z < 2 ^ suc (emax f) * down e) (sym (zero-mul (up e))) (mul-pos (pow-pos (suc (emax f))) (down-pos e)) }
+held f s zero e t =
+    record {
+      digits = pow-pos (prec f);
+      places = le-trans one (pow-pos (low f));
+      limit = subst (λ (z : ℕ). z < 2 ^ suc (emax f) * down e) (sym (zero-mul (up e))) (mul-pos (pow-pos (suc (emax f))) (down-pos e));
+    }
   where
     one : down e ≤ 1
     one = subst (λ (z : ℕ). z ≤ 1) (one-mul (down e)) (le-trans (mul-le-mul-right (down e) (up-pos e)) (le-of-eq (eqb→eq (up e * down e) 1 t)))
-held f s (suc m) e t = record { digits = ltb→lt (suc m) (2 ^ prec f) (and-r a b (and-l (a && b) c l)); places = leb→le (down e) (2 ^ low f) (and-r (a && b) c l); limit = ltb→lt (suc m * up e) (2 ^ suc (emax f) * down e) (and-r (a && b && c) d t) }
+held f s (suc m) e t =
+    record {
+      digits = ltb→lt (suc m) (2 ^ prec f) (and-r a b (and-l (a && b) c l));
+      places = leb→le (down e) (2 ^ low f) (and-r (a && b) c l);
+      limit = ltb→lt (suc m * up e) (2 ^ suc (emax f) * down e) (and-r (a && b && c) d t);
+    }
   where
     a : Bool
     a = eqb (suc m % 2) 1
@@ -66,22 +78,34 @@ held-units f m e u H v =
 shape : (f : Format) (y : Float) (s : Bool) (h : ℕ) → T (fits f y) → HasValue y s h (2 ^ low f) → (m : ℕ) × (i : ℕ) × (m < 2 ^ prec f) × (h ≡ m * 2 ^ i)
 shape f nan s h F v = absurd v
 shape f (inf t) s h F v = absurd v
-shape f (fin t m (pos j)) s h F v =
-    (m, j + low f, held f t m (pos j) F .digits, sym (mul-one h) ∙ sym (v .1) ∙ mul-assoc m (2 ^ j) (2 ^ low f) ∙ ap (λ (z : ℕ). m * z) (sym (pow-add 2 j (low f))))
+shape f (fin t m (pos j)) s h F v = (
+  m,
+  j + low f,
+  held f t m (pos j) F .digits,
+  sym (mul-one h) ∙ sym (v .1) ∙ mul-assoc m (2 ^ j) (2 ^ low f)
+      ∙ ap (λ (z : ℕ). m * z) (sym (pow-add 2 j (low f))),
+)
 shape f (fin t m (negsuc j)) s h F v =
     let i = low f - suc j in
     let r : suc j ≤ low f = pow-le-inv (suc j) (low f) (held f t m (negsuc j) F .places) in
     let l : 2 ^ low f ≡ 2 ^ i * 2 ^ suc j = ap (λ (z : ℕ). 2 ^ z) (sym (back (low f) (suc j) r)) ∙ pow-add 2 i (suc j) in
-    let e : h * 2 ^ suc j ≡ m * 2 ^ i * 2 ^ suc j = sym (v .1) ∙ ap (λ (z : ℕ). z * 2 ^ low f) (mul-one m) ∙ ap (λ (z : ℕ). m * z) l ∙ sym (mul-assoc m (2 ^ i) (2 ^ suc j)) in
+    let e : h * 2 ^ suc j ≡ m * 2 ^ i * 2 ^ suc j =
+    sym (v .1) ∙ ap (λ (z : ℕ). z * 2 ^ low f) (mul-one m) ∙ ap (λ (z : ℕ). m * z) l ∙ sym (mul-assoc m (2 ^ i) (2 ^ suc j)) in
     (m, i, held f t m (negsuc j) F .digits, eq-of-mul-eq-mul-right (2 ^ suc j) (pow-pos (suc j)) h (m * 2 ^ i) e)
 
 -- so from hid * 2 ^ k units on it is a multiple of 2 ^ k
 grid-multiple : (f : Format) (y : Float) (s : Bool) (h k : ℕ) → T (fits f y) → HasValue y s h (2 ^ low f) → hid f * 2 ^ k ≤ h → (c : ℕ) × (h ≡ c * 2 ^ k)
 grid-multiple f y s h k F v l =
     let (m, i, d, e) = shape f y s h F v in
-    let a : m * 2 ^ i < hid f * 2 ^ suc i = lt-of-lt-of-le (mul-lt-mul-of-pos-right d (pow-pos i)) (le-of-eq (ap (λ (z : ℕ). z * 2 ^ i) (two-hid f) ∙ mul-assoc 2 (hid f) (2 ^ i) ∙ mul-left-comm 2 (hid f) (2 ^ i) ∙ ap (λ (z : ℕ). hid f * z) (sym (pow-succ' 2 i)))) in
-    let b : k < suc i = pow-lt-inv k (suc i) (lt-of-mul-lt-mul-left (hid f) (lt-of-le-of-lt l (subst (λ (z : ℕ). z < hid f * 2 ^ suc i) (sym e) a))) in
-    (m * 2 ^ (i - k), e ∙ ap (λ (z : ℕ). m * 2 ^ z) (sym (back i k (le-of-suc-le-suc b))) ∙ ap (λ (z : ℕ). m * z) (pow-add 2 (i - k) k) ∙ sym (mul-assoc m (2 ^ (i - k)) (2 ^ k)))
+    let a : m * 2 ^ i < hid f * 2 ^ suc i =
+    lt-of-lt-of-le (mul-lt-mul-of-pos-right d (pow-pos i))
+    (le-of-eq (ap (λ (z : ℕ). z * 2 ^ i) (two-hid f) ∙ mul-assoc 2 (hid f) (2 ^ i) ∙ mul-left-comm 2 (hid f) (2 ^ i)
+    ∙ ap (λ (z : ℕ). hid f * z) (sym (pow-succ' 2 i)))) in
+    let b : k < suc i = pow-lt-inv k (suc i) (lt-of-mul-lt-mul-left (hid f) (lt-of-le-of-lt l (subst (λ (z : ℕ). z < hid f * 2 ^ suc i) (sym e) a))) in (
+      m * 2 ^ (i - k),
+      e ∙ ap (λ (z : ℕ). m * 2 ^ z) (sym (back i k (le-of-suc-le-suc b))) ∙ ap (λ (z : ℕ). m * z) (pow-add 2 (i - k) k)
+          ∙ sym (mul-assoc m (2 ^ (i - k)) (2 ^ k)),
+    )
 
 -- ---- a fraction n / den in units lies between two neighbours, multiples of 2 ^ drop units: from one to the next is a step
 
@@ -130,7 +154,14 @@ module _ (f : Format) (n den h : ℕ) (y : Float) (D : 0 < den) (F : T (fits f y
           subst (λ (x : ℕ). suc q * 2 ^ k ≤ x) (sym e) (mul-le-mul-right (2 ^ k) (lt-of-mul-lt-mul-right (2 ^ k) (subst (λ (x : ℕ). q * 2 ^ k < x) e l)))
 
   neighbours : Steps n den h (n / step f n den) (n % step f n den) (step f n den) (2 ^ drop (prec f) n den) (compare (n % step f n den * 2) (step f n den))
-  neighbours = record { unit = refl; whole = div-add-mod' n (step f n den); rest = mod-lt n (mul-pos D (pow-pos (drop (prec f) n den))); half = cmp (n % step f n den * 2) (step f n den); apart = gap }
+  neighbours =
+      record {
+        unit = refl;
+        whole = div-add-mod' n (step f n den);
+        rest = mod-lt n (mul-pos D (pow-pos (drop (prec f) n den)));
+        half = cmp (n % step f n den * 2) (step f n den);
+        apart = gap;
+      }
 
 -- ---- the neighbour that is kept
 
@@ -142,7 +173,9 @@ module _ {n den h q r u P : ℕ} {o : Ordering} (D : 0 < den) (s : Steps n den h
   beyond l = mul-le-mul-right den (s .apart (lt-of-le-of-lt (mul-le-mul-right P (nearest-ge q o)) l))
 
   within : h < nearest q o * P → h * den ≤ q * P * den
-  within l = mul-le-mul-right den (le-of-suc-le-suc (lt-of-not-le (λ (g : suc (q * P) ≤ h). not-le-of-lt (lt-of-lt-of-le l (mul-le-mul-right P (nearest-le q o))) (s .apart g))))
+  within l =
+      mul-le-mul-right den
+      (le-of-suc-le-suc (lt-of-not-le (λ (g : suc (q * P) ≤ h). not-le-of-lt (lt-of-lt-of-le l (mul-le-mul-right P (nearest-le q o))) (s .apart g))))
 
   above : nearest q o * P < h → 2 * n ≤ (nearest q o * P + h) * den
   above l = go o (s .half) (beyond l) (mul-lt-mul-of-pos-right l D)
@@ -200,7 +233,8 @@ module _ (f : Format) (num den h : ℕ) (y : Float) (D : 0 < den) (F : T (fits f
   pub nearest-even : h ≢ grid f num den → (grid f num den + h) * den ≡ 2 * (num * 2 ^ low f) → toBits f (round f false num den) % 2 ≡ 0
   nearest-even ne e =
       ap (λ (z : ℕ). z % 2) (round-bits f false num den)
-      ∙ even (drop (prec f) (num * 2 ^ low f) den) (kept (prec f) (num * 2 ^ low f) den) (ones f) (hid f) (hid f / 2) (hid-even f) (tie D (neighbours f (num * 2 ^ low f) den h y D F v) ne e)
+      ∙ even (drop (prec f) (num * 2 ^ low f) den) (kept (prec f) (num * 2 ^ low f) den) (ones f) (hid f) (hid f / 2) (hid-even f)
+      (tie D (neighbours f (num * 2 ^ low f) den h y D F v) ne e)
     where
       even : (k c o b a : ℕ) → b ≡ 2 * a → c % 2 ≡ 0 → (0 + min (k * b + c) (o * b)) % 2 ≡ 0
       even k c o b a p q =

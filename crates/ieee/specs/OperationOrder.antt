@@ -1,14 +1,15 @@
 -- How sums, differences, products and quotients keep the order of floats, over the format but for the last lemma. Assumes nothing.
 use Prim.Native.Nat.{ℕ, zero, suc, _+_, _-_, _*_, _/_, _%_, _^_, _≤_, _<_, zero-le, compare}
 use mathlib.Core.Path.{_≡_, refl, sym, _∙_, ap, subst}
-use mathlib.Core.Bool.{Bool, true, false, not, _||_, cond}
+use mathlib.Core.Bool.{Bool, true, false, not, _&&_, _||_, cond}
 use mathlib.Core.Logic.{_⊎_, inl, inr}
 use native.Mathlib.Nat.{mul-pos, mul-comm, mul-le-mul, mul-sub, mul-one, eq-zero-or-pos, zero-mul, mul-le-mul-right}
 use native.Mathlib.Omega.{arith}
 use lib.Dec.{T, ltb, eqb, eqb→eq, ltb→lt, lt→ltb, nltb→le}
 use lib.IntN.{ℤ, pos}
-use lib.Ieee.{Format, binary32, Float, nan, inf, fin, prec, emax, low, unlike, up, down, size, nearest, odd, units, round, sum, neg, add, sub, mul, div, lt, le, fits, isNan, ofBits}
-use lib.Ieee.Fits.{eq→eqb, up-pos, down-pos, round-is}
+use lib.Ieee.{Format, binary32, Float, nan, inf, fin, prec, emax, low, unlike, up, down, size, nearest, odd, units, round, sum, neg, add, sub, mul, div, lt, le}
+use lib.Ieee.{fits, isNan, ofBits}
+use lib.Ieee.Fits.{eq→eqb, up-pos, down-pos, round-is, and-l, and-r}
 use lib.Ieee.Exact.{HasValue, round-exact}
 use lib.Ieee.Order.{round-mono}
 use lib.Ieee.Scale.{finite}
@@ -17,7 +18,8 @@ use lib.Pow.{pow-pos}
 use borrow.Author.Tests.{le-ltb, ne-eqb}
 use Rattle.ieee.specs.Choose.{fabs}
 use Rattle.ieee.specs.FormatLaws.{fabs-fits, round-self}
-use Rattle.ieee.specs.OrderLaws.{finite-below, gain, le-fin, le-left, le-refl, le-sizes, le-top, le-trans, le→nonneg, loss, lt-of-lt-of-le, lt→le, nonneg, nonneg→le, nonneg-known, nonneg-up, or-right}
+use Rattle.ieee.specs.OrderLaws.{finite-below, gain, le-fin, le-left, le-refl, le-right, le-sizes, le-top, le-trans, le→nonneg, loss, lt-of-lt-of-le}
+use Rattle.ieee.specs.OrderLaws.{lt→le, nonneg, nonneg→le, nonneg-known, nonneg-up, or-right}
 
 -- ---- what an operation gives, up to the sign of a zero
 
@@ -54,7 +56,9 @@ value-zero (fin t m e) s c C h =
     or-right (not t) (eqb m 0) (eq→eqb z)
 
 round-nonneg : (f : Format) (s : Bool) (n d : ℕ) → 0 < d → (T s → n ≡ 0) → T (nonneg (round f s n d))
-round-nonneg f true n d D h = subst (λ (z : ℕ). T (nonneg (round f true z d))) (sym (h tt)) (value-zero (round f true 0 d) true d D (round-exact f true 0 d 0 0 D (pow-pos (prec f)) (pow-pos (low f + suc (emax f))) (simp zero-mul)))
+round-nonneg f true n d D h =
+    subst (λ (z : ℕ). T (nonneg (round f true z d))) (sym (h tt))
+    (value-zero (round f true 0 d) true d D (round-exact f true 0 d 0 0 D (pow-pos (prec f)) (pow-pos (low f + suc (emax f))) (simp zero-mul)))
 round-nonneg f false n d D h = subst (λ (z : Float). T (nonneg z)) (abs-round f false n d) (abs-nonneg (round f false n d) known)
   where
     known : T (not (isNan (round f false n d)))
@@ -72,7 +76,9 @@ unfolding fabs
 abs-le nan h = absurd h
 abs-le (inf true) h = absurd h
 abs-le (inf false) h = (unfold le in tt, unfold le in tt)
-abs-le (fin true m e) h = let z : m * up e ≡ 0 = ap (λ (z : ℕ). z * up e) (eqb→eq m 0 h) ∙ zero-mul (up e) in (le-fin true m e false m e .1 (omega arith), le-fin false m e true m e .1 (omega (arith, ap (λ (k : ℕ). k * down e) z)))
+abs-le (fin true m e) h =
+    let z : m * up e ≡ 0 = ap (λ (z : ℕ). z * up e) (eqb→eq m 0 h) ∙ zero-mul (up e) in
+    (le-fin true m e false m e .1 (omega arith), le-fin false m e true m e .1 (omega (arith, ap (λ (k : ℕ). k * down e) z)))
 abs-le (fin false m e) h = (le-refl (fin false m e) (unfold isNan in tt), le-refl (fin false m e) (unfold isNan in tt))
 
 le-rounds : (f : Format) (x y : Float) (a b c d : ℕ) → 0 < b → 0 < d → Rounds f x a b → Rounds f y c d → a * d ≤ c * b → T (le x y)
@@ -84,7 +90,8 @@ le-rounds f x y a b c d B D p q h =
 
 -- ---- each operation on values that are finite and not below zero
 
-sum-rounds : (f : Format) (s : Bool) (a : ℕ) (t : Bool) (b c : ℕ) → 0 < c → loss s a + loss t b ≤ gain s a + gain t b → Rounds f (sum f s a t b c) (gain s a + gain t b - (loss s a + loss t b)) c
+sum-rounds : (f : Format) (s : Bool) (a : ℕ) (t : Bool) (b c : ℕ) → 0 < c → loss s a + loss t b ≤ gain s a + gain t b
+    → Rounds f (sum f s a t b c) (gain s a + gain t b - (loss s a + loss t b)) c
 unfolding sum
 sum-rounds f false a false b c C h = rounds f false (a + b) c (a + b - (0 + 0)) C (omega arith) (λ t. absurd t)
 sum-rounds f false a true b c C h = go (ltb a b) (ltb→lt a b)
@@ -116,7 +123,8 @@ cross (fin s m e) nan p q a b h = absurd b
 cross (fin s m e) (inf t) p q a b h = absurd b
 cross (fin s m e) (fin t n d) p q a b h = omega (arith, le-sizes s (m * up e * down d) t (n * up d * down e) .0 h, own s m e (down d) p, own t n d (down e) q)
 
-add-rounds : (f : Format) (x y : Float) → T (nonneg x) → T (nonneg y) → T (finite x) → T (finite y) → Rounds f (add f x y) (num x * den y + num y * den x) (den x * den y)
+add-rounds : (f : Format) (x y : Float) → T (nonneg x) → T (nonneg y) → T (finite x) → T (finite y)
+    → Rounds f (add f x y) (num x * den y + num y * den x) (den x * den y)
 unfolding add
 add-rounds f nan y p q a b = absurd a
 add-rounds f (inf s) y p q a b = absurd a
@@ -130,7 +138,8 @@ add-rounds f (fin s m e) (fin t n d) p q a b =
     subst (λ (z : ℕ). Rounds f (sum f s A t B (down e * down d)) z (down e * down d)) (omega (arith, g, h))
     (sum-rounds f s A t B (down e * down d) (mul-pos (down-pos e) (down-pos d)) (omega (arith, g, h)))
 
-sub-rounds : (f : Format) (x y : Float) → T (nonneg x) → T (nonneg y) → T (finite x) → T (finite y) → T (le y x) → Rounds f (sub f x y) (num x * den y - num y * den x) (den x * den y)
+sub-rounds : (f : Format) (x y : Float) → T (nonneg x) → T (nonneg y) → T (finite x) → T (finite y) → T (le y x)
+    → Rounds f (sub f x y) (num x * den y - num y * den x) (den x * den y)
 unfolding sub
 sub-rounds f nan y p q a b l = absurd a
 sub-rounds f (inf s) y p q a b l = absurd a
@@ -156,7 +165,8 @@ mul-rounds f nan y p q a b = absurd a
 mul-rounds f (inf s) y p q a b = absurd a
 mul-rounds f (fin s m e) nan p q a b = absurd b
 mul-rounds f (fin s m e) (inf t) p q a b = absurd b
-mul-rounds f (fin s m e) (fin t n d) p q a b = rounds f (unlike s t) (m * up e * (n * up d)) (down e * down d) (m * up e * (n * up d)) (mul-pos (down-pos e) (down-pos d)) refl (none s t p q)
+mul-rounds f (fin s m e) (fin t n d) p q a b =
+    rounds f (unlike s t) (m * up e * (n * up d)) (down e * down d) (m * up e * (n * up d)) (mul-pos (down-pos e) (down-pos d)) refl (none s t p q)
   where
     none : (s t : Bool) → T (nonneg (fin s m e)) → T (nonneg (fin t n d)) → T (unlike s t) → m * up e * (n * up d) ≡ 0
     none true true p q u = absurd u
@@ -173,7 +183,8 @@ div-rounds f (fin s m e) (inf t) p a q = absurd q
 div-rounds f (fin s m e) (fin true n d) p a q = absurd q
 div-rounds f (fin s m e) (fin false n d) p a q =
     rw (ne-eqb n 0 (λ (z : n ≡ 0). omega (arith, ltb→lt 0 n q)))
-    (rounds f (unlike s false) (m * up e * down d) (n * up d * down e) (m * up e * down d) (mul-pos (mul-pos (ltb→lt 0 n q) (up-pos d)) (down-pos e)) refl (none s p))
+    (rounds f (unlike s false) (m * up e * down d) (n * up d * down e) (m * up e * down d) (mul-pos (mul-pos (ltb→lt 0 n q) (up-pos d)) (down-pos e)) refl
+    (none s p))
   where
     none : (s : Bool) → T (nonneg (fin s m e)) → T (unlike s false) → m * up e * down d ≡ 0
     none true p u = zero-size m e (down d) p
@@ -186,7 +197,8 @@ unfolding lt
 lt→positive nan a h = absurd a
 lt→positive (inf s) a h = absurd a
 lt→positive (fin true m e) a h = absurd h
-lt→positive (fin false m e) a h = lt→ltb 0 m (elim (eq-zero-or-pos m) [ inl z ↦ absurd (omega (arith, ltb→lt (0 * 1 * down e) (m * up e * 1) h, ap (λ (k : ℕ). k * up e) z)) | inr p ↦ p ])
+lt→positive (fin false m e) a h =
+    lt→ltb 0 m (elim (eq-zero-or-pos m) [ inl z ↦ absurd (omega (arith, ltb→lt (0 * 1 * down e) (m * up e * 1) h, ap (λ (k : ℕ). k * up e) z)) | inr p ↦ p ])
 
 pub positive→lt : (x : Float) → T (positive x) → T (lt (fin false 0 (pos 0)) x)
 unfolding lt
@@ -279,77 +291,63 @@ module _ (f : Format) (u v w z : Float) (p : T (nonneg u)) (q : T (nonneg w)) (h
       (mul-pos (den-pos u) (den-pos w)) (mul-pos (den-pos v) (den-pos z)) (mul-rounds f u w p q c d) (mul-rounds f v z nonneg-v nonneg-z a b)
       (omega (arith, mul-le-mul (cross u v p nonneg-v c a h) (cross w z q nonneg-z d b k)))
 
--- a value not below zero is infinite or finite
-split : (x : Float) → T (nonneg x) → (x ≡ inf false) ⊎ T (finite x)
-split nan h = absurd h
-split (inf true) h = absurd h
-split (inf false) h = inl refl
-split (fin s m e) h = inr tt
+-- what is at most a result of finite operands is at most the result, where any other is infinite
+under : (x y r z : Float) → T (not (isNan z)) → (T (not (finite x && finite y)) → r ≡ inf false) → (T (finite x) → T (finite y) → T (le z r)) → T (le z r)
+under x y r z n top h = go (finite x && finite y) top (λ (t : T (finite x && finite y)). h (and-l (finite x) (finite y) t) (and-r (finite x) (finite y) t))
+  where
+    go : (b : Bool) → (T (not b) → r ≡ inf false) → (T b → T (le z r)) → T (le z r)
+    go true top h = h tt
+    go false top h = subst (λ (v : Float). T (le z v)) (sym (top tt)) (le-top z n)
 
-add-inf-left : (f : Format) (y : Float) → T (nonneg y) → add f (inf false) y ≡ inf false
+add-top : (f : Format) (x y : Float) → T (nonneg x) → T (nonneg y) → T (not (finite x && finite y)) → add f x y ≡ inf false
 unfolding add
-add-inf-left f nan h = absurd h
-add-inf-left f (inf true) h = absurd h
-add-inf-left f (inf false) h = refl
-add-inf-left f (fin t n d) h = refl
-
-add-inf-right : (f : Format) (x : Float) → T (nonneg x) → add f x (inf false) ≡ inf false
-unfolding add
-add-inf-right f nan h = absurd h
-add-inf-right f (inf true) h = absurd h
-add-inf-right f (inf false) h = refl
-add-inf-right f (fin s m e) h = refl
+add-top f nan y p q h = absurd p
+add-top f (inf true) y p q h = absurd p
+add-top f (inf false) nan p q h = absurd q
+add-top f (inf false) (inf true) p q h = absurd q
+add-top f (inf false) (inf false) p q h = refl
+add-top f (inf false) (fin t n d) p q h = refl
+add-top f (fin s m e) nan p q h = absurd q
+add-top f (fin s m e) (inf true) p q h = absurd q
+add-top f (fin s m e) (inf false) p q h = refl
+add-top f (fin s m e) (fin t n d) p q h = absurd h
 
 -- u + w grows with both, infinities included
 pub add-mono : (f : Format) (u v w z : Float) → T (nonneg u) → T (nonneg w) → T (le u v) → T (le w z) → T (le (add f u w) (add f v z))
-add-mono f u v w z p q h k = go (split v (nonneg-up u v p h)) (split z (nonneg-up w z q k))
-  where
-    top : add f v z ≡ inf false → T (le (add f u w) (add f v z))
-    top e = subst (λ (y : Float). T (le (add f u w) y)) (sym e) (le-top (add f u w) (nonneg-known (add f u w) (add-nonneg f u w p q)))
+add-mono f u v w z p q h k =
+    under v z (add f v z) (add f u w) (nonneg-known (add f u w) (add-nonneg f u w p q))
+    (add-top f v z (nonneg-up u v p h) (nonneg-up w z q k)) (add-finite f u v w z p q h k)
 
-    go : (v ≡ inf false) ⊎ T (finite v) → (z ≡ inf false) ⊎ T (finite z) → T (le (add f u w) (add f v z))
-    go (inl e) c = top (ap (λ (y : Float). add f y z) e ∙ add-inf-left f z (nonneg-up w z q k))
-    go (inr a) (inl e) = top (ap (λ (y : Float). add f v y) e ∙ add-inf-right f v (nonneg-up u v p h))
-    go (inr a) (inr b) = add-finite f u v w z p q h k a b
+top-or-nan : (b t : Bool) → T (not t || b) → T (not (isNan (cond b nan (inf t)))) → cond b nan (inf t) ≡ inf false
+unfolding isNan
+top-or-nan true t h k = absurd k
+top-or-nan false true h k = absurd h
+top-or-nan false false h k = refl
 
-mul-inf-left : (f : Format) (y : Float) → T (nonneg y) → T (not (isNan (mul f (inf false) y))) → mul f (inf false) y ≡ inf false
-unfolding mul isNan
-mul-inf-left f nan h n = absurd h
-mul-inf-left f (inf true) h n = absurd h
-mul-inf-left f (inf false) h n = refl
-mul-inf-left f (fin t n d) h k = go t (eqb n 0) h k
-  where
-    go : (t b : Bool) → T (not t || b) → T (not (isNan (cond b nan (inf (unlike false t))))) → cond b nan (inf (unlike false t)) ≡ inf false
-    go t true h k = absurd k
-    go true false h k = absurd h
-    go false false h k = refl
-
-mul-inf-right : (f : Format) (x : Float) → T (nonneg x) → T (not (isNan (mul f x (inf false)))) → mul f x (inf false) ≡ inf false
-unfolding mul isNan
-mul-inf-right f nan h n = absurd h
-mul-inf-right f (inf true) h n = absurd h
-mul-inf-right f (inf false) h n = refl
-mul-inf-right f (fin s m e) h k = go s (eqb m 0) h k
-  where
-    go : (s b : Bool) → T (not s || b) → T (not (isNan (cond b nan (inf (unlike s false))))) → cond b nan (inf (unlike s false)) ≡ inf false
-    go s true h k = absurd k
-    go true false h k = absurd h
-    go false false h k = refl
+mul-top : (f : Format) (x y : Float) → T (nonneg x) → T (nonneg y) → T (not (isNan (mul f x y))) → T (not (finite x && finite y)) → mul f x y ≡ inf false
+unfolding mul
+mul-top f nan y p q k h = absurd p
+mul-top f (inf true) y p q k h = absurd p
+mul-top f (inf false) nan p q k h = absurd q
+mul-top f (inf false) (inf true) p q k h = absurd q
+mul-top f (inf false) (inf false) p q k h = refl
+mul-top f (inf false) (fin true n d) p q k h = top-or-nan (eqb n 0) true q k
+mul-top f (inf false) (fin false n d) p q k h = top-or-nan (eqb n 0) false q k
+mul-top f (fin s m e) nan p q k h = absurd q
+mul-top f (fin s m e) (inf true) p q k h = absurd q
+mul-top f (fin true m e) (inf false) p q k h = top-or-nan (eqb m 0) true p k
+mul-top f (fin false m e) (inf false) p q k h = top-or-nan (eqb m 0) false p k
+mul-top f (fin s m e) (fin t n d) p q k h = absurd h
 
 -- u * w grows with both, where neither product is 0 times an infinity
-pub mul-mono : (f : Format) (u v w z : Float) → T (nonneg u) → T (nonneg w) → T (le u v) → T (le w z) → T (not (isNan (mul f u w))) → T (not (isNan (mul f v z))) → T (le (mul f u w) (mul f v z))
-mul-mono f u v w z p q h k i j = go (split v (nonneg-up u v p h)) (split z (nonneg-up w z q k))
-  where
-    top : mul f v z ≡ inf false → T (le (mul f u w) (mul f v z))
-    top e = subst (λ (y : Float). T (le (mul f u w) y)) (sym e) (le-top (mul f u w) i)
-
-    go : (v ≡ inf false) ⊎ T (finite v) → (z ≡ inf false) ⊎ T (finite z) → T (le (mul f u w) (mul f v z))
-    go (inl e) c = top (ap (λ (y : Float). mul f y z) e ∙ mul-inf-left f z (nonneg-up w z q k) (subst (λ (y : Float). T (not (isNan (mul f y z)))) e j))
-    go (inr a) (inl e) = top (ap (λ (y : Float). mul f v y) e ∙ mul-inf-right f v (nonneg-up u v p h) (subst (λ (y : Float). T (not (isNan (mul f v y)))) e j))
-    go (inr a) (inr b) = mul-finite f u v w z p q h k a b
+pub mul-mono : (f : Format) (u v w z : Float) → T (nonneg u) → T (nonneg w) → T (le u v) → T (le w z)
+    → T (not (isNan (mul f u w))) → T (not (isNan (mul f v z))) → T (le (mul f u w) (mul f v z))
+mul-mono f u v w z p q h k i j =
+    under v z (mul f v z) (mul f u w) i (mul-top f v z (nonneg-up u v p h) (nonneg-up w z q k) j) (mul-finite f u v w z p q h k)
 
 -- u / s grows with u
-pub div-mono : (f : Format) (u v s : Float) → T (nonneg u) → T (finite v) → T (finite s) → T (lt (fin false 0 (pos 0)) s) → T (le u v) → T (le (div f u s) (div f v s))
+pub div-mono : (f : Format) (u v s : Float) → T (nonneg u) → T (finite v) → T (finite s) → T (lt (fin false 0 (pos 0)) s) → T (le u v)
+    → T (le (div f u s) (div f v s))
 div-mono f u v s p a b l h =
     let c = finite-below u v p h a in
     let q = nonneg-up u v p h in
@@ -368,37 +366,32 @@ div-mono f u v s p a b l h =
 sub-mul : (a b k : ℕ) → (a - b) * k ≡ a * k - b * k
 sub-mul a b k = mul-comm (a - b) k ∙ mul-sub k a b ∙ ap (λ (z : ℕ). z - k * b) (mul-comm k a) ∙ ap (λ (z : ℕ). a * k - z) (mul-comm k b)
 
-less : (a b c d : ℕ) → a ≤ c → b ≡ d → a - b ≤ c - d
-less a b c d h e = omega arith
+less : (a b c d : ℕ) → a ≤ c → d ≤ b → a - b ≤ c - d
+less a b c d h k = omega arith
 
-less-anti : (a b c d : ℕ) → a ≡ c → d ≤ b → a - b ≤ c - d
-less-anti a b c d e h = omega arith
+-- u - s grows with u, and as s falls
+sub-both : (f : Format) (u s v t : Float) → T (nonneg t) → T (finite v) → T (le t s) → T (le s u) → T (le u v) → T (le (sub f u s) (sub f v t))
+sub-both f u s v t p a k l h =
+    let q = nonneg-up t s p k in
+    let r = nonneg-up s u q l in
+    let o = nonneg-up u v r h in
+    let b = finite-below u v r h a in
+    let c = finite-below s u q l b in
+    let d = finite-below t s p k c in
+    let x : num u * den v * (den s * den t) ≤ num v * den u * (den s * den t) = mul-le-mul-right (den s * den t) (cross u v r o b a h) in
+    let y : num t * den s * (den u * den v) ≤ num s * den t * (den u * den v) = mul-le-mul-right (den u * den v) (cross t s p q d c k) in
+    le-rounds f (sub f u s) (sub f v t) (num u * den s - num s * den u) (den u * den s) (num v * den t - num t * den v) (den v * den t)
+    (mul-pos (den-pos u) (den-pos s)) (mul-pos (den-pos v) (den-pos t))
+    (sub-rounds f u s r q b c l) (sub-rounds f v t o p a d (le-trans t u v (le-trans t s u k l) h))
+    (rw (sub-mul (num u * den s) (num s * den u) (den v * den t), sub-mul (num v * den t) (num t * den v) (den u * den s))
+    (less (num u * den s * (den v * den t)) (num s * den u * (den v * den t)) (num v * den t * (den u * den s)) (num t * den v * (den u * den s))
+    (omega arith) (omega arith)))
 
--- x - s grows with x
 pub sub-mono : (f : Format) (u v s : Float) → T (nonneg s) → T (finite v) → T (le s u) → T (le u v) → T (le (sub f u s) (sub f v s))
-sub-mono f u v s p a l h =
-    let q = nonneg-up s u p l in
-    let r = nonneg-up u v q h in
-    let b = finite-below u v q h a in
-    let c = finite-below s u p l b in
-    let x : num u * den v * (den s * den s) ≤ num v * den u * (den s * den s) = mul-le-mul-right (den s * den s) (cross u v q r b a h) in
-    le-rounds f (sub f u s) (sub f v s) (num u * den s - num s * den u) (den u * den s) (num v * den s - num s * den v) (den v * den s) (mul-pos (den-pos u) (den-pos s)) (mul-pos (den-pos v) (den-pos s))
-    (sub-rounds f u s q p b c l) (sub-rounds f v s r p a c (le-trans s u v l h))
-    (rw (sub-mul (num u * den s) (num s * den u) (den v * den s), sub-mul (num v * den s) (num s * den v) (den u * den s))
-    (less (num u * den s * (den v * den s)) (num s * den u * (den v * den s)) (num v * den s * (den u * den s)) (num s * den v * (den u * den s)) (omega arith) (omega arith)))
+sub-mono f u v s p a l h = sub-both f u s v s p a (le-refl s (nonneg-known s p)) l h
 
--- and it shrinks as s grows, up to x
 pub sub-anti : (f : Format) (x s t : Float) → T (nonneg s) → T (finite x) → T (le s t) → T (le t x) → T (le (sub f x t) (sub f x s))
-sub-anti f x s t p a h l =
-    let q = nonneg-up s t p h in
-    let r = nonneg-up t x q l in
-    let b = finite-below t x q l a in
-    let c = finite-below s t p h b in
-    let y : num s * den t * (den x * den x) ≤ num t * den s * (den x * den x) = mul-le-mul-right (den x * den x) (cross s t p q c b h) in
-    le-rounds f (sub f x t) (sub f x s) (num x * den t - num t * den x) (den x * den t) (num x * den s - num s * den x) (den x * den s) (mul-pos (den-pos x) (den-pos t)) (mul-pos (den-pos x) (den-pos s))
-    (sub-rounds f x t r q a b l) (sub-rounds f x s r p a c (le-trans s t x h l))
-    (rw (sub-mul (num x * den t) (num t * den x) (den x * den s), sub-mul (num x * den s) (num s * den x) (den x * den t))
-    (less-anti (num x * den t * (den x * den s)) (num t * den x * (den x * den s)) (num x * den s * (den x * den t)) (num s * den x * (den x * den t)) (omega arith) (omega arith)))
+sub-anti f x s t p a h l = sub-both f x t x s p a h l (le-refl x (le-right t x l))
 
 -- ---- a sum is at least each of its terms
 
@@ -412,27 +405,18 @@ own-rounds f (fin s m e) F p c = (p, sym (round-self f false m e (fabs-fits f (f
 le-rounded : (f : Format) (x y : Float) (a b : ℕ) → T (fits f x) → T (nonneg x) → T (finite x) → 0 < b → Rounds f y a b → num x * b ≤ a * den x → T (le x y)
 le-rounded f x y a b F p c B r h = le-rounds f x y (num x) (den x) a b (den-pos x) B (own-rounds f x F p c) r h
 
-pub add-left-le : (f : Format) (x y : Float) → T (fits f x) → T (nonneg x) → T (nonneg y) → T (le x (add f x y))
-add-left-le f x y F p q = go (split x p) (split y q)
-  where
-    top : add f x y ≡ inf false → T (le x (add f x y))
-    top e = subst (λ (z : Float). T (le x z)) (sym e) (le-top x (nonneg-known x p))
+term-le : (f : Format) (x y z : Float) → T (fits f z) → T (nonneg z) → T (nonneg x) → T (nonneg y)
+    → (T (finite x) → T (finite y) → T (finite z) × (num z * (den x * den y) ≤ (num x * den y + num y * den x) * den z)) → T (le z (add f x y))
+term-le f x y z F r p q h =
+    under x y (add f x y) z (nonneg-known z r) (add-top f x y p q) (λ (a : T (finite x)) (b : T (finite y)).
+    le-rounded f z (add f x y) (num x * den y + num y * den x) (den x * den y) F r (h a b .0) (mul-pos (den-pos x) (den-pos y)) (add-rounds f x y p q a b)
+    (h a b .1))
 
-    go : (x ≡ inf false) ⊎ T (finite x) → (y ≡ inf false) ⊎ T (finite y) → T (le x (add f x y))
-    go (inl e) c = top (ap (λ (z : Float). add f z y) e ∙ add-inf-left f y q)
-    go (inr a) (inl e) = top (ap (λ (z : Float). add f x z) e ∙ add-inf-right f x p)
-    go (inr a) (inr b) = le-rounded f x (add f x y) (num x * den y + num y * den x) (den x * den y) F p a (mul-pos (den-pos x) (den-pos y)) (add-rounds f x y p q a b) (omega arith)
+pub add-left-le : (f : Format) (x y : Float) → T (fits f x) → T (nonneg x) → T (nonneg y) → T (le x (add f x y))
+add-left-le f x y F p q = term-le f x y x F p p q (λ (a : T (finite x)) (b : T (finite y)). (a, omega arith))
 
 pub add-right-le : (f : Format) (x y : Float) → T (fits f y) → T (nonneg x) → T (nonneg y) → T (le y (add f x y))
-add-right-le f x y F p q = go (split x p) (split y q)
-  where
-    top : add f x y ≡ inf false → T (le y (add f x y))
-    top e = subst (λ (z : Float). T (le y z)) (sym e) (le-top y (nonneg-known y q))
-
-    go : (x ≡ inf false) ⊎ T (finite x) → (y ≡ inf false) ⊎ T (finite y) → T (le y (add f x y))
-    go (inl e) c = top (ap (λ (z : Float). add f z y) e ∙ add-inf-left f y q)
-    go (inr a) (inl e) = top (ap (λ (z : Float). add f x z) e ∙ add-inf-right f x p)
-    go (inr a) (inr b) = le-rounded f y (add f x y) (num x * den y + num y * den x) (den x * den y) F q b (mul-pos (den-pos x) (den-pos y)) (add-rounds f x y p q a b) (omega arith)
+add-right-le f x y F p q = term-le f x y y F q p q (λ (a : T (finite x)) (b : T (finite y)). (b, omega arith))
 
 -- a value of the format above zero, and one not below zero: their sum is above zero, and may be infinite
 pub add-positive : (f : Format) (x y : Float) → T (fits f x) → T (lt (fin false 0 (pos 0)) x) → T (nonneg y) → T (lt (fin false 0 (pos 0)) (add f x y))
@@ -440,7 +424,8 @@ add-positive f x y F h q = lt-of-lt-of-le (fin false 0 (pos 0)) x (add f x y) h 
 
 -- ---- 1 - s for an s up to 1 - 2 ^ -23
 
-pub below-one : (s : Float) → T (nonneg s) → T (le s (ofBits binary32 0x3f7f_fffe)) → T (lt (fin false 0 (pos 0)) (sub binary32 (ofBits binary32 0x3f80_0000) s))
+pub below-one : (s : Float) → T (nonneg s) → T (le s (ofBits binary32 0x3f7f_fffe))
+    → T (lt (fin false 0 (pos 0)) (sub binary32 (ofBits binary32 0x3f80_0000) s))
 unfolding ofBits
 below-one s p h =
     let c = ofBits binary32 0x3f7f_fffe in

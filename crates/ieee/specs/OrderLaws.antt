@@ -62,7 +62,8 @@ lt-sizes true a false b = (λ t. omega (arith, ltb→lt 0 (a + b) t), λ l. lt�
 lt-sizes true a true b = (λ t. omega (arith, ltb→lt b a t), λ l. lt→ltb b a (omega arith))
 
 -- three values gain - loss over a denominator
-chain : (px nx dx py ny dy pz nz dz : ℕ) → 0 < dy → px * dy + ny * dx ≤ py * dx + nx * dy → py * dz + nz * dy ≤ pz * dy + ny * dz → px * dz + nz * dx ≤ pz * dx + nx * dz
+chain : (px nx dx py ny dy pz nz dz : ℕ) → 0 < dy → px * dy + ny * dx ≤ py * dx + nx * dy → py * dz + nz * dy ≤ pz * dy + ny * dz
+    → px * dz + nz * dx ≤ pz * dx + nx * dz
 chain px nx dx py ny dy pz nz dz D h k =
     let a : (px * dy + ny * dx) * dz ≤ (py * dx + nx * dy) * dz = mul-le-mul-right dz h in
     let b : (py * dz + nz * dy) * dx ≤ (pz * dy + ny * dz) * dx = mul-le-mul-right dx k in
@@ -77,11 +78,13 @@ loss-mul true a k = refl
 loss-mul false a k = sym (zero-mul k)
 
 module _ (s : Bool) (m : ℕ) (e : ℤ) (t : Bool) (n : ℕ) (d : ℤ) where
-  pub le-fin : T (le (fin s m e) (fin t n d)) ↔ (gain s (m * up e) * down d + loss t (n * up d) * down e ≤ gain t (n * up d) * down e + loss s (m * up e) * down d)
+  pub le-fin : T (le (fin s m e) (fin t n d)) ↔
+      (gain s (m * up e) * down d + loss t (n * up d) * down e ≤ gain t (n * up d) * down e + loss s (m * up e) * down d)
   unfolding le
   le-fin =
       let i = le-sizes s (m * up e * down d) t (n * up d * down e) in (
-        λ h. rw (← gain-mul s (m * up e) (down d), ← loss-mul t (n * up d) (down e), ← gain-mul t (n * up d) (down e), ← loss-mul s (m * up e) (down d)) (i .0 h),
+        λ h. rw (← gain-mul s (m * up e) (down d), ← loss-mul t (n * up d) (down e), ← gain-mul t (n * up d) (down e), ← loss-mul s (m * up e) (down d))
+            (i .0 h),
         λ h. i .1 (rw (gain-mul s (m * up e) (down d), loss-mul t (n * up d) (down e), gain-mul t (n * up d) (down e), loss-mul s (m * up e) (down d)) h),
       )
 
@@ -89,7 +92,8 @@ module _ (s : Bool) (m : ℕ) (e : ℤ) (t : Bool) (n : ℕ) (d : ℤ) where
   unfolding lt
   lt-fin =
       let i = lt-sizes s (m * up e * down d) t (n * up d * down e) in (
-        λ h. rw (← gain-mul s (m * up e) (down d), ← loss-mul t (n * up d) (down e), ← gain-mul t (n * up d) (down e), ← loss-mul s (m * up e) (down d)) (i .0 h),
+        λ h. rw (← gain-mul s (m * up e) (down d), ← loss-mul t (n * up d) (down e), ← gain-mul t (n * up d) (down e), ← loss-mul s (m * up e) (down d))
+            (i .0 h),
         λ h. i .1 (rw (gain-mul s (m * up e) (down d), loss-mul t (n * up d) (down e), gain-mul t (n * up d) (down e), loss-mul s (m * up e) (down d)) h),
       )
 
@@ -158,7 +162,8 @@ le-trans (fin s m e) (fin t n d) (inf true) h k = absurd k
 le-trans (fin s m e) (fin t n d) (inf false) h k = tt
 le-trans (fin s m e) (fin t n d) (fin u o b) h k =
     le-fin s m e u o b .1
-    (chain (gain s (m * up e)) (loss s (m * up e)) (down e) (gain t (n * up d)) (loss t (n * up d)) (down d) (gain u (o * up b)) (loss u (o * up b)) (down b) (down-pos d)
+    (chain (gain s (m * up e)) (loss s (m * up e)) (down e) (gain t (n * up d)) (loss t (n * up d)) (down d) (gain u (o * up b)) (loss u (o * up b)) (down b)
+    (down-pos d)
     (le-fin s m e t n d .0 h) (le-fin t n d u o b .0 k))
 
 -- below, or at least
@@ -175,9 +180,11 @@ lt-or-le (inf false) (fin t n d) h k = inr tt
 lt-or-le (fin s m e) nan h k = absurd k
 lt-or-le (fin s m e) (inf true) h k = inr tt
 lt-or-le (fin s m e) (inf false) h k = inl tt
-lt-or-le (fin s m e) (fin t n d) h k = go (decLe (gain t (n * up d) * down e + loss s (m * up e) * down d) (gain s (m * up e) * down d + loss t (n * up d) * down e))
+lt-or-le (fin s m e) (fin t n d) h k =
+    go (decLe (gain t (n * up d) * down e + loss s (m * up e) * down d) (gain s (m * up e) * down d + loss t (n * up d) * down e))
   where
-    go : Dec (gain t (n * up d) * down e + loss s (m * up e) * down d ≤ gain s (m * up e) * down d + loss t (n * up d) * down e) → T (lt (fin s m e) (fin t n d)) ⊎ T (le (fin t n d) (fin s m e))
+    go : Dec (gain t (n * up d) * down e + loss s (m * up e) * down d ≤ gain s (m * up e) * down d + loss t (n * up d) * down e)
+        → T (lt (fin s m e) (fin t n d)) ⊎ T (le (fin t n d) (fin s m e))
     go (yes l) = inr (le-fin t n d s m e .1 l)
     go (no l) = inl (lt-fin s m e t n d .1 (lt-of-not-le l))
 
@@ -213,10 +220,12 @@ pub le-of-not-lt : (x y : Float) → T (not (isNan x)) → T (not (isNan y)) →
 le-of-not-lt x y h k n = elim (lt-or-le y x k h) [ inl l ↦ absurd (T-not (lt y x) n l) | inr l ↦ l ]
 
 pub lt-of-lt-of-le : (x y z : Float) → T (lt x y) → T (le y z) → T (lt x z)
-lt-of-lt-of-le x y z h k = elim (lt-or-le x z (le-left x y (lt→le x y h)) (le-right y z k)) [ inl l ↦ l | inr l ↦ absurd (not-le-of-lt x y h (le-trans y z x k l)) ]
+lt-of-lt-of-le x y z h k =
+    elim (lt-or-le x z (le-left x y (lt→le x y h)) (le-right y z k)) [ inl l ↦ l | inr l ↦ absurd (not-le-of-lt x y h (le-trans y z x k l)) ]
 
 pub lt-of-le-of-lt : (x y z : Float) → T (le x y) → T (lt y z) → T (lt x z)
-lt-of-le-of-lt x y z h k = elim (lt-or-le x z (le-left x y h) (le-right y z (lt→le y z k))) [ inl l ↦ l | inr l ↦ absurd (not-le-of-lt y z k (le-trans z x y l h)) ]
+lt-of-le-of-lt x y z h k =
+    elim (lt-or-le x z (le-left x y h) (le-right y z (lt→le y z k))) [ inl l ↦ l | inr l ↦ absurd (not-le-of-lt y z k (le-trans z x y l h)) ]
 
 -- ---- not below zero
 

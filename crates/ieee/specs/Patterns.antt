@@ -2,9 +2,12 @@
 -- finite value of u units has the pattern `pattern f u`. Over the format. Assumes nothing.
 use Prim.Native.Nat.{ℕ, zero, suc, _+_, _-_, _*_, _/_, _%_, _^_, _≤_, _<_}
 use mathlib.Core.Path.{_≡_, refl, sym, _∙_, ap, subst}
-use mathlib.Core.Bool.{Bool, true, cond}
+use mathlib.Core.Bool.{Bool, true, false, cond}
 use mathlib.Core.Logic.{_≢_, _⊎_, inl, inr}
-use native.Mathlib.Nat.{mod-mod-of-dvd, dvd-mul-right, mod-eq-of-lt, mul-one, one-mul, mul-div-cancel, le-div-iff-mul-le, lt-irrefl, lt-of-not-le, not-le-of-lt, le-refl, le-antisymm, eq-or-lt-of-le, lt-of-le-of-lt, le-of-suc-le-suc, zero-lt-suc, add-assoc, sub-eq-zero-of-le, mul-le-mul-right, pow-succ', mul-left-comm, mul-right-comm, mul-assoc, mul-le-mul-left, mod-lt, div-lt-iff-lt-mul, lt-of-lt-of-le, mul-lt-mul-of-pos-right, le-trans, le-of-eq, mul-le-mul, le-add-right, mul-mod-left, mul-pos, div-eq-of-lt-le, div-eq-of-lt, zero-mul}
+use native.Mathlib.Nat.{mod-mod-of-dvd, dvd-mul-right, mod-eq-of-lt, mul-one, one-mul, mul-div-cancel, le-div-iff-mul-le, lt-irrefl, lt-of-not-le, not-le-of-lt}
+use native.Mathlib.Nat.{le-refl, le-of-lt, le-antisymm, eq-or-lt-of-le, lt-of-le-of-lt, le-of-suc-le-suc, zero-lt-suc, add-assoc, sub-eq-zero-of-le}
+use native.Mathlib.Nat.{mul-le-mul-right, pow-succ', mul-left-comm, mul-right-comm, mul-assoc, mul-le-mul-left, mod-lt, div-lt-iff-lt-mul, lt-of-lt-of-le}
+use native.Mathlib.Nat.{mul-lt-mul-of-pos-right, le-trans, le-of-eq, mul-le-mul, le-add-right, mul-mod-left, mul-pos, div-eq-of-lt-le, div-eq-of-lt, zero-mul}
 use native.Mathlib.Decide.{decLe}
 use native.Mathlib.Omega.{arith}
 use lib.Dec.{T, ltb, leb, lit<}
@@ -39,13 +42,17 @@ hid-pos f = pow-pos (prec f - 1)
 fields : (f : Format) (s : Bool) (x t a : ℕ) → a / hid f ≡ x → a % hid f ≡ t → x ≢ ones f → HasValue (ofFields f s x t) s (magnitude f a) (2 ^ low f)
 unfolding ofFields
 fields f s zero t a p q n =
-    let small : a < hid f = lt-of-not-le (λ (h : hid f ≤ a). lt-irrefl 0 (subst (λ (z : ℕ). 0 < z) p (le-div-iff-mul-le (hid-pos f) .1 (subst (λ (z : ℕ). z ≤ a) (sym (one-mul (hid f))) h)))) in
+    let small : a < hid f =
+    lt-of-not-le (λ (h : hid f ≤ a). lt-irrefl 0
+    (subst (λ (z : ℕ). 0 < z) p (le-div-iff-mul-le (hid-pos f) .1 (subst (λ (z : ℕ). z ≤ a) (sym (one-mul (hid f))) h)))) in
     subst (λ (z : ℕ). HasValue (odd (prec f) s t 0 (low f)) s z (2 ^ low f)) (mul-one t ∙ sym q ∙ mod-eq-of-lt small ∙ sym (magnitude-small f a small))
     (odd-sign (prec f) s t 0 (low f))
 fields f s (suc y) t a p q n =
     let large : hid f ≤ a = subst (λ (z : ℕ). z ≤ a) (one-mul (hid f)) (le-div-iff-mul-le (hid-pos f) .0 (subst (λ (z : ℕ). 1 ≤ z) (sym p) (zero-lt-suc y))) in
     rw (ne-eqb (suc y) (ones f) n)
-    (subst (λ (z : ℕ). HasValue (odd (prec f) s (hid f + t) y (low f)) s z (2 ^ low f)) (sym (magnitude-large f a large ∙ ap (λ (z : ℕ). (hid f + z) * 2 ^ (a / hid f - 1)) q ∙ ap (λ (z : ℕ). (hid f + t) * 2 ^ (z - 1)) p ∙ ap (λ (z : ℕ). (hid f + t) * 2 ^ z) (pred-suc y)))
+    (subst (λ (z : ℕ). HasValue (odd (prec f) s (hid f + t) y (low f)) s z (2 ^ low f))
+    (sym (magnitude-large f a large ∙ ap (λ (z : ℕ). (hid f + z) * 2 ^ (a / hid f - 1)) q ∙ ap (λ (z : ℕ). (hid f + t) * 2 ^ (z - 1)) p
+    ∙ ap (λ (z : ℕ). (hid f + t) * 2 ^ z) (pred-suc y)))
     (odd-sign (prec f) s (hid f + t) y (low f)))
   where
     pred-suc : (y : ℕ) → suc y - 1 ≡ y
@@ -58,6 +65,15 @@ decode f w n = fields f (leb (top f) w) (w % top f / hid f) (w % hid f) (w % top
 -- below the infinity's pattern the field is not all ones
 pub field-of : (f : Format) (a : ℕ) → a < ones f * hid f → a / hid f ≢ ones f
 field-of f a h e = lt-irrefl (ones f) (subst (λ (z : ℕ). z < ones f) e (div-lt-iff-lt-mul (hid-pos f) .1 h))
+
+-- a word up to the infinity's has no sign's bit
+pub no-sign : (f : Format) (w : ℕ) → w ≤ ones f * hid f → w < top f
+no-sign f w h = omega (arith, hid-pos f)
+
+pub decode-plain : (f : Format) (w : ℕ) → w < ones f * hid f → HasValue (ofBits f w) false (magnitude f w) (2 ^ low f)
+decode-plain f w h =
+    let l : w < top f = no-sign f w (le-of-lt h) in
+    rw (lt-leb (top f) w l, mod-eq-of-lt l) at (decode f w (field-of f (w % top f) (rw (mod-eq-of-lt l) h)))
 
 -- ---- writing a value
 
@@ -133,7 +149,9 @@ double-mono a h p = omega arith
 
 pattern-carried : (f : Format) (k : ℕ) → pattern f (2 ^ prec f * 2 ^ k) ≡ k * hid f + 2 ^ prec f
 pattern-carried f k =
-    let same : hid f * 2 ^ suc k ≡ 2 ^ prec f * 2 ^ k = ap (λ (z : ℕ). hid f * z) (pow-succ' 2 k) ∙ mul-left-comm (hid f) 2 (2 ^ k) ∙ sym (mul-assoc 2 (hid f) (2 ^ k)) ∙ ap (λ (z : ℕ). z * 2 ^ k) (sym (two-hid f)) in
+    let same : hid f * 2 ^ suc k ≡ 2 ^ prec f * 2 ^ k =
+    ap (λ (z : ℕ). hid f * z) (pow-succ' 2 k) ∙ mul-left-comm (hid f) 2 (2 ^ k) ∙ sym (mul-assoc 2 (hid f) (2 ^ k))
+    ∙ ap (λ (z : ℕ). z * 2 ^ k) (sym (two-hid f)) in
     let small : hid f < 2 ^ prec f = subst (λ (z : ℕ). hid f < z) (sym (two-hid f)) (double-mono 0 (hid f) (hid-pos f)) in
     let d : suc k * hid f + hid f ≡ k * hid f + 2 * hid f = omega arith in
     subst (λ (z : ℕ). pattern f z ≡ k * hid f + 2 ^ prec f) same
@@ -160,12 +178,15 @@ magnitude-lt f a x h = go (decLe (hid f) a)
 
     twice : (k : ℕ) → 1 ≤ k → 2 * hid f * 2 ^ (k - 1) ≡ hid f * 2 ^ k
     twice zero o = absurd (omega arith)
-    twice (suc k) o = ap (λ (z : ℕ). 2 * hid f * 2 ^ z) (less k) ∙ mul-assoc 2 (hid f) (2 ^ k) ∙ mul-left-comm 2 (hid f) (2 ^ k) ∙ ap (λ (z : ℕ). hid f * z) (sym (pow-succ' 2 k))
+    twice (suc k) o =
+        ap (λ (z : ℕ). 2 * hid f * 2 ^ z) (less k) ∙ mul-assoc 2 (hid f) (2 ^ k) ∙ mul-left-comm 2 (hid f) (2 ^ k)
+        ∙ ap (λ (z : ℕ). hid f * z) (sym (pow-succ' 2 k))
 
     go : Dec (hid f ≤ a) → magnitude f a < hid f * 2 ^ x
     go (no n) =
         let s : a < hid f = lt-of-not-le n in
-        subst (λ (z : ℕ). z < hid f * 2 ^ x) (sym (magnitude-small f a s)) (lt-of-lt-of-le s (subst (λ (z : ℕ). z ≤ hid f * 2 ^ x) (mul-one (hid f)) (mul-le-mul-left (hid f) (pow-pos x))))
+        subst (λ (z : ℕ). z < hid f * 2 ^ x) (sym (magnitude-small f a s))
+        (lt-of-lt-of-le s (subst (λ (z : ℕ). z ≤ hid f * 2 ^ x) (mul-one (hid f)) (mul-le-mul-left (hid f) (pow-pos x))))
     go (yes l) =
         let e : a / hid f ≤ x = le-of-suc-le-suc (div-lt-iff-lt-mul H .1 h) in
         let o : 1 ≤ a / hid f = le-div-iff-mul-le H .1 (subst (λ (z : ℕ). z ≤ a) (sym (one-mul (hid f))) l) in
@@ -185,7 +206,9 @@ magnitude-ge f a x h =
 
 pub inf-bits : (f : Format) (w : ℕ) → w % top f ≡ ones f * hid f → ofBits f w ≡ inf (leb (top f) w)
 unfolding ofBits ofFields
-inf-bits f w h = go (w % top f / hid f) (w % hid f) (ap (λ (z : ℕ). z / hid f) h ∙ mul-div-cancel (ones f) (hid-pos f)) (sym (mod-mod-of-dvd (hid f) w (dvd-mul-right (hid f) (suc (ones f)))) ∙ ap (λ (z : ℕ). z % hid f) h ∙ mul-mod-left (ones f) (hid f))
+inf-bits f w h =
+    go (w % top f / hid f) (w % hid f) (ap (λ (z : ℕ). z / hid f) h ∙ mul-div-cancel (ones f) (hid-pos f))
+    (sym (mod-mod-of-dvd (hid f) w (dvd-mul-right (hid f) (suc (ones f)))) ∙ ap (λ (z : ℕ). z % hid f) h ∙ mul-mod-left (ones f) (hid f))
   where
     go : (x t : ℕ) → x ≡ ones f → t ≡ 0 → ofFields f (leb (top f) w) x t ≡ inf (leb (top f) w)
     go zero t p q = absurd (omega arith)
@@ -198,13 +221,18 @@ sign-bit f w x h = go (decLe (top f) w)
     P = mul-pos (hid-pos f) (zero-lt-suc (ones f))
 
     go : Dec (top f ≤ w) → cond (leb (top f) w) x 0 ≡ w / top f * x
-    go (yes l) = rw (le-leb (top f) w l) (sym (ap (λ (z : ℕ). z * x) (div-eq-of-lt-le (top f) (subst (λ (z : ℕ). z ≤ w) (sym (one-mul (top f))) l) h) ∙ one-mul x))
+    go (yes l) =
+        rw (le-leb (top f) w l) (sym (ap (λ (z : ℕ). z * x) (div-eq-of-lt-le (top f) (subst (λ (z : ℕ). z ≤ w) (sym (one-mul (top f))) l) h) ∙ one-mul x))
     go (no n) = rw (lt-leb (top f) w (lt-of-not-le n)) (sym (ap (λ (z : ℕ). z * x) (div-eq-of-lt (lt-of-not-le n)) ∙ zero-mul x))
 
 -- ---- a function on floats, taken by its words
 
-pub by-words : (f g : Format) (F : Float → Float) (x : Float) → fits f x ≡ true → T (fits g (F x)) → ofBits g (toBits g (F (ofBits f (toBits f x)))) ≡ F x
-by-words f g F x h k = ap (λ (y : Float). ofBits g (toBits g (F y))) (ofBits-toBits f x (subst T (sym h) tt)) ∙ ofBits-toBits g (F x) k
+pub through-words : (f g : Format) (F : Float → Float) (x r : Float) (w v : ℕ) → fits f x ≡ true → (T (fits f x) → T (fits g (F x)))
+    → w ≡ toBits f x → v ≡ toBits g (F (ofBits f w)) → r ≡ ofBits g v → r ≡ F x
+through-words f g F x r w v h k a b c =
+    let t : T (fits f x) = subst T (sym h) tt in
+    let back : ofBits f w ≡ x = ap (ofBits f) a ∙ ofBits-toBits f x t in
+    c ∙ ap (ofBits g) (b ∙ ap (λ (y : Float). toBits g (F y)) back) ∙ ofBits-toBits g (F x) (k t)
 
 -- ---- a finite pattern's value is its own rounding
 
@@ -213,7 +241,9 @@ magnitude-pos f a h = go (decLe (hid f) a)
   where
     go : Dec (hid f ≤ a) → 0 < magnitude f a
     go (no n) = subst (λ (z : ℕ). 0 < z) (sym (magnitude-small f a (lt-of-not-le n))) h
-    go (yes l) = subst (λ (z : ℕ). 0 < z) (sym (magnitude-large f a l)) (mul-pos (lt-of-lt-of-le (hid-pos f) (le-add-right (hid f) (a % hid f))) (pow-pos (a / hid f - 1)))
+    go (yes l) =
+        subst (λ (z : ℕ). 0 < z) (sym (magnitude-large f a l))
+        (mul-pos (lt-of-lt-of-le (hid-pos f) (le-add-right (hid f) (a % hid f))) (pow-pos (a / hid f - 1)))
 
 -- from 2 ^ (emax + 1) on a value is infinite
 pub overflow-is : (f : Format) → 2 ^ (low f + suc (emax f)) ≡ hid f * 2 ^ (2 * emax f)
@@ -224,10 +254,13 @@ exactly : (f : Format) (s : Bool) (a : ℕ) → a < ones f * hid f → HasValue 
 exactly f s a h = go (decLe (hid f) a)
   where
     small : magnitude f a < 2 ^ (low f + suc (emax f))
-    small = subst (λ (z : ℕ). magnitude f a < z) (sym (overflow-is f)) (magnitude-lt f a (2 * emax f) (subst (λ (z : ℕ). a < z * hid f) (add-one (2 * emax f)) h))
+    small =
+        subst (λ (z : ℕ). magnitude f a < z) (sym (overflow-is f)) (magnitude-lt f a (2 * emax f) (subst (λ (z : ℕ). a < z * hid f) (add-one (2 * emax f)) h))
 
     by : (q j : ℕ) → magnitude f a ≡ q * 2 ^ j → q < 2 ^ prec f → HasValue (round f s (magnitude f a) (2 ^ low f)) s (magnitude f a) (2 ^ low f)
-    by q j e l = round-exact f s (magnitude f a) (2 ^ low f) q j (pow-pos (low f)) l (subst (λ (z : ℕ). z < 2 ^ (low f + suc (emax f))) e small) (ap (λ (z : ℕ). z * 2 ^ low f) e)
+    by q j e l =
+        round-exact f s (magnitude f a) (2 ^ low f) q j (pow-pos (low f)) l (subst (λ (z : ℕ). z < 2 ^ (low f + suc (emax f))) e small)
+        (ap (λ (z : ℕ). z * 2 ^ low f) e)
 
     go : Dec (hid f ≤ a) → HasValue (round f s (magnitude f a) (2 ^ low f)) s (magnitude f a) (2 ^ low f)
     go (no n) = by a 0 (magnitude-small f a (lt-of-not-le n) ∙ sym (mul-one a)) (omega (arith, lt-of-not-le n, two-hid f))
@@ -242,4 +275,5 @@ pub round-decoded : (f : Format) (w : ℕ) → w % top f < ones f * hid f → ro
 round-decoded f w h =
     let s = leb (top f) w in
     let u = magnitude f (w % top f) in
-    same-value f (round f s u (2 ^ low f)) (ofBits f w) s u (2 ^ low f) (pow-pos (low f)) (round-fits f s u (2 ^ low f)) (ofBits-fits f w) (exactly f s (w % top f) h) (decode f w (field-of f (w % top f) h))
+    same-value f (round f s u (2 ^ low f)) (ofBits f w) s u (2 ^ low f) (pow-pos (low f)) (round-fits f s u (2 ^ low f)) (ofBits-fits f w)
+    (exactly f s (w % top f) h) (decode f w (field-of f (w % top f) h))

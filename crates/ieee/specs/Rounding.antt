@@ -5,7 +5,10 @@ use Prim.Native.Nat.{ℕ, zero, suc, _+_, _-_, _*_, _/_, _%_, _^_, _≤_, _<_, m
 use mathlib.Core.Path.{_≡_, refl, sym, _∙_, ap, subst}
 use mathlib.Core.Bool.{Bool, true, false, cond, not}
 use mathlib.Core.Logic.{_⊎_, inl, inr}
-use native.Mathlib.Nat.{le-trans, le-of-eq, lt-of-le-of-lt, eq-or-lt-of-le, eq-zero-or-pos, div-div-eq-div-mul, le-div-iff-mul-le, mul-le-mul-right, mul-assoc, mul-comm, le-of-mul-le-mul-left, lt-of-mul-lt-mul-left, min-eq-left, min-eq-right, pow-succ', mul-left-comm, zero-mul, mul-lt-mul-of-pos-right, div-add-mod', mod-lt, mul-add-div-right, mul-add-mod-self-right, div-eq-of-lt-le, div-lt-iff-lt-mul, div-eq-of-lt, mod-eq-of-lt, add-zero, add-suc, mul-pos}
+use native.Mathlib.Nat.{le-trans, le-of-eq, lt-of-le-of-lt, eq-or-lt-of-le, eq-zero-or-pos, div-div-eq-div-mul, le-div-iff-mul-le, mul-le-mul-right, mul-assoc}
+use native.Mathlib.Nat.{mul-comm, le-of-mul-le-mul-left, lt-of-mul-lt-mul-left, min-eq-left, min-eq-right, pow-succ', mul-left-comm, zero-mul}
+use native.Mathlib.Nat.{mul-lt-mul-of-pos-right, div-add-mod', mod-lt, mul-add-div-right, mul-add-mod-self-right, div-eq-of-lt-le, div-lt-iff-lt-mul}
+use native.Mathlib.Nat.{div-eq-of-lt, mod-eq-of-lt, add-zero, add-suc, mul-pos}
 use native.Mathlib.Numerals.{add-one}
 use lib.Arith.{lt-of-le-ne, mod-mul}
 use borrow.Author.Tests.{eq-eqb, ne-eqb}
@@ -62,7 +65,8 @@ kept-digits f n den = (le-trans (nearest-le (n / u) o) few, go (eq-zero-or-pos k
     go (inl z) = inl z
     go (inr h) =
         let w = n / den in
-        let a : hid f * 2 ^ k ≤ w = le-trans (le-of-eq (sym (pow-add 2 (prec f - 1) k))) (size-reaches w (prec f - 1 + k) (in-use (size w) (prec f) (two f) h)) in
+        let a : hid f * 2 ^ k ≤ w =
+        le-trans (le-of-eq (sym (pow-add 2 (prec f - 1) k))) (size-reaches w (prec f - 1 + k) (in-use (size w) (prec f) (two f) h)) in
         inr (le-trans (subst (λ (x : ℕ). hid f ≤ x) cut (le-div-iff-mul-le (pow-pos k) .1 a)) (nearest-ge (n / u) o))
 
 -- ---- its pattern
@@ -103,7 +107,8 @@ module _ (f : Format) (q k : ℕ) (d : Digits f q k) where
           let r : ones f * hid f ≤ (k + 2) * hid f = mul-le-mul-right (hid f) (omega arith) in
           omega arith
       go (inr l) c =
-          let g : hid f * 2 ^ (2 * emax f) < hid f * 2 ^ suc k = lt-of-le-of-lt h (subst (λ (z : ℕ). q * 2 ^ k < z) double (mul-lt-mul-of-pos-right l (pow-pos k))) in
+          let g : hid f * 2 ^ (2 * emax f) < hid f * 2 ^ suc k =
+          lt-of-le-of-lt h (subst (λ (z : ℕ). q * 2 ^ k < z) double (mul-lt-mul-of-pos-right l (pow-pos k))) in
           let a : 2 * emax f < suc k = pow-lt-inv (2 * emax f) (suc k) (lt-of-mul-lt-mul-left (hid f) g) in
           last a c
         where
@@ -115,15 +120,20 @@ module _ (f : Format) (q k : ℕ) (d : Digits f q k) where
 
   pub units-bits : (s : Bool) → toBits f (units f s q k) ≡ cond s (top f) 0 + min (k * hid f + q) (ones f * hid f)
   unfolding units
-  units-bits s = go (ltb (q * 2 ^ k) (2 ^ (low f + suc (emax f)))) (λ t. subst (λ (z : ℕ). q * 2 ^ k < z) (overflow-is f) (ltb→lt (q * 2 ^ k) (2 ^ (low f + suc (emax f))) t)) (λ t. subst (λ (z : ℕ). z ≤ q * 2 ^ k) (overflow-is f) (nltb→le (q * 2 ^ k) (2 ^ (low f + suc (emax f))) t))
+  units-bits s =
+      go (ltb (q * 2 ^ k) (2 ^ (low f + suc (emax f))))
+      (λ t. subst (λ (z : ℕ). q * 2 ^ k < z) (overflow-is f) (ltb→lt (q * 2 ^ k) (2 ^ (low f + suc (emax f))) t))
+      (λ t. subst (λ (z : ℕ). z ≤ q * 2 ^ k) (overflow-is f) (nltb→le (q * 2 ^ k) (2 ^ (low f + suc (emax f))) t))
     where
-      go : (b : Bool) → (T b → q * 2 ^ k < hid f * 2 ^ (2 * emax f)) → (T (not b) → hid f * 2 ^ (2 * emax f) ≤ q * 2 ^ k) → toBits f (cond b (odd (suc (prec f)) s q k (low f)) (inf s)) ≡ cond s (top f) 0 + min (k * hid f + q) (ones f * hid f)
+      go : (b : Bool) → (T b → q * 2 ^ k < hid f * 2 ^ (2 * emax f)) → (T (not b) → hid f * 2 ^ (2 * emax f) ≤ q * 2 ^ k)
+          → toBits f (cond b (odd (suc (prec f)) s q k (low f)) (inf s)) ≡ cond s (top f) 0 + min (k * hid f + q) (ones f * hid f)
       go true h g =
           toBits-value f (odd (suc (prec f)) s q k (low f)) s (q * 2 ^ k) (odd-sign (suc (prec f)) s q k (low f))
           ∙ ap (λ (z : ℕ). cond s (top f) 0 + z) (pattern-at f q k d ∙ sym (min-eq-left (finite-pattern (h tt))))
       go false h g = unfold toBits in ap (λ (z : ℕ). cond s (top f) 0 + z) (sym (min-eq-right (infinite-pattern (g tt))))
 
-pub round-bits : (f : Format) (s : Bool) (num den : ℕ) → toBits f (round f s num den) ≡ cond s (top f) 0 + min (drop (prec f) (num * 2 ^ low f) den * hid f + kept (prec f) (num * 2 ^ low f) den) (ones f * hid f)
+pub round-bits : (f : Format) (s : Bool) (num den : ℕ)
+    → toBits f (round f s num den) ≡ cond s (top f) 0 + min (drop (prec f) (num * 2 ^ low f) den * hid f + kept (prec f) (num * 2 ^ low f) den) (ones f * hid f)
 round-bits f s num den =
     let n = num * 2 ^ low f in
     ap (toBits f) (round-is f s num den) ∙ units-bits f (kept (prec f) n den) (drop (prec f) n den) (kept-digits f n den) s
@@ -270,8 +280,11 @@ module _ (q b rest u : ℕ) (small : rest < b) where
   by-side : 0 < u → closest (q * b + rest) (2 * u * b) ≡ nearest (q / (2 * u)) (side (compare (q % (2 * u)) u) (eqb rest 0))
   by-side U =
       let two-u : 0 < 2 * u = omega arith in
-      let quotient : (q * b + rest) / (2 * u * b) ≡ q / (2 * u) = ap (λ (z : ℕ). (q * b + rest) / z) (mul-comm (2 * u) b) ∙ sym (div-div-eq-div-mul (q * b + rest) b (2 * u)) ∙ ap (λ (z : ℕ). z / (2 * u)) parts in
-      let remainder : (q * b + rest) % (2 * u * b) ≡ q % (2 * u) * b + rest = mod-mul (q * b + rest) two-u B ∙ ap (λ (z : ℕ). z % (2 * u) * b + (q * b + rest) % b) parts ∙ ap (λ (z : ℕ). q % (2 * u) * b + z) (mul-add-mod-self-right q b rest ∙ mod-eq-of-lt small) in
+      let quotient : (q * b + rest) / (2 * u * b) ≡ q / (2 * u) =
+      ap (λ (z : ℕ). (q * b + rest) / z) (mul-comm (2 * u) b) ∙ sym (div-div-eq-div-mul (q * b + rest) b (2 * u)) ∙ ap (λ (z : ℕ). z / (2 * u)) parts in
+      let remainder : (q * b + rest) % (2 * u * b) ≡ q % (2 * u) * b + rest =
+      mod-mul (q * b + rest) two-u B ∙ ap (λ (z : ℕ). z % (2 * u) * b + (q * b + rest) % b) parts
+      ∙ ap (λ (z : ℕ). q % (2 * u) * b + z) (mul-add-mod-self-right q b rest ∙ mod-eq-of-lt small) in
       ap (λ (z : ℕ). nearest z (compare ((q * b + rest) % (2 * u * b) * 2) (2 * u * b))) quotient
       ∙ ap (λ (z : ℕ). nearest (q / (2 * u)) (compare (z * 2) (2 * u * b))) remainder
       ∙ ap (nearest (q / (2 * u))) (sides U)

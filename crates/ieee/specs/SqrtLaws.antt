@@ -2,7 +2,8 @@
 use Prim.Native.Nat.{ℕ, zero, suc, _*_, _/_, _^_, _≤_, _<_}
 use mathlib.Core.Path.{_≡_, sym, _∙_, subst}
 use mathlib.Core.Bool.{Bool, true, false, cond, not}
-use native.Mathlib.Nat.{lt-of-lt-of-le, lt-of-le-of-lt, le-trans, le-antisymm, le-of-suc-le-suc, lt-of-not-le, not-le-of-lt, mul-le-mul, pow-le-pow-left, pow-succ', div-lt-iff-lt-mul, mul-comm}
+use native.Mathlib.Nat.{lt-of-lt-of-le, lt-of-le-of-lt, le-trans, le-antisymm, le-of-suc-le-suc, lt-of-not-le, not-le-of-lt, mul-le-mul, pow-le-pow-left}
+use native.Mathlib.Nat.{pow-succ', div-lt-iff-lt-mul, mul-comm}
 use native.Mathlib.Omega.{arith}
 use lib.Dec.{T, leb, leb→le, nleb→lt, lit≤}
 use lib.Ieee.{size}
@@ -29,7 +30,8 @@ digit n r h = go (leb (suc (2 * r) * suc (2 * r)) n) (leb→le (suc (2 * r) * su
 root-law : (d n : ℕ) → n < 4 ^ d → Root n (root d n)
 unfolding root
 root-law zero n h = record { at-most = omega arith; below = omega arith }
-root-law (suc d) n h = digit n (root d (n / 4)) (root-law d (n / 4) (div-lt-iff-lt-mul (lit≤ tt) .1 (subst (λ (z : ℕ). n < z) (pow-succ' 4 d ∙ mul-comm 4 (4 ^ d)) h)))
+root-law (suc d) n h =
+    digit n (root d (n / 4)) (root-law d (n / 4) (div-lt-iff-lt-mul (lit≤ tt) .1 (subst (λ (z : ℕ). n < z) (pow-succ' 4 d ∙ mul-comm 4 (4 ^ d)) h)))
 
 pub isqrt-law : (n : ℕ) → Root n (isqrt n)
 unfolding isqrt
@@ -37,10 +39,13 @@ isqrt-law n = root-law (size n) n (lt-of-lt-of-le (size-lt n) (pow-le-pow-left {
 
 -- no smaller root is above a larger one
 pub root-mono : (n p m q : ℕ) → n ≤ m → Root n p → Root m q → p ≤ q
-root-mono n p m q h a b = le-of-suc-le-suc (lt-of-not-le (λ (g : suc q ≤ p). not-le-of-lt (lt-of-le-of-lt (le-trans (a .at-most) h) (b .below)) (mul-le-mul g g)))
+root-mono n p m q h a b =
+    le-of-suc-le-suc (lt-of-not-le (λ (g : suc q ≤ p). not-le-of-lt (lt-of-le-of-lt (le-trans (a .at-most) h) (b .below)) (mul-le-mul g g)))
 
 pub root-unique : (n q : ℕ) → Root n q → q ≡ isqrt n
-root-unique n q h = le-antisymm (root-mono n q n (isqrt n) (native.Mathlib.Nat.le-refl n) h (isqrt-law n)) (root-mono n (isqrt n) n q (native.Mathlib.Nat.le-refl n) (isqrt-law n) h)
+root-unique n q h =
+    le-antisymm (root-mono n q n (isqrt n) (native.Mathlib.Nat.le-refl n) h (isqrt-law n))
+    (root-mono n (isqrt n) n q (native.Mathlib.Nat.le-refl n) (isqrt-law n) h)
 
 -- a root lies where the number lies among squares
 pub root-below : (n q a : ℕ) → Root n q → n < a * a → q < a

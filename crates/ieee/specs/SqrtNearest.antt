@@ -4,7 +4,8 @@ use Prim.Native.Nat.{ℕ, zero, suc, _+_, _*_, _/_, _%_, _^_, _≤_, _<_}
 use mathlib.Core.Path.{_≡_, refl, sym, _∙_, ap, subst}
 use mathlib.Core.Bool.{Bool, true, false, cond, true≢false}
 use mathlib.Core.Logic.{_≢_}
-use native.Mathlib.Nat.{le-trans, le-of-eq, pos-of-ne-zero, one-mul, le-of-lt, lt-of-lt-of-le, lt-of-le-of-lt, lt-of-not-le, mul-one, zero-mul, mul-pos, mul-le-mul, mul-le-mul-right, mul-lt-mul-of-pos-right, le-of-mul-le-mul-right, eq-of-mul-eq-mul-right, pow-succ', mul-div-cancel}
+use native.Mathlib.Nat.{le-trans, le-of-eq, pos-of-ne-zero, one-mul, le-of-lt, lt-of-lt-of-le, lt-of-le-of-lt, lt-of-not-le, mul-one, zero-mul, mul-pos}
+use native.Mathlib.Nat.{mul-le-mul, mul-le-mul-right, mul-lt-mul-of-pos-right, le-of-mul-le-mul-right, eq-of-mul-eq-mul-right, pow-succ', mul-div-cancel}
 use native.Mathlib.Decide.{decLe}
 use native.Mathlib.Omega.{arith}
 use lib.IntN.{ℤ, pos}
@@ -20,14 +21,16 @@ use Rattle.ieee.specs.SqrtLaws.{Root, isqrt-law, root-unique}
 use Rattle.ieee.specs.NearestLaws.{held, overflow-units, held-units, nearest-above, nearest-below, nearest-even}
 
 -- r is a value of the format, and none is nearer to the root of u units, which is the root of u * 2 ^ low in units: r is `units` units, and against a value
--- of h units the middle of the two, (units + h) / 2, is compared with the root by squares. The root is not beyond it on h's side, and where it is at it, r's bit pattern is even.
+-- of h units the middle of the two, (units + h) / 2, is compared with the root by squares. The root is not beyond it on h's side, and where it is at it,
+-- r's bit pattern is even.
 pub record NearestRoot (f : Format) (u : ℕ) (r : Float) : Type 0 where
   pub in-format : T (fits f r)
   pub units : ℕ
   pub value : HasValue r false units (2 ^ low f)
   pub above : (y : Float) (h : ℕ) → T (fits f y) → HasValue y false h (2 ^ low f) → units < h → 4 * (u * 2 ^ low f) ≤ (units + h) * (units + h)
   pub below : (y : Float) (h : ℕ) → T (fits f y) → HasValue y false h (2 ^ low f) → h < units → (units + h) * (units + h) ≤ 4 * (u * 2 ^ low f)
-  pub even : (y : Float) (h : ℕ) → T (fits f y) → HasValue y false h (2 ^ low f) → h ≢ units → (units + h) * (units + h) ≡ 4 * (u * 2 ^ low f) → toBits f r % 2 ≡ 0
+  pub even : (y : Float) (h : ℕ) → T (fits f y) → HasValue y false h (2 ^ low f) → h ≢ units → (units + h) * (units + h) ≡ 4 * (u * 2 ^ low f)
+      → toBits f r % 2 ≡ 0
 
 -- ---- a whole number t against the root of n, by the whole root q: what q leaves over counts as a half
 
@@ -66,7 +69,9 @@ four-pow (suc k) =
 
 -- the number whose whole root is taken: that root is in halves of a unit
 in-halves : (f : Format) (m : ℕ) (e : ℤ) (u : ℕ) → m * up e * 2 ^ low f ≡ u * down e → m * up e * 4 ^ suc (low f) / down e ≡ 4 * (u * 2 ^ low f)
-in-halves f m e u h = ap (λ (z : ℕ). z / down e) (go (2 ^ low f) (4 ^ suc (low f)) (m * up e) (down e) h (pow-succ' 4 (low f) ∙ ap (λ (z : ℕ). 4 * z) (four-pow (low f)))) ∙ mul-div-cancel (4 * (u * 2 ^ low f)) (down-pos e)
+in-halves f m e u h =
+    ap (λ (z : ℕ). z / down e) (go (2 ^ low f) (4 ^ suc (low f)) (m * up e) (down e) h (pow-succ' 4 (low f) ∙ ap (λ (z : ℕ). 4 * z) (four-pow (low f))))
+    ∙ mul-div-cancel (4 * (u * 2 ^ low f)) (down-pos e)
   where
     go : (l k x d : ℕ) → x * l ≡ u * d → k ≡ 4 * (l * l) → x * k ≡ 4 * (u * l) * d
     go l k x d h p =
@@ -131,13 +136,17 @@ module _ (f : Format) (u : ℕ) where
 
   module _ (y : Float) (h : ℕ) (F : T (fits f y)) (v : HasValue y false h (2 ^ low f)) where
     squares-above : result < h → four ≤ (result + h) * (result + h)
-    squares-above l = root-above four (isqrt four) (result + h) (isqrt-law four) (fraction-above f halves (result + h) (nearest-above f halves (den f) h y (den-pos f) F v l))
+    squares-above l =
+        root-above four (isqrt four) (result + h) (isqrt-law four) (fraction-above f halves (result + h) (nearest-above f halves (den f) h y (den-pos f) F v l))
 
     squares-below : h < result → (result + h) * (result + h) ≤ four
-    squares-below l = root-below four (isqrt four) (result + h) (isqrt-law four) (fraction-below f halves (result + h) (nearest-below f halves (den f) h y (den-pos f) F v l))
+    squares-below l =
+        root-below four (isqrt four) (result + h) (isqrt-law four) (fraction-below f halves (result + h) (nearest-below f halves (den f) h y (den-pos f) F v l))
 
     squares-level : h ≢ result → (result + h) * (result + h) ≡ four → toBits f (round f false halves (den f)) % 2 ≡ 0
-    squares-level ne e = nearest-even f halves (den f) h y (den-pos f) F v ne (fraction-level f halves (result + h) (root-level four (isqrt four) (result + h) (isqrt-law four) e))
+    squares-level ne e =
+        nearest-even f halves (den f) h y (den-pos f) F v ne
+        (fraction-level f halves (result + h) (root-level four (isqrt four) (result + h) (isqrt-law four) e))
 
   -- the result is finite
   small : u < overflow f → result < overflow f
@@ -151,16 +160,34 @@ module _ (f : Format) (u : ℕ) where
 
       go : Dec (result ≤ 2 ^ emax f * 2 ^ low f) → result < overflow f
       go (yes a) = lt-of-le-of-lt a (omega (arith, twice, mul-pos (pow-pos (emax f)) (pow-pos (low f))))
-      go (no b) = absurd (too-large result (2 ^ emax f) (2 ^ low f) u (pow-pos (low f)) (two-le f) (subst (λ (z : ℕ). u < z) twice l) (squares-below (fin false 1 (pos (emax f))) (2 ^ emax f * 2 ^ low f) (power f) value (lt-of-not-le b)) (lt-of-not-le b))
+      go (no b) =
+          absurd (too-large result (2 ^ emax f) (2 ^ low f) u (pow-pos (low f)) (two-le f) (subst (λ (z : ℕ). u < z) twice l)
+          (squares-below (fin false 1 (pos (emax f))) (2 ^ emax f * 2 ^ low f) (power f) value (lt-of-not-le b)) (lt-of-not-le b))
 
   root-nearest : u < overflow f → NearestRoot f u (rootOf f (suc (low f)) four)
   unfolding rootOf
-  root-nearest l = record { in-format = round-fits f false halves (den f); units = result; value = round-val f halves (den f) (small l); above = squares-above; below = squares-below; even = squares-level }
+  root-nearest l =
+      record {
+        in-format = round-fits f false halves (den f);
+        units = result;
+        value = round-val f halves (den f) (small l);
+        above = squares-above;
+        below = squares-below;
+        even = squares-level;
+      }
 
 -- ---- the root of a value
 
 zero-root : (f : Format) (r : Float) → T (fits f r) → HasValue r false 0 (2 ^ low f) → NearestRoot f 0 r
-zero-root f r F v = record { in-format = F; units = 0; value = v; above = λ y h p w l. omega arith; below = λ y h p w l. absurd (omega arith); even = λ y h p w ne e. absurd (omega (arith, mul-pos (pos-of-ne-zero ne) (pos-of-ne-zero ne))) }
+zero-root f r F v =
+    record {
+      in-format = F;
+      units = 0;
+      value = v;
+      above = λ y h p w l. omega arith;
+      below = λ y h p w l. absurd (omega arith);
+      even = λ y h p w ne e. absurd (omega (arith, mul-pos (pos-of-ne-zero ne) (pos-of-ne-zero ne)));
+    }
 
 -- x is finite and not negative, of u units
 pub sqrt-nearest : (f : Format) (x : Float) (u : ℕ) → T (fits f x) → HasValue x false u (2 ^ low f) → NearestRoot f u (sqrt f x)
@@ -169,7 +196,11 @@ sqrt-nearest f nan u F v = absurd v
 sqrt-nearest f (inf s) u F v = absurd v
 sqrt-nearest f (fin true m e) u F v = absurd (true≢false (v .0))
 sqrt-nearest f (fin false zero e) u F v =
-    let z : u ≡ 0 = eq-of-mul-eq-mul-right (down e) (down-pos e) u 0 (sym (v .1) ∙ ap (λ (x : ℕ). x * 2 ^ low f) (zero-mul (up e)) ∙ zero-mul (2 ^ low f) ∙ sym (zero-mul (down e))) in
-    subst (λ (x : ℕ). NearestRoot f x (fin false zero e)) (sym z) (zero-root f (fin false zero e) F (subst (λ (x : ℕ). HasValue (fin false zero e) false x (2 ^ low f)) z v))
+    let z : u ≡ 0 =
+    eq-of-mul-eq-mul-right (down e) (down-pos e) u 0
+    (sym (v .1) ∙ ap (λ (x : ℕ). x * 2 ^ low f) (zero-mul (up e)) ∙ zero-mul (2 ^ low f) ∙ sym (zero-mul (down e))) in
+    subst (λ (x : ℕ). NearestRoot f x (fin false zero e)) (sym z)
+    (zero-root f (fin false zero e) F (subst (λ (x : ℕ). HasValue (fin false zero e) false x (2 ^ low f)) z v))
 sqrt-nearest f (fin false (suc m) e) u F v =
-    subst (λ (z : ℕ). NearestRoot f u (rootOf f (suc (low f)) z)) (sym (in-halves f (suc m) e u (v .1))) (root-nearest f u (held-units f (suc m) e u (held f false (suc m) e F) (v .1)))
+    subst (λ (z : ℕ). NearestRoot f u (rootOf f (suc (low f)) z)) (sym (in-halves f (suc m) e u (v .1)))
+    (root-nearest f u (held-units f (suc m) e u (held f false (suc m) e F) (v .1)))

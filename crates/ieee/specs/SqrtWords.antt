@@ -1,11 +1,13 @@
--- The bit pattern of a root from the whole root of fewer digits. Of n * 4 ^ t, with n from 4 ^ (prec + g) up to 4 ^ (prec + 1 + g), the root of n has g + 1 digits more
--- than the format keeps; a rest counts as half a unit more, and one rounding drops the digits. Over the format. Assumes nothing.
+-- The bit pattern of a root from the whole root of fewer digits. Of n * 4 ^ t, with n from 4 ^ (prec + g) up to 4 ^ (prec + 1 + g), the root of n has g + 1
+-- digits more than the format keeps; a rest counts as half a unit more, and one rounding drops the digits. Over the format. Assumes nothing.
 use Prim.Native.Nat.{ℕ, zero, suc, _+_, _-_, _*_, _/_, _%_, _^_, _≤_, _<_, min, zero-le}
 use mathlib.Core.Path.{_≡_, refl, sym, _∙_, ap, subst}
 use mathlib.Core.Bool.{Bool, true, false, cond, not, true≢false}
 use mathlib.Core.Logic.{_⊎_, inl, inr, _≢_}
-use native.Mathlib.Nat.{mul-assoc, mul-comm, mul-one, one-mul, zero-mul, mul-pos, mul-right-comm, mul-mul-mul-comm, div-add-mod', mod-lt, lt-of-lt-of-le, lt-of-le-of-lt, le-trans, le-of-eq, le-refl, le-of-suc-le-suc, lt-of-not-le, not-le-of-lt, mul-le-mul, mul-le-mul-right, mul-lt-mul-of-pos-right, eq-of-mul-eq-mul-right, mul-div-cancel, mul-div-mul-right, le-div-iff-mul-le, pow-succ', eq-zero-or-pos, add-zero, min-eq-left, lt-irrefl, zero-add, zero-div, zero-mod, mod-self, mod-mod-of-dvd, dvd-mul-right, mod-eq-of-lt, le-suc}
-use native.Mathlib.Decide.{decLe}
+use native.Mathlib.Nat.{mul-assoc, mul-comm, mul-one, one-mul, zero-mul, mul-pos, mul-right-comm, mul-mul-mul-comm, div-add-mod', mod-lt, lt-of-lt-of-le}
+use native.Mathlib.Nat.{lt-of-le-of-lt, le-trans, le-of-eq, le-of-suc-le-suc, lt-of-not-le, not-le-of-lt, mul-le-mul, mul-le-mul-right}
+use native.Mathlib.Nat.{mul-lt-mul-of-pos-right, eq-of-mul-eq-mul-right, mul-div-cancel, mul-div-mul-right, le-div-iff-mul-le, pow-succ', eq-zero-or-pos}
+use native.Mathlib.Nat.{add-zero, min-eq-left, lt-irrefl, zero-add, zero-div, zero-mod, mod-self, mod-mod-of-dvd, dvd-mul-right, mod-eq-of-lt}
 use native.Mathlib.Omega.{arith}
 use lib.Dec.{T, eqb, leb, lit<, lit≤}
 use lib.IntN.{ℤ, pos}
@@ -17,13 +19,13 @@ use lib.Ieee.Exact.{HasValue}
 use lib.Ieee.Fits.{down-pos, two}
 use lib.Ieee.Nearest.{closest}
 use lib.Ieee.Order.{drop, kept}
-use borrow.Author.Tests.{eq-eqb, ne-eqb, le-leb, lt-leb}
-use Rattle.ieee.specs.Nans.{nan-bits}
+use borrow.Author.Tests.{eq-eqb, ne-eqb, lt-leb}
 use Rattle.ieee.specs.Whole.{negative}
-use Rattle.ieee.specs.WholeLaws.{signed-word}
+use Rattle.ieee.specs.WholeLaws.{past-infinity}
 use Rattle.ieee.specs.Sqrt.{isqrt, rootOf, sqrt}
 use Rattle.ieee.specs.SqrtLaws.{Root, isqrt-law, root-unique, root-below}
-use Rattle.ieee.specs.Patterns.{size-is, two-hid, hid-pos, pow-lt-inv, pattern-at, toBits-value, magnitude, magnitude-small, magnitude-large, magnitude-pos, decode, field-of, inf-bits}
+use Rattle.ieee.specs.Patterns.{size-is, two-hid, hid-pos, pow-lt-inv, pattern-at, toBits-value, magnitude, magnitude-small, magnitude-large}
+use Rattle.ieee.specs.Patterns.{magnitude-pos, decode-plain, inf-bits, no-sign}
 use Rattle.ieee.specs.Rounding.{round-bits, closest-sticky, closest-scale, closest-le}
 
 -- twice the whole root, and one more where it leaves a rest
@@ -55,11 +57,16 @@ module _ (n t : ℕ) where
 
   from : q * 2 ^ t ≤ Q
   unfolding q Q
-  from = le-of-suc-le-suc (square-lt (q * 2 ^ t) (suc Q) (lt-of-le-of-lt (le-trans (le-of-eq (squares q)) (mul-le-mul-right (4 ^ t) (isqrt-law n .at-most))) (isqrt-law (n * 4 ^ t) .below)))
+  from =
+      le-of-suc-le-suc (square-lt (q * 2 ^ t) (suc Q)
+      (lt-of-le-of-lt (le-trans (le-of-eq (squares q)) (mul-le-mul-right (4 ^ t) (isqrt-law n .at-most))) (isqrt-law (n * 4 ^ t) .below)))
 
   to : Q < suc q * 2 ^ t
   unfolding q Q
-  to = square-lt Q (suc q * 2 ^ t) (lt-of-le-of-lt (isqrt-law (n * 4 ^ t) .at-most) (lt-of-lt-of-le (mul-lt-mul-of-pos-right (isqrt-law n .below) (pow4-pos t)) (le-of-eq (sym (squares (suc q))))))
+  to =
+      square-lt Q (suc q * 2 ^ t)
+      (lt-of-le-of-lt (isqrt-law (n * 4 ^ t) .at-most)
+      (lt-of-lt-of-le (mul-lt-mul-of-pos-right (isqrt-law n .below) (pow4-pos t)) (le-of-eq (sym (squares (suc q))))))
     where
       pow4-pos : (t : ℕ) → 0 < 4 ^ t
       pow4-pos t = subst (λ (z : ℕ). 0 < z) (sym (four t)) (mul-pos (pow-pos t) (pow-pos t))
@@ -80,7 +87,8 @@ module _ (n t : ℕ) where
   unfolding q Q rest
   whole e =
       let s : q * 2 ^ t * (q * 2 ^ t) ≡ n * 4 ^ t = squares q ∙ ap (λ (z : ℕ). z * 4 ^ t) e in
-      let u : q * 2 ^ t ≡ Q = root-unique (n * 4 ^ t) (q * 2 ^ t) (record { at-most = le-of-eq s; below = lt-of-le-of-lt (le-of-eq (sym s)) (grows (q * 2 ^ t)) }) in
+      let u : q * 2 ^ t ≡ Q =
+      root-unique (n * 4 ^ t) (q * 2 ^ t) (record { at-most = le-of-eq s; below = lt-of-le-of-lt (le-of-eq (sym s)) (grows (q * 2 ^ t)) }) in
       (omega arith, ap (λ (z : ℕ). z * z) (sym u) ∙ s)
     where
       grows : (k : ℕ) → k * k < suc k * suc k
@@ -89,7 +97,8 @@ module _ (n t : ℕ) where
   back : rest ≡ 0 → Q * Q ≡ n * 4 ^ t → q * q ≡ n
   back z e =
       let u : Q ≡ q * 2 ^ t = split ∙ ap (λ (k : ℕ). q * 2 ^ t + k) z ∙ add-zero (q * 2 ^ t) in
-      eq-of-mul-eq-mul-right (4 ^ t) (subst (λ (k : ℕ). 0 < k) (sym (four t)) (mul-pos (pow-pos t) (pow-pos t))) (q * q) n (sym (squares q) ∙ ap (λ (k : ℕ). k * k) (sym u) ∙ e)
+      eq-of-mul-eq-mul-right (4 ^ t) (subst (λ (k : ℕ). 0 < k) (sym (four t)) (mul-pos (pow-pos t) (pow-pos t))) (q * q) n
+      (sym (squares q) ∙ ap (λ (k : ℕ). k * k) (sym u) ∙ e)
 
   -- the half units of the larger root beyond whole ones of the smaller
   more : ℕ
@@ -115,14 +124,18 @@ module _ (n t : ℕ) where
   same-test = go (native.Mathlib.Decide.ℕ-discrete (q * q) n) (native.Mathlib.Decide.ℕ-discrete (Q * Q) (n * 4 ^ t)) (eq-zero-or-pos rest)
     where
       go : Dec (q * q ≡ n) → Dec (Q * Q ≡ n * 4 ^ t) → (rest ≡ 0) ⊎ (0 < rest) → eqb (2 * rest + cond (eqb (Q * Q) (n * 4 ^ t)) 0 1) 0 ≡ eqb (q * q) n
-      go (yes e) d r = eq-eqb (2 * rest + cond (eqb (Q * Q) (n * 4 ^ t)) 0 1) 0 (rw (eq-eqb (Q * Q) (n * 4 ^ t) (whole e .1)) (omega (arith, whole e .0))) ∙ sym (eq-eqb (q * q) n e)
+      go (yes e) d r =
+          eq-eqb (2 * rest + cond (eqb (Q * Q) (n * 4 ^ t)) 0 1) 0 (rw (eq-eqb (Q * Q) (n * 4 ^ t) (whole e .1)) (omega (arith, whole e .0)))
+          ∙ sym (eq-eqb (q * q) n e)
       go (no e) (yes p) (inl z) = absurd (e (back z p))
       go (no e) (yes p) (inr r) = ne-eqb (2 * rest + cond (eqb (Q * Q) (n * 4 ^ t)) 0 1) 0 (λ h. omega arith) ∙ sym (ne-eqb (q * q) n e)
-      go (no e) (no p) r = ne-eqb (2 * rest + cond (eqb (Q * Q) (n * 4 ^ t)) 0 1) 0 (rw (ne-eqb (Q * Q) (n * 4 ^ t) p) (λ h. omega arith)) ∙ sym (ne-eqb (q * q) n e)
+      go (no e) (no p) r =
+          ne-eqb (2 * rest + cond (eqb (Q * Q) (n * 4 ^ t)) 0 1) 0 (rw (ne-eqb (Q * Q) (n * 4 ^ t) p) (λ h. omega arith)) ∙ sym (ne-eqb (q * q) n e)
 
 module _ (f : Format) (g t n : ℕ) (lo : 4 ^ (prec f + g) ≤ n) (hi : n < 4 ^ suc (prec f + g)) where
   root-ge : 2 ^ (prec f + g) ≤ isqrt n
-  root-ge = le-of-suc-le-suc (square-lt (2 ^ (prec f + g)) (suc (isqrt n)) (lt-of-le-of-lt (le-trans (le-of-eq (sym (four (prec f + g)))) lo) (isqrt-law n .below)))
+  root-ge =
+      le-of-suc-le-suc (square-lt (2 ^ (prec f + g)) (suc (isqrt n)) (lt-of-le-of-lt (le-trans (le-of-eq (sym (four (prec f + g)))) lo) (isqrt-law n .below)))
 
   root-lt : isqrt n < 2 ^ suc (prec f + g)
   root-lt = square-lt (isqrt n) (2 ^ suc (prec f + g)) (lt-of-le-of-lt (isqrt-law n .at-most) (lt-of-lt-of-le hi (le-of-eq (four (suc (prec f + g))))))
@@ -133,7 +146,11 @@ module _ (f : Format) (g t n : ℕ) (lo : 4 ^ (prec f + g) ≤ n) (hi : n < 4 ^ 
 
   larger-lt : isqrt (n * 4 ^ t) < 2 * 2 ^ (prec f + g + t)
   unfolding q Q
-  larger-lt = lt-of-lt-of-le (to n t) (le-trans (mul-le-mul-right (2 ^ t) root-lt) (le-of-eq (ap (λ (z : ℕ). z * 2 ^ t) (pow-succ' 2 (prec f + g)) ∙ mul-assoc 2 (2 ^ (prec f + g)) (2 ^ t) ∙ ap (λ (z : ℕ). 2 * z) (sym (pow-add 2 (prec f + g) t)))))
+  larger-lt =
+      lt-of-lt-of-le (to n t)
+      (le-trans (mul-le-mul-right (2 ^ t) root-lt)
+      (le-of-eq (ap (λ (z : ℕ). z * 2 ^ t) (pow-succ' 2 (prec f + g)) ∙ mul-assoc 2 (2 ^ (prec f + g)) (2 ^ t)
+      ∙ ap (λ (z : ℕ). 2 * z) (sym (pow-add 2 (prec f + g) t)))))
 
   -- in units of the format's smallest value the whole part is half the larger root
   units-are : sticky (n * 4 ^ t) * 2 ^ low f / (2 * 2 ^ suc (low f)) ≡ isqrt (n * 4 ^ t) / 2
@@ -165,7 +182,8 @@ module _ (f : Format) (g t n : ℕ) (lo : 4 ^ (prec f + g) ≤ n) (hi : n < 4 ^ 
   left =
       ap (λ (z : ℕ). closest (sticky (n * 4 ^ t) * 2 ^ low f) (2 * 2 ^ suc (low f) * 2 ^ z)) gone
       ∙ ap (closest (sticky (n * 4 ^ t) * 2 ^ low f)) steps
-      ∙ closest-scale (sticky (n * 4 ^ t)) (2 * 2 ^ g * (2 * 2 ^ t)) (2 ^ low f) (mul-pos (mul-pos (lit< tt) (pow-pos g)) (mul-pos (lit< tt) (pow-pos t))) (pow-pos (low f))
+      ∙ closest-scale (sticky (n * 4 ^ t)) (2 * 2 ^ g * (2 * 2 ^ t)) (2 ^ low f) (mul-pos (mul-pos (lit< tt) (pow-pos g)) (mul-pos (lit< tt) (pow-pos t)))
+      (pow-pos (low f))
       ∙ ap (λ (z : ℕ). closest z (2 * 2 ^ g * (2 * 2 ^ t))) (sticky-split n t)
       ∙ closest-sticky (isqrt n) (2 * 2 ^ t) (more n t) (2 ^ g) (more-lt n t) (pow-pos g)
       ∙ ap (λ (b : Bool). closest (2 * isqrt n + cond b 0 1) (4 * 2 ^ g)) (same-test n t)
@@ -175,10 +193,14 @@ module _ (f : Format) (g t n : ℕ) (lo : 4 ^ (prec f + g) ≤ n) (hi : n < 4 ^ 
       spread l a b = omega arith
 
       steps : 2 * 2 ^ suc (low f) * 2 ^ (g + t) ≡ 2 * 2 ^ g * (2 * 2 ^ t) * 2 ^ low f
-      steps = ap (λ (z : ℕ). 2 * z * 2 ^ (g + t)) (pow-succ' 2 (low f)) ∙ ap (λ (z : ℕ). 2 * (2 * 2 ^ low f) * z) (pow-add 2 g t) ∙ spread (2 ^ low f) (2 ^ g) (2 ^ t)
+      steps =
+          ap (λ (z : ℕ). 2 * z * 2 ^ (g + t)) (pow-succ' 2 (low f)) ∙ ap (λ (z : ℕ). 2 * (2 * 2 ^ low f) * z) (pow-add 2 g t)
+          ∙ spread (2 ^ low f) (2 ^ g) (2 ^ t)
 
   pub root-kept : closest (sticky n) (2 ^ (2 + g)) ≤ 2 ^ prec f
-  root-kept = closest-le (sticky n) (2 ^ (2 + g)) (2 ^ prec f) (pow-pos (2 + g)) (lt-of-lt-of-le (few (isqrt n) (eqb (isqrt n * isqrt n) n) root-lt) (le-of-eq (sym steps)))
+  root-kept =
+      closest-le (sticky n) (2 ^ (2 + g)) (2 ^ prec f) (pow-pos (2 + g))
+      (lt-of-lt-of-le (few (isqrt n) (eqb (isqrt n * isqrt n) n) root-lt) (le-of-eq (sym steps)))
     where
       few : (k : ℕ) (b : Bool) → k < 2 ^ suc (prec f + g) → 2 * k + cond b 0 1 < 2 * 2 ^ suc (prec f + g)
       few k true h = omega arith
@@ -194,7 +216,8 @@ module _ (f : Format) (g t n : ℕ) (lo : 4 ^ (prec f + g) ≤ n) (hi : n < 4 ^ 
   unfolding rootOf
   root-pattern room =
       sym (round-bits f false (sticky (n * 4 ^ t)) (2 * 2 ^ suc (low f))
-      ∙ zero-add (min (drop (prec f) (sticky (n * 4 ^ t) * 2 ^ low f) (2 * 2 ^ suc (low f)) * hid f + kept (prec f) (sticky (n * 4 ^ t) * 2 ^ low f) (2 * 2 ^ suc (low f))) (ones f * hid f))
+      ∙ zero-add (min (drop (prec f) (sticky (n * 4 ^ t) * 2 ^ low f) (2 * 2 ^ suc (low f)) * hid f + kept (prec f) (sticky (n * 4 ^ t) * 2 ^ low f)
+      (2 * 2 ^ suc (low f))) (ones f * hid f))
       ∙ ap (λ (z : ℕ). min (z * hid f + kept (prec f) (sticky (n * 4 ^ t) * 2 ^ low f) (2 * 2 ^ suc (low f))) (ones f * hid f)) gone
       ∙ ap (λ (z : ℕ). min ((g + t) * hid f + z) (ones f * hid f)) left
       ∙ min-eq-left (fits-in (mul-le-mul-right (hid f) room)))
@@ -205,7 +228,9 @@ module _ (f : Format) (g t n : ℕ) (lo : 4 ^ (prec f + g) ≤ n) (hi : n < 4 ^ 
 -- ---- the root of a value, in units
 
 above-zero : (m : ℕ) (e : ℤ) (u d : ℕ) → 0 < u → m * up e * d ≡ u * down e → m ≢ 0
-above-zero m e u d p h z = lt-irrefl 0 (subst (λ (k : ℕ). 0 < k) (sym h ∙ ap (λ (k : ℕ). k * up e * d) z ∙ ap (λ (k : ℕ). k * d) (zero-mul (up e)) ∙ zero-mul d) (mul-pos p (down-pos e)))
+above-zero m e u d p h z =
+    lt-irrefl 0 (subst (λ (k : ℕ). 0 < k) (sym h ∙ ap (λ (k : ℕ). k * up e * d) z ∙ ap (λ (k : ℕ). k * d) (zero-mul (up e)) ∙ zero-mul d)
+    (mul-pos p (down-pos e)))
 
 pub sqrt-units : (f : Format) (v : Float) (u : ℕ) → HasValue v false u (2 ^ low f) → 0 < u → sqrt f v ≡ rootOf f (suc (low f)) (u * 2 ^ (low f + 2))
 unfolding sqrt
@@ -214,8 +239,12 @@ sqrt-units f (inf s) u h p = absurd h
 sqrt-units f (fin true m e) u h p = absurd (true≢false (h .0))
 sqrt-units f (fin false zero e) u h p = absurd (above-zero zero e u (2 ^ low f) p (h .1) refl)
 sqrt-units f (fin false (suc m) e) u h p =
-    let l : 4 ^ suc (low f) ≡ 2 ^ low f * 2 ^ (low f + 2) = four (suc (low f)) ∙ ap (λ (z : ℕ). z * 2 ^ suc (low f)) (pow-succ' 2 (low f) ∙ mul-comm 2 (2 ^ low f)) ∙ mul-assoc (2 ^ low f) 2 (2 ^ suc (low f)) ∙ ap (λ (z : ℕ). 2 ^ low f * z) (sym (pow-succ' 2 (suc (low f))) ∙ ap (λ (z : ℕ). 2 ^ z) (place (low f))) in
-    let x : suc m * up e * 4 ^ suc (low f) ≡ u * 2 ^ (low f + 2) * down e = ap (λ (z : ℕ). suc m * up e * z) l ∙ sym (mul-assoc (suc m * up e) (2 ^ low f) (2 ^ (low f + 2))) ∙ ap (λ (z : ℕ). z * 2 ^ (low f + 2)) (h .1) ∙ mul-right-comm u (down e) (2 ^ (low f + 2)) in
+    let l : 4 ^ suc (low f) ≡ 2 ^ low f * 2 ^ (low f + 2) =
+    four (suc (low f)) ∙ ap (λ (z : ℕ). z * 2 ^ suc (low f)) (pow-succ' 2 (low f) ∙ mul-comm 2 (2 ^ low f)) ∙ mul-assoc (2 ^ low f) 2 (2 ^ suc (low f))
+    ∙ ap (λ (z : ℕ). 2 ^ low f * z) (sym (pow-succ' 2 (suc (low f))) ∙ ap (λ (z : ℕ). 2 ^ z) (place (low f))) in
+    let x : suc m * up e * 4 ^ suc (low f) ≡ u * 2 ^ (low f + 2) * down e =
+    ap (λ (z : ℕ). suc m * up e * z) l ∙ sym (mul-assoc (suc m * up e) (2 ^ low f) (2 ^ (low f + 2))) ∙ ap (λ (z : ℕ). z * 2 ^ (low f + 2)) (h .1)
+    ∙ mul-right-comm u (down e) (2 ^ (low f + 2)) in
     ap (λ (z : ℕ). rootOf f (suc (low f)) (z / down e)) x ∙ ap (rootOf f (suc (low f))) (mul-div-cancel (u * 2 ^ (low f + 2)) (down-pos e))
   where
     place : (l : ℕ) → suc (suc l) ≡ l + 2
@@ -250,7 +279,8 @@ normal-same d s e l =
     let r = (e - s) % 2 in
     let h = (e - s) / 2 in
     let p : s + (r + (h + h)) ≡ e = omega arith in
-    ap (λ (k : ℕ). d * 2 ^ s * 2 ^ r * k) (four h ∙ sym (pow-add 2 h h)) ∙ mul-assoc (d * 2 ^ s) (2 ^ r) (2 ^ (h + h)) ∙ ap (λ (k : ℕ). d * 2 ^ s * k) (sym (pow-add 2 r (h + h)))
+    ap (λ (k : ℕ). d * 2 ^ s * 2 ^ r * k) (four h ∙ sym (pow-add 2 h h)) ∙ mul-assoc (d * 2 ^ s) (2 ^ r) (2 ^ (h + h))
+    ∙ ap (λ (k : ℕ). d * 2 ^ s * k) (sym (pow-add 2 r (h + h)))
     ∙ mul-assoc d (2 ^ s) (2 ^ (r + (h + h))) ∙ ap (λ (k : ℕ). d * k) (sym (pow-add 2 s (r + (h + h))) ∙ ap (λ (k : ℕ). 2 ^ k) p)
 
 -- a digit more or none
@@ -309,7 +339,9 @@ module _ (n s b : ℕ) (r : Root n s) (wide : b ≤ 2 * s) (B : 0 < b) where
     where
       put-together : (d l u : ℕ) → d + s * s ≡ n → (l * (2 * s) + u) * b ≡ d * b * b → n * (b * b) + l * l ≡ (s * b + l) * (s * b + l) + u * b
       put-together d l u p e =
-          let a : n * (b * b) ≡ d * b * b + s * s * (b * b) = ap (λ (z : ℕ). z * (b * b)) (sym p) ∙ native.Mathlib.Nat.add-mul d (s * s) (b * b) ∙ ap (λ (z : ℕ). z + s * s * (b * b)) (sym (mul-assoc d b b)) in
+          let a : n * (b * b) ≡ d * b * b + s * s * (b * b) =
+          ap (λ (z : ℕ). z * (b * b)) (sym p) ∙ native.Mathlib.Nat.add-mul d (s * s) (b * b)
+          ∙ ap (λ (z : ℕ). z + s * s * (b * b)) (sym (mul-assoc d b b)) in
           omega arith
 
   -- the three ways in which the rest compares with the lower half's square
@@ -330,12 +362,14 @@ module _ (n s b : ℕ) (r : Root n s) (wide : b ≤ 2 * s) (B : 0 < b) where
       go : (k : ℕ) → k ≡ lower n s b → 2 * (s * b + lower n s b) - 1 ≡ sticky (n * (b * b))
       go zero z = absurd (omega (arith, l, ap (λ (x : ℕ). x * x) z))
       go (suc k) e =
-          let f : n * (b * b) + suc k * suc k ≡ (s * b + suc k) * (s * b + suc k) + over n s b = subst (λ (x : ℕ). n * (b * b) + x * x ≡ (s * b + x) * (s * b + x) + over n s b) (sym e) balance in
+          let f : n * (b * b) + suc k * suc k ≡ (s * b + suc k) * (s * b + suc k) + over n s b =
+          subst (λ (x : ℕ). n * (b * b) + x * x ≡ (s * b + x) * (s * b + x) + over n s b) (sym e) balance in
           let g : over n s b < suc k * suc k = subst (λ (x : ℕ). over n s b < x * x) (sym e) l in
           let h : suc k ≤ b = subst (λ (x : ℕ). x ≤ b) (sym e) lower-le in
           let m : suc k * suc k ≤ 2 * s * b = le-trans (mul-le-mul h h) (mul-le-mul-right b wide) in
           let d : 2 * (s * b + lower n s b) - 1 ≡ 2 * (s * b + k) + 1 = omega arith in
-          d ∙ sticky-rest (n * (b * b)) (s * b + k) (record { at-most = omega arith; below = omega arith }) (λ (t : (s * b + k) * (s * b + k) ≡ n * (b * b)). omega arith)
+          d ∙ sticky-rest (n * (b * b)) (s * b + k) (record { at-most = omega arith; below = omega arith })
+          (λ (t : (s * b + k) * (s * b + k) ≡ n * (b * b)). omega arith)
 
 pub sticky-lt : (n a : ℕ) → n < a * a → sticky n < 2 * a
 sticky-lt n a h = go (isqrt n) (eqb (isqrt n * isqrt n) n) (root-below n (isqrt n) a (isqrt-law n) h)
@@ -347,34 +381,38 @@ sticky-lt n a h = go (isqrt n) (eqb (isqrt n * isqrt n) n) (root-below n (isqrt 
 -- ---- the cases of a bit pattern w
 
 module _ (f : Format) (w : ℕ) (W : w < 2 * top f) where
-  -- a zero is its own root
-  pub sqrt-zero : w % top f ≡ 0 → w ≡ toBits f (sqrt f (ofBits f w))
+  zero-own : w % top f ≡ 0 → w ≡ toBits f (sqrt f (ofBits f w))
   unfolding ofBits ofFields odd sqrt
-  sqrt-zero z =
+  zero-own z =
       let x : w % top f / hid f ≡ 0 = ap (λ (k : ℕ). k / hid f) z ∙ zero-div (hid f) in
       let t : w % hid f ≡ 0 = sym (mod-mod-of-dvd (hid f) w (dvd-mul-right (hid f) (suc (ones f)))) ∙ ap (λ (k : ℕ). k % hid f) z ∙ zero-mod (hid f) in
       let v : ofBits f w ≡ fin (leb (top f) w) 0 (pos 0) = ap (λ (k : ℕ). ofFields f (leb (top f) w) k (w % hid f)) x ∙ ap (ofFields f (leb (top f) w) 0) t in
-      sym (ap (λ (y : Float). toBits f (sqrt f y)) v ∙ ap (toBits f) (sym v) ∙ toBits-ofBits f w W (subst (λ (y : Float). T (not (isNan y))) (sym v) (unfold isNan in tt)))
+      sym (ap (λ (y : Float). toBits f (sqrt f y)) v ∙ ap (toBits f) (sym v)
+      ∙ toBits-ofBits f w W (subst (λ (y : Float). T (not (isNan y))) (sym v) (unfold isNan in tt)))
 
-  pub sqrt-infinite : w ≡ ones f * hid f → w ≡ toBits f (sqrt f (ofBits f w))
+  infinity-own : w ≡ ones f * hid f → w ≡ toBits f (sqrt f (ofBits f w))
   unfolding sqrt toBits
-  sqrt-infinite e =
-      let below : w < top f = subst (λ (k : ℕ). k < top f) (sym e) (subst (λ (k : ℕ). ones f * hid f < k) (mul-comm (suc (ones f)) (hid f)) (mul-lt-mul-of-pos-right (le-refl (suc (ones f))) (hid-pos f))) in
+  infinity-own e =
+      let below : w < top f = no-sign f w (le-of-eq e) in
       let v : ofBits f w ≡ inf false = inf-bits f w (mod-eq-of-lt below ∙ e) ∙ ap inf (lt-leb (top f) w below) in
       e ∙ sym (ap (λ (y : Float). toBits f (sqrt f y)) v ∙ zero-add (ones f * hid f))
 
+  -- a zero and the infinity are their own roots
+  pub sqrt-own : (w % top f ≡ 0) ⊎ (w ≡ ones f * hid f) → w ≡ toBits f (sqrt f (ofBits f w))
+  sqrt-own (inl z) = zero-own z
+  sqrt-own (inr e) = infinity-own e
+
   -- below zero, or a NaN
-  pub sqrt-none : w % top f ≢ 0 → ones f * hid f < w → sqrt f (ofBits f w) ≡ nan
-  sqrt-none n h = go (ofBits f w) refl (decLe (top f) w)
+  pub sqrt-none : w % top f ≢ 0 → ones f * hid f < w → toBits f nan ≡ toBits f (sqrt f (ofBits f w))
+  unfolding sqrt
+  sqrt-none n h = ap (toBits f) (sym (none (ofBits f w) (past-infinity f w h) no-zero))
     where
       none : (y : Float) → (y ≡ nan) ⊎ (negative y ≡ true) → ((s : Bool) (e : ℤ) → y ≡ fin s 0 e → ⊥) → sqrt f y ≡ nan
-      none y (inl e) z = ap (sqrt f) e ∙ (unfold sqrt in refl)
-      none nan (inr e) z = unfold sqrt in refl
-      none (inf true) (inr e) z = unfold sqrt in refl
-      none (inf false) (inr e) z = absurd (true≢false (sym e))
+      none y (inl e) z = rw e
+      none nan (inr e) z = refl
+      none (inf s) (inr e) z = rw e
       none (fin s zero x) (inr e) z = absurd (z s x refl)
-      none (fin true (suc m) x) (inr e) z = unfold sqrt in refl
-      none (fin false (suc m) x) (inr e) z = absurd (true≢false (sym e))
+      none (fin s (suc m) x) (inr e) z = rw e
 
       zero-bits : (s : Bool) (e : ℤ) → toBits f (fin s 0 e) ≡ cond s (top f) 0
       zero-bits s e =
@@ -387,33 +425,26 @@ module _ (f : Format) (w : ℕ) (W : w < 2 * top f) where
       remains false = zero-mod (top f)
 
       no-zero : (s : Bool) (e : ℤ) → ofBits f w ≡ fin s 0 e → ⊥
-      no-zero s e v = n (ap (λ (k : ℕ). k % top f) (sym (toBits-ofBits f w W (subst (λ (y : Float). T (not (isNan y))) (sym v) (unfold isNan in tt))) ∙ ap (toBits f) v ∙ zero-bits s e) ∙ remains s)
+      no-zero s e v =
+          let known : T (not (isNan (ofBits f w))) = rw v (unfold isNan in tt) in
+          n (ap (λ (k : ℕ). k % top f) (sym (toBits-ofBits f w W known) ∙ ap (toBits f) v ∙ zero-bits s e) ∙ remains s)
 
-      go : (y : Float) → ofBits f w ≡ y → Dec (top f ≤ w) → sqrt f (ofBits f w) ≡ nan
-      go y e (yes l) = none (ofBits f w) (flip (signed-word f w)) no-zero
-        where
-          flip : (ofBits f w ≡ nan) ⊎ (negative (ofBits f w) ≡ leb (top f) w) → (ofBits f w ≡ nan) ⊎ (negative (ofBits f w) ≡ true)
-          flip (inl p) = inl p
-          flip (inr p) = inr (p ∙ le-leb (top f) w l)
-      go y e (no g) = ap (sqrt f) (nan-bits f w (subst (λ (k : ℕ). ones f * hid f < k) (sym (mod-eq-of-lt (lt-of-not-le g))) h)) ∙ (unfold sqrt in refl)
+module _ (f : Format) (w : ℕ) (n : w % top f ≢ 0) where
+  finite-root : w < ones f * hid f → sqrt f (ofBits f w) ≡ rootOf f (suc (low f)) (magnitude f w * 2 ^ (low f + 2))
+  finite-root F = sqrt-units f (ofBits f w) (magnitude f w) (decode-plain f w F) (magnitude-pos f w above-zero)
+    where
+      above-zero : 0 < w
+      above-zero = elim (eq-zero-or-pos w) [ inl z ↦ absurd (n (ap (λ (k : ℕ). k % top f) z ∙ zero-mod (top f))) | inr l ↦ l ]
 
-  module _ (P : 0 < w) (F : w < ones f * hid f) where
-    finite-root : sqrt f (ofBits f w) ≡ rootOf f (suc (low f)) (magnitude f w * 2 ^ (low f + 2))
-    finite-root =
-        let below : w < top f = lt-of-lt-of-le F (subst (λ (k : ℕ). ones f * hid f ≤ k) (mul-comm (suc (ones f)) (hid f)) (mul-le-mul-right (hid f) (le-suc (ones f)))) in
-        let plain : w % top f ≡ w = mod-eq-of-lt below in
-        let v : HasValue (ofBits f w) false (magnitude f w) (2 ^ low f) =
-        subst (λ (b : Bool). HasValue (ofBits f w) b (magnitude f w) (2 ^ low f)) (lt-leb (top f) w below)
-        (subst (λ (a : ℕ). HasValue (ofBits f w) (leb (top f) w) (magnitude f a) (2 ^ low f)) plain (decode f w (field-of f (w % top f) (subst (λ (a : ℕ). a < ones f * hid f) (sym plain) F)))) in
-        sqrt-units f (ofBits f w) (magnitude f w) v (magnitude-pos f w P)
+  pub sqrt-subnormal : w < ones f * hid f → w < hid f → toBits f (rootOf f (suc (low f)) (w * 2 ^ (low f + 2))) ≡ toBits f (sqrt f (ofBits f w))
+  sqrt-subnormal F h = sym (ap (toBits f) (finite-root F ∙ ap (λ (u : ℕ). rootOf f (suc (low f)) (u * 2 ^ (low f + 2))) (magnitude-small f w h)))
 
-    pub sqrt-subnormal : w < hid f → toBits f (rootOf f (suc (low f)) (w * 2 ^ (low f + 2))) ≡ toBits f (sqrt f (ofBits f w))
-    sqrt-subnormal h = sym (ap (toBits f) (finite-root ∙ ap (λ (u : ℕ). rootOf f (suc (low f)) (u * 2 ^ (low f + 2))) (magnitude-small f w h)))
-
-    pub sqrt-normal : hid f ≤ w → toBits f (rootOf f (suc (low f)) ((hid f + w % hid f) * 2 ^ (w / hid f + (low f + 1)))) ≡ toBits f (sqrt f (ofBits f w))
-    sqrt-normal h =
-        let x : 1 ≤ w / hid f = le-div-iff-mul-le (hid-pos f) .1 (subst (λ (k : ℕ). k ≤ w) (sym (one-mul (hid f))) h) in
-        let e : w / hid f - 1 + (low f + 2) ≡ w / hid f + (low f + 1) = omega arith in
-        let u : magnitude f w * 2 ^ (low f + 2) ≡ (hid f + w % hid f) * 2 ^ (w / hid f + (low f + 1)) =
-        ap (λ (k : ℕ). k * 2 ^ (low f + 2)) (magnitude-large f w h) ∙ mul-assoc (hid f + w % hid f) (2 ^ (w / hid f - 1)) (2 ^ (low f + 2)) ∙ ap (λ (k : ℕ). (hid f + w % hid f) * k) (sym (pow-add 2 (w / hid f - 1) (low f + 2)) ∙ ap (λ (k : ℕ). 2 ^ k) e) in
-        sym (ap (toBits f) (finite-root ∙ ap (rootOf f (suc (low f))) u))
+  pub sqrt-normal : w < ones f * hid f → hid f ≤ w
+      → toBits f (rootOf f (suc (low f)) ((hid f + w % hid f) * 2 ^ (w / hid f + (low f + 1)))) ≡ toBits f (sqrt f (ofBits f w))
+  sqrt-normal F h =
+      let x : 1 ≤ w / hid f = le-div-iff-mul-le (hid-pos f) .1 (subst (λ (k : ℕ). k ≤ w) (sym (one-mul (hid f))) h) in
+      let e : w / hid f - 1 + (low f + 2) ≡ w / hid f + (low f + 1) = omega arith in
+      let u : magnitude f w * 2 ^ (low f + 2) ≡ (hid f + w % hid f) * 2 ^ (w / hid f + (low f + 1)) =
+      ap (λ (k : ℕ). k * 2 ^ (low f + 2)) (magnitude-large f w h) ∙ mul-assoc (hid f + w % hid f) (2 ^ (w / hid f - 1)) (2 ^ (low f + 2))
+      ∙ ap (λ (k : ℕ). (hid f + w % hid f) * k) (sym (pow-add 2 (w / hid f - 1) (low f + 2)) ∙ ap (λ (k : ℕ). 2 ^ k) e) in
+      sym (ap (toBits f) (finite-root F ∙ ap (rootOf f (suc (low f))) u))

@@ -4,7 +4,9 @@ use Prim.Native.Nat.{ℕ, zero, suc, _+_, _-_, _*_, _/_, _%_, _^_, _≤_, _<_, m
 use mathlib.Core.Path.{_≡_, refl, sym, _∙_, ap, subst}
 use mathlib.Core.Bool.{Bool, true, false, cond, not}
 use mathlib.Core.Logic.{_⊎_, inl, inr}
-use native.Mathlib.Nat.{mul-assoc, mul-one, zero-mul, mul-pos, mul-right-comm, div-add-mod', mod-lt, add-mul, eq-zero-or-pos, div-eq-of-lt-le, lt-irrefl, add-zero}
+use native.Mathlib.Nat.{mul-assoc, mul-one, zero-mul, mul-pos, mul-right-comm, div-add-mod', mod-lt, add-mul, eq-zero-or-pos, div-eq-of-lt-le, lt-irrefl}
+use native.Mathlib.Nat.{add-zero, mod-eq-of-lt, lt-of-not-le}
+use native.Mathlib.Decide.{decLe}
 use native.Mathlib.Omega.{arith}
 use lib.Dec.{T, leb, eqb}
 use lib.IntN.{ℤ}
@@ -14,7 +16,8 @@ use lib.Ieee.Exact.{HasValue}
 use lib.Ieee.Back.{round-whole}
 use lib.Ieee.Fits.{down-pos, nan-fits, inf-fits, round-fits}
 use lib.Ieee.Nearest.{div-same}
-use borrow.Author.Tests.{eq-eqb, ne-eqb}
+use borrow.Author.Tests.{eq-eqb, ne-eqb, le-leb}
+use Rattle.ieee.specs.Nans.{nan-bits}
 use Rattle.ieee.specs.Whole.{outward, nextWhole, negative, floor, ceil, halfUp, roundAway}
 use Rattle.ieee.specs.Patterns.{Digits, pattern-at, toBits-value}
 
@@ -71,7 +74,8 @@ outward-units true m e u d D h =
     ∙ ap (λ (b : Bool). u / d + cond (not b) 1 0) (rest-test (m * up e) (down e) u d (down-pos e) D h)
     ∙ rounded-up u d D
 
-pub nextWhole-units : (f : Format) (away : Bool) (v : Float) (s : Bool) (u d : ℕ) → 0 < d → HasValue v s u d → nextWhole f away v ≡ round f s ((u + cond away (d - 1) 0) / d) 1
+pub nextWhole-units : (f : Format) (away : Bool) (v : Float) (s : Bool) (u d : ℕ) → 0 < d → HasValue v s u d
+    → nextWhole f away v ≡ round f s ((u + cond away (d - 1) 0) / d) 1
 unfolding nextWhole
 nextWhole-units f away nan s u d D h = absurd h
 nextWhole-units f away (inf t) s u d D h = absurd h
@@ -83,7 +87,8 @@ unfolding roundAway
 roundAway-units f nan s u d D h = absurd h
 roundAway-units f (inf t) s u d D h = absurd h
 roundAway-units f (fin t m e) s u d D h =
-    ap (λ (z : ℕ). round f t z 1) (div-same (2 * (m * up e) + down e) (2 * down e) (2 * u + d) (2 * d) (twice (down e) (down-pos e)) (twice d D) (halves (m * up e) (down e) u d (h .1)))
+    ap (λ (z : ℕ). round f t z 1)
+    (div-same (2 * (m * up e) + down e) (2 * down e) (2 * u + d) (2 * d) (twice (down e) (down-pos e)) (twice d D) (halves (m * up e) (down e) u d (h .1)))
     ∙ ap (λ (b : Bool). round f b ((2 * u + d) / (2 * d)) 1) (h .0)
   where
     twice : (k : ℕ) → 0 < k → 0 < 2 * k
@@ -106,7 +111,8 @@ rescaled nan s n d h = h
 rescaled (inf t) s n d h = h
 rescaled (fin t m e) s n d h = (h .0, ap (λ (z : ℕ). z * d) (sym (mul-one (m * up e)) ∙ h .1) ∙ mul-right-comm n (down e) d)
 
-pub whole-pattern : (f : Format) (s : Bool) (n g k : ℕ) → n ≤ 2 ^ prec f → g + k ≡ low f → Digits f (n * 2 ^ g) k → toBits f (round f s n 1) ≡ cond s (top f) 0 + (k * hid f + n * 2 ^ g)
+pub whole-pattern : (f : Format) (s : Bool) (n g k : ℕ) → n ≤ 2 ^ prec f → g + k ≡ low f → Digits f (n * 2 ^ g) k
+    → toBits f (round f s n 1) ≡ cond s (top f) 0 + (k * hid f + n * 2 ^ g)
 whole-pattern f s n g k h e d =
     let p : n * 2 ^ low f ≡ n * 2 ^ g * 2 ^ k = ap (λ (z : ℕ). n * 2 ^ z) (sym e) ∙ ap (λ (z : ℕ). n * z) (pow-add 2 g k) ∙ sym (mul-assoc n (2 ^ g) (2 ^ k)) in
     toBits-value f (round f s n 1) s (n * 2 ^ low f) (rescaled (round f s n 1) s n (2 ^ low f) (round-whole f s n h))
@@ -120,7 +126,8 @@ signed f s zero zero = inr refl
 signed f s zero (suc t) = inr refl
 signed f s (suc x) t = go (eqb (suc x) (ones f)) (eqb t 0) (hid f + t)
   where
-    go : (a b : Bool) (q : ℕ) → (cond a (cond b (inf s) nan) (odd (prec f) s q x (low f)) ≡ nan) ⊎ (negative (cond a (cond b (inf s) nan) (odd (prec f) s q x (low f))) ≡ s)
+    go : (a b : Bool) (q : ℕ)
+        → (cond a (cond b (inf s) nan) (odd (prec f) s q x (low f)) ≡ nan) ⊎ (negative (cond a (cond b (inf s) nan) (odd (prec f) s q x (low f))) ≡ s)
     go true true q = inr refl
     go true false q = inl refl
     go false b zero = inr refl
@@ -130,27 +137,31 @@ pub signed-word : (f : Format) (w : ℕ) → (ofBits f w ≡ nan) ⊎ (negative 
 unfolding ofBits
 signed-word f w = signed f (leb (top f) w) (w % top f / hid f) (w % hid f)
 
-pub floor-word : (f : Format) (w : ℕ) → nextWhole f (leb (top f) w) (ofBits f w) ≡ floor f (ofBits f w)
-unfolding floor nextWhole
-floor-word f w = go (ofBits f w) (signed-word f w)
+-- a word above the infinity's is a NaN's, or has the sign
+pub past-infinity : (f : Format) (w : ℕ) → ones f * hid f < w → (ofBits f w ≡ nan) ⊎ (negative (ofBits f w) ≡ true)
+past-infinity f w h = go (decLe (top f) w) (signed-word f w)
   where
-    s : Bool
-    s = leb (top f) w
+    go : Dec (top f ≤ w) → (ofBits f w ≡ nan) ⊎ (negative (ofBits f w) ≡ leb (top f) w) → (ofBits f w ≡ nan) ⊎ (negative (ofBits f w) ≡ true)
+    go d (inl e) = inl e
+    go (yes l) (inr e) = inr (e ∙ le-leb (top f) w l)
+    go (no n) (inr e) = inl (nan-bits f w (rw (mod-eq-of-lt (lt-of-not-le n)) h))
 
-    go : (v : Float) → (v ≡ nan) ⊎ (negative v ≡ s) → nextWhole f s v ≡ nextWhole f (negative v) v
-    go v (inl e) = ap (nextWhole f s) e ∙ sym (ap (λ (y : Float). nextWhole f (negative y) y) e)
-    go v (inr e) = ap (λ (b : Bool). nextWhole f b v) (sym e)
+-- `away` is the sign, or is not: a NaN is the same both ways
+next-word : (f : Format) (w : ℕ) (away : Bool → Bool)
+    → nextWhole f (away (leb (top f) w)) (ofBits f w) ≡ nextWhole f (away (negative (ofBits f w))) (ofBits f w)
+next-word f w away = go (ofBits f w) (signed-word f w)
+  where
+    go : (v : Float) → (v ≡ nan) ⊎ (negative v ≡ leb (top f) w) → nextWhole f (away (leb (top f) w)) v ≡ nextWhole f (away (negative v)) v
+    go v (inl e) = rw e (unfold nextWhole in refl)
+    go v (inr e) = rw e
+
+pub floor-word : (f : Format) (w : ℕ) → nextWhole f (leb (top f) w) (ofBits f w) ≡ floor f (ofBits f w)
+unfolding floor
+floor-word f w = next-word f w (λ (b : Bool). b)
 
 pub ceil-word : (f : Format) (w : ℕ) → nextWhole f (not (leb (top f) w)) (ofBits f w) ≡ ceil f (ofBits f w)
-unfolding ceil nextWhole
-ceil-word f w = go (ofBits f w) (signed-word f w)
-  where
-    s : Bool
-    s = leb (top f) w
-
-    go : (v : Float) → (v ≡ nan) ⊎ (negative v ≡ s) → nextWhole f (not s) v ≡ nextWhole f (not (negative v)) v
-    go v (inl e) = ap (nextWhole f (not s)) e ∙ sym (ap (λ (y : Float). nextWhole f (not (negative y)) y) e)
-    go v (inr e) = ap (λ (b : Bool). nextWhole f (not b) v) (sym e)
+unfolding ceil
+ceil-word f w = next-word f w not
 
 -- ---- the results are values of the format
 

@@ -4,7 +4,8 @@ use Prim.Native.Nat.{ℕ, suc, _+_, _*_, _/_, _%_, _^_, _≤_, _<_}
 use mathlib.Core.Path.{_≡_, sym, _∙_, ap, subst}
 use mathlib.Core.Bool.{Bool, true, false, cond}
 use mathlib.Core.Logic.{_⊎_, inl, inr}
-use native.Mathlib.Nat.{le-trans, le-of-lt, le-of-suc-le-suc, lt-of-not-le, mul-one, mul-assoc, mul-le-mul-left, mul-le-mul-right, mul-pos, eq-zero-or-pos, div-add-mod', mod-lt}
+use native.Mathlib.Nat.{le-trans, le-of-lt, le-of-suc-le-suc, lt-of-not-le, mul-one, mul-assoc, mul-le-mul-left, mul-le-mul-right, mul-pos, eq-zero-or-pos}
+use native.Mathlib.Nat.{div-add-mod', mod-lt}
 use native.Mathlib.Omega.{arith}
 use lib.IntN.{ℤ, pos, negsuc}
 use lib.Dec.{T, lit≤}
@@ -49,7 +50,9 @@ module _ (m : ℕ) (e : ℤ) where
     where
       go : (m * up e % down e ≡ 0) ⊎ (0 < m * up e % down e) → Over m e (outward true m e)
       go (inl z) = rw (eq-eqb (m * up e % down e) 0 z) (record { at-least = omega (arith, parts); least = omega (arith, parts, rest) })
-      go (inr p) = rw (ne-eqb (m * up e % down e) 0 (λ (z : m * up e % down e ≡ 0). omega arith)) (record { at-least = omega (arith, parts, rest); least = omega (arith, parts) })
+      go (inr p) =
+          rw (ne-eqb (m * up e % down e) 0 (λ (z : m * up e % down e ≡ 0). omega arith))
+          (record { at-least = omega (arith, parts, rest); least = omega (arith, parts) })
 
   pub halfUp-nearest : Nearest m e (halfUp m e)
   halfUp-nearest =
@@ -60,12 +63,14 @@ module _ (m : ℕ) (e : ℤ) where
 
 -- ---- less than one away from a value of the format a whole number is one itself
 
-near-value : (f : Format) (s : Bool) (m : ℕ) (e : ℤ) (n : ℕ) → Held f m e → n * down e < m * up e + down e → m * up e < n * down e + down e → HasValue (round f s n 1) s n 1
+near-value : (f : Format) (s : Bool) (m : ℕ) (e : ℤ) (n : ℕ) → Held f m e → n * down e < m * up e + down e → m * up e < n * down e + down e
+    → HasValue (round f s n 1) s n 1
 near-value f s m (pos k) n H a b =
     let same : m * 2 ^ k ≡ n = omega arith in
     let j : m * 2 ^ k * 2 ^ low f ≡ m * 2 ^ (k + low f) = mul-assoc m (2 ^ k) (2 ^ low f) ∙ ap (λ (z : ℕ). m * z) (sym (pow-add 2 k (low f))) in
     subst (λ (z : ℕ). HasValue (round f s z 1) s z 1) same
-    (round-exact f s (m * 2 ^ k) 1 m (k + low f) (lit≤ tt) (H .digits) (held-units f m (pos k) (m * 2 ^ (k + low f)) H (j ∙ sym (mul-one (m * 2 ^ (k + low f))))) (j ∙ sym (mul-one (m * 2 ^ (k + low f)))))
+    (round-exact f s (m * 2 ^ k) 1 m (k + low f) (lit≤ tt) (H .digits)
+    (held-units f m (pos k) (m * 2 ^ (k + low f)) H (j ∙ sym (mul-one (m * 2 ^ (k + low f))))) (j ∙ sym (mul-one (m * 2 ^ (k + low f)))))
 near-value f s m (negsuc k) n H a b = round-whole f s n (le-trans (le-of-suc-le-suc (lt-of-not-le few)) (le-of-lt (H .digits)))
   where
     few : suc m ≤ n → ⊥
@@ -94,7 +99,8 @@ pub record WholeNumber (P : ℕ → Type 0) (s : Bool) (r : Float) : Type 0 wher
   pub value : HasValue r s magnitude 1
   pub law : P magnitude
 
-next : (f : Format) (s : Bool) (m : ℕ) (e : ℤ) (away : Bool) → T (fits f (fin s m e)) → WholeNumber (cond away (Over m e) (Under m e)) s (nextWhole f away (fin s m e))
+next : (f : Format) (s : Bool) (m : ℕ) (e : ℤ) (away : Bool) → T (fits f (fin s m e))
+    → WholeNumber (cond away (Over m e) (Under m e)) s (nextWhole f away (fin s m e))
 next f s m e true F = record { magnitude = outward true m e; value = nextWhole-value f s m e F true; law = outward-over m e }
 next f s m e false F = record { magnitude = outward false m e; value = nextWhole-value f s m e F false; law = outward-under m e }
 

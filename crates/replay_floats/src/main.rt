@@ -1,5 +1,5 @@
-// Replays the stored answers of the floats, document 01's library functions: rust/src/standins.rs has them again in Rust. A case is six words: a low, a high, b, c,
-// result low, result high; rust/src/functions.rs numbers the kinds.
+// Replays the stored answers of the floats, document 01's library functions: rust/src/standins.rs has them again in Rust. A case is six words: a low,
+// a high, b, c, result low, result high; rust/src/functions.rs numbers the kinds.
 use floats::choose;
 use floats::narrow;
 use floats::sqrt;
@@ -33,7 +33,9 @@ fn floats_answer(kind: u32, low: u32, high: u32, b: u32, c: u32) -> u64 {
         112 => word_of_f32(narrow::narrow(f64_of_word(wide))) as u64,
         113 => word_of_f64(narrow::widen(x)),
         114 => word_of_f32(x) as u64,
-        _ => word_of_f64(f64_of_word(wide)),
+        115 => word_of_f64(f64_of_word(wide)),
+        116 => whole::to_u16(x) as u64,
+        _ => choose::is_sign_negative(x) as u64,
     }
 }
 
@@ -55,7 +57,7 @@ fn replay() -> Tally {
     let mut case = [0u32; 256];
     let mut tally = Tally::new();
     for turn in 0..TURNS {
-        match next_case(101, 115, 6, &mut case) {
+        match next_case(101, 117, 6, &mut case) {
             Next::Case(kind) => tally = tally.with(floats_agree(kind, &case)),
             Next::End => return tally.ended(),
             Next::Unread => return tally,

@@ -6,7 +6,7 @@ use mathlib.Core.Bool.{Bool, cond}
 use Rattle.ieee.specs.Choose.{fabs}
 use Rattle.ieee.specs.Narrow.{narrow}
 use Rattle.ieee.specs.NarrowLaws.{narrow-fits}
-use Rattle.trig.specs.Series.{one}
+use Rattle.trig.specs.Series.{one64}
 use Rattle.trig.specs.Trig.{cos, sin, acos, asin, eight}
 
 narrowed-fits : (b : Bool) (v : Float) → T (fits binary32 (cond b (narrow v) nan))
@@ -22,8 +22,8 @@ sin-fits x = narrowed-fits (le (fabs x) eight) _
 
 pub acos-fits : (x : Float) → T (fits binary32 (acos x))
 unfolding acos
-acos-fits x = narrowed-fits (le (fabs x) one) _
+acos-fits x = narrowed-fits (le (fabs x) one64) _
 
 pub asin-fits : (x : Float) → T (fits binary32 (asin x))
 unfolding asin
-asin-fits x = narrowed-fits (le (fabs x) one) _
+asin-fits x = narrowed-fits (le (fabs x) one64) _

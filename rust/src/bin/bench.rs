@@ -20,9 +20,11 @@ mod own {
         max(a: f32, b: f32) -> f32 { a.max(b) }
         clamp(x: f32, lo: f32, hi: f32) -> f32 { x.clamp(lo, hi) }
         abs(x: f32) -> f32 { x.abs() }
+        is_sign_negative(x: f32) -> bool { !x.is_nan() && x.is_sign_negative() }
         floor(x: f32) -> f32 { x.floor() }
         ceil(x: f32) -> f32 { x.ceil() }
         round(x: f32) -> f32 { x.round() }
+        to_u16(x: f32) -> u16 { x as u16 }
         to_u32(x: f32) -> u32 { x as u32 }
         to_usize(x: f32) -> usize { x as usize }
         sqrt(x: f32) -> f32 { x.sqrt() }
@@ -106,10 +108,12 @@ fn main() {
     row!("max x", |side| calls(|i| side::max(x[i], y[i]).to_bits().into()));
     row!("clamp mixed", |side| calls(|i| side::clamp(mixed[i], lo[i], hi[i]).to_bits().into()));
     row!("abs mixed", |side| calls(|i| side::abs(mixed[i]).to_bits().into()));
+    row!("is_sign_negative mixed", |side| calls(|i| side::is_sign_negative(mixed[i]).into()));
     for (kind, x) in [("million", &million), ("mixed", &mixed)] {
         row!(&format!("floor {kind}"), |side| calls(|i| side::floor(x[i]).to_bits().into()));
         row!(&format!("ceil {kind}"), |side| calls(|i| side::ceil(x[i]).to_bits().into()));
         row!(&format!("round {kind}"), |side| calls(|i| side::round(x[i]).to_bits().into()));
+        row!(&format!("to_u16 {kind}"), |side| calls(|i| side::to_u16(x[i]).into()));
         row!(&format!("to_u32 {kind}"), |side| calls(|i| side::to_u32(x[i]).into()));
         row!(&format!("to_usize {kind}"), |side| calls(|i| side::to_usize(x[i]) as u64));
     }

@@ -1,12 +1,12 @@
--- `floats_c::words_bytes_of_words` meets its contract. Assumes nothing.
+-- `floats_c::words_bytes_of_words`: the code is that of the answer that the call gives, and the bytes stay as the call left them. Assumes nothing.
 use mathlib.Core.Path.{_∙_, ap}
-use Rattle.floats_c.specs.Codes.{code}
+use Rattle.words.specs.Answers.{code}
 use borrow.Author.Needs.{needs}
 use Rattle.floats_c.proofs.words_bytes_of_words.Statement.{statement}
 use Rattle.floats_c.proofs.words_bytes_of_words.Tie as tie
 
 returns : tie.Need-returns
-returns c = (c .code-of .ensures ∙ ap code (c .before .before .before .bytes-of-words .ensures .0), c .before .before .before .bytes-of-words .ensures .1)
+returns c = (c .counted-code .ensures ∙ ap code (c .before .before .before .bytes-of-words .ensures .0), c .before .before .before .bytes-of-words .ensures .1)
 
 pub words-bytes-of-words-spec : {M : Type 1} → statement M
 words-bytes-of-words-spec =

@@ -1,4 +1,4 @@
--- `floats_c::words_word_count` meets its contract. Assumes nothing.
+-- `floats_c::words_word_count`: the code is that of the answer that the call gives. Assumes nothing.
 use mathlib.Core.Path.{_∙_, ap}
 use Rattle.floats_c.specs.Codes.{countCode}
 use borrow.Author.Needs.{needs}

@@ -1,12 +1,12 @@
--- `floats_c::words_words_of_bytes` meets its contract. Assumes nothing.
+-- `floats_c::words_words_of_bytes`: the code is that of the answer that the call gives, and the words stay as the call left them. Assumes nothing.
 use mathlib.Core.Path.{_∙_, ap}
-use Rattle.floats_c.specs.Codes.{code}
+use Rattle.words.specs.Answers.{code}
 use borrow.Author.Needs.{needs}
 use Rattle.floats_c.proofs.words_words_of_bytes.Statement.{statement}
 use Rattle.floats_c.proofs.words_words_of_bytes.Tie as tie
 
 returns : tie.Need-returns
-returns c = (c .code-of .ensures ∙ ap code (c .before .before .before .words-of-bytes .ensures .0), c .before .before .before .words-of-bytes .ensures .1)
+returns c = (c .counted-code .ensures ∙ ap code (c .before .before .before .words-of-bytes .ensures .0), c .before .before .before .words-of-bytes .ensures .1)
 
 pub words-words-of-bytes-spec : {M : Type 1} → statement M
 words-words-of-bytes-spec =

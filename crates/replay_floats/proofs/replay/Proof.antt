@@ -1,4 +1,4 @@
--- `replay_floats::replay` ends, after as many turns as a program looks for a case. Assumes nothing.
+-- `replay_floats::replay`: the loop ends, since it turns only as often as a program looks for a case. Assumes nothing.
 use Prim.Native.Nat.{_-_, _≤_}
 use native.Mathlib.Omega.{arith}
 use borrow.Author.Needs.{needs}

@@ -1,53 +1,45 @@
--- `trig::acos` meets its contract: its steps are the definition's. Assumes nothing.
-use mathlib.Core.Path.{_≡_, refl, sym, _∙_, ap, subst}
-use mathlib.Core.Bool.{true, false}
+-- `trig::acos`: the tests of the argument's size and of the argument part as the definition's, and each range is narrowed from its own arcs. Assumes nothing.
+use mathlib.Core.Path.{_∙_, ap}
 use borrow.Author.Needs.{needs}
-use lib.Ieee.{Float, binary64, nan, ofBits, le, lt, mul, sub, div, neg}
-use Rattle.ieee.specs.Choose.{fabs}
+use lib.Ieee.{Float, binary64, ofBits, sub, div, neg}
 use Rattle.ieee.specs.Narrow.{narrow}
-use Rattle.trig.specs.Series.{one, arc}
+use Rattle.trig.specs.Series.{one64, arc}
 use Rattle.trig.specs.Trig.{acos, half, pi, halfPi, twiceArc}
+use Rattle.trig.proofs.Sizes.{sized, beyond}
 use Rattle.trig.proofs.acos.Statement.{statement}
 use Rattle.trig.proofs.acos.Tie as tie
 
--- the tests, of the argument's size
-inside : (c : tie.Then1) → le (fabs (c .before .before .args .x)) one ≡ true
-unfolding ofBits
-inside c = subst (λ (v : Float). le v one ≡ true) (c .before .abs .ensures) (c .if1 .taken)
-
-outside : (c : tie.Else1) → le (fabs (c .before .before .args .x)) one ≡ false
-unfolding ofBits
-outside c = subst (λ (v : Float). le v one ≡ false) (c .before .abs .ensures) (c .if1 .left)
-
-small : (c : tie.Then2) → le (fabs (c .before .before .before .before .args .x)) half ≡ true
-unfolding ofBits
-small c = subst (λ (v : Float). le v half ≡ true) (c .before .before .before .abs .ensures) (c .if2 .taken)
-
-large : (c : tie.Else2) → le (fabs (c .before .before .before .before .args .x)) half ≡ false
-unfolding ofBits
-large c = subst (λ (v : Float). le v half ≡ false) (c .before .before .before .abs .ensures) (c .if2 .left)
-
 returns : tie.Need-returns
-unfolding acos
+unfolding acos ofBits
 returns c =
     let t = c .before .before in
-    rw (inside (t .before .before), small t) (c .narrow .ensures ∙ ap (λ (v : Float). narrow (sub binary64 halfPi v)) (c .before .arc .ensures ∙ ap arc (t .before .widen .ensures)))
+    let i = t .before .before in
+    let x = i .before .before .args .x in
+    rw (sized x one64 (i .before .abs .ensures) (i .if1 .taken), sized x half (i .before .abs .ensures) (t .if2 .taken))
+    (c .narrow .ensures ∙ ap (λ (v : Float). narrow (sub binary64 halfPi v)) (c .before .arc .ensures ∙ ap arc (t .before .widen .ensures)))
 
 returns-2 : tie.Need-returns-2
 unfolding acos ofBits
 returns-2 c =
     let t = c .before .before in
-    rw (inside (t .before .before .before), large (t .before), t .if3 .taken) (c .narrow2 .ensures ∙ ap narrow (c .before .twice-arc .ensures ∙ ap twiceArc (t .before .before .widen .ensures)))
+    let i = t .before .before .before in
+    let x = i .before .before .args .x in
+    rw (sized x one64 (i .before .abs .ensures) (i .if1 .taken), sized x half (i .before .abs .ensures) (t .before .if2 .left), t .if3 .taken)
+    (c .narrow2 .ensures ∙ ap narrow (c .before .twice-arc .ensures ∙ ap twiceArc (t .before .before .widen .ensures)))
 
 returns-3 : tie.Need-returns-3
 unfolding acos ofBits
 returns-3 c =
     let t = c .before .before in
-    rw (inside (t .before .before .before), large (t .before), t .if3 .left) (c .narrow3 .ensures ∙ ap (λ (v : Float). narrow (sub binary64 pi v)) (c .before .twice-arc2 .ensures ∙ ap (λ (w : Float). twiceArc (neg w)) (t .before .before .widen .ensures)))
+    let i = t .before .before .before in
+    let x = i .before .before .args .x in
+    rw (sized x one64 (i .before .abs .ensures) (i .if1 .taken), sized x half (i .before .abs .ensures) (t .before .if2 .left), t .if3 .left)
+    (c .narrow3 .ensures ∙ ap (λ (v : Float). narrow (sub binary64 pi v))
+    (c .before .twice-arc2 .ensures ∙ ap (λ (w : Float). twiceArc (neg w)) (t .before .before .widen .ensures)))
 
 returns-4 : tie.Need-returns-4
 unfolding acos div ofBits
-returns-4 c = rw (outside c)
+returns-4 c = beyond (c .before .before .args .x) one64 (c .before .abs .ensures) _ (c .if1 .left)
 
 pub acos-spec : {M : Type 1} → statement M
 acos-spec =

@@ -1,5 +1,5 @@
--- `trig::arc_step` meets its contract. Assumes nothing.
-use Prim.Native.Nat.{ℕ, _+_, _-_, _*_, _≤_}
+-- `trig::arc_step`: its operations are the definition's, and the whole numbers up to m = 16 are small enough that f64 holds them. Assumes nothing.
+use Prim.Native.Nat.{_+_, _-_, _*_, _≤_}
 use mathlib.Core.Path.{refl}
 use native.Mathlib.Nat.{mul-le-mul}
 use native.Mathlib.Omega.{arith}

@@ -1,59 +1,47 @@
--- `trig::asin` meets its contract: its steps are the definition's. Assumes nothing.
-use mathlib.Core.Path.{_≡_, refl, sym, _∙_, ap, subst}
-use mathlib.Core.Bool.{true, false}
+-- `trig::asin`: the tests part as the definition's; above a half the arc is that of the size, and takes the argument's sign at the end. Assumes nothing.
+use mathlib.Core.Path.{_≡_, _∙_, ap}
+use mathlib.Core.Bool.{Bool, cond}
 use borrow.Author.Needs.{needs}
-use lib.Ieee.{Float, binary64, nan, ofBits, le, lt, mul, sub, div, neg}
-use Rattle.ieee.specs.Choose.{fabs}
+use lib.Ieee.{Float, binary64, ofBits, lt, sub, div, neg}
 use Rattle.ieee.specs.Narrow.{narrow}
-use Rattle.trig.specs.Series.{one, arc}
+use Rattle.trig.specs.Series.{one64, arc}
 use Rattle.trig.specs.Trig.{asin, half, halfPi, twiceArc}
+use Rattle.trig.proofs.Sizes.{sized, beyond}
 use Rattle.trig.proofs.asin.Statement.{statement}
 use Rattle.trig.proofs.asin.Tie as tie
 
--- the tests, of the argument's size
-inside : (c : tie.Then1) → le (fabs (c .before .before .args .x)) one ≡ true
-unfolding ofBits
-inside c = subst (λ (v : Float). le v one ≡ true) (c .before .abs .ensures) (c .if1 .taken)
-
-outside : (c : tie.Else1) → le (fabs (c .before .before .args .x)) one ≡ false
-unfolding ofBits
-outside c = subst (λ (v : Float). le v one ≡ false) (c .before .abs .ensures) (c .if1 .left)
-
-small : (c : tie.Then2) → le (fabs (c .before .before .before .args .x)) half ≡ true
-unfolding ofBits
-small c = subst (λ (v : Float). le v half ≡ true) (c .before .before .abs .ensures) (c .if2 .taken)
-
-large : (c : tie.Else2) → le (fabs (c .before .before .before .args .x)) half ≡ false
-unfolding ofBits
-large c = subst (λ (v : Float). le v half ≡ false) (c .before .before .abs .ensures) (c .if2 .left)
-
--- the arc of the size
-magnitude : (c : tie.After-twice-arc) → c .twice-arc .result ≡ twiceArc (fabs (c .before .before .before .before .before .args .x))
-magnitude c = c .twice-arc .ensures ∙ ap twiceArc (c .before .widen2 .ensures ∙ c .before .before .before .before .abs .ensures)
-
 returns : tie.Need-returns
-unfolding asin
+unfolding asin ofBits
 returns c =
     let t = c .before .before .before in
-    rw (inside (t .before), small t) (c .narrow .ensures ∙ ap narrow (c .before .arc .ensures ∙ ap arc (c .before .before .widen .ensures)))
+    let s = t .before .before in
+    rw (sized (s .before .args .x) one64 (s .abs .ensures) (t .before .if1 .taken), sized (s .before .args .x) half (s .abs .ensures) (t .if2 .taken))
+    (c .narrow .ensures ∙ ap narrow (c .before .arc .ensures ∙ ap arc (c .before .before .widen .ensures)))
+
+-- above a half: π/2 less the arc of the size, with the argument's sign
+above : (c : tie.After-twice-arc) {b : Bool} {r : Float} → lt (c .before .before .before .before .before .args .x) (ofBits binary64 0) ≡ b
+    → r ≡ narrow (cond b (neg (sub binary64 halfPi (c .twice-arc .result))) (sub binary64 halfPi (c .twice-arc .result)))
+    → r ≡ asin (c .before .before .before .before .before .args .x)
+unfolding asin ofBits
+above c {b} t h =
+    let l = c .before .before in
+    let s = l .before .before in
+    let x = s .before .args .x in
+    rw (sized x one64 (s .abs .ensures) (l .before .if1 .taken), sized x half (s .abs .ensures) (l .if2 .left), t)
+    (h ∙ ap (λ (v : Float). narrow (cond b (neg (sub binary64 halfPi v)) (sub binary64 halfPi v)))
+    (c .twice-arc .ensures ∙ ap twiceArc (c .before .widen2 .ensures ∙ s .abs .ensures)))
 
 returns-2 : tie.Need-returns-2
-unfolding asin ofBits
-returns-2 c =
-    let t = c .before .before in
-    let l = t .before .before in
-    rw (inside (l .before), large l, c .before .if3 .taken) (c .narrow2 .ensures ∙ ap (λ (v : Float). narrow (neg (sub binary64 halfPi v))) (magnitude t))
+unfolding ofBits
+returns-2 c = above (c .before .before) (c .before .if3 .taken) (c .narrow2 .ensures)
 
 returns-3 : tie.Need-returns-3
-unfolding asin ofBits
-returns-3 c =
-    let t = c .before .before in
-    let l = t .before .before in
-    rw (inside (l .before), large l, c .before .if3 .left) (c .narrow3 .ensures ∙ ap (λ (v : Float). narrow (sub binary64 halfPi v)) (magnitude t))
+unfolding ofBits
+returns-3 c = above (c .before .before) (c .before .if3 .left) (c .narrow3 .ensures)
 
 returns-4 : tie.Need-returns-4
 unfolding asin div ofBits
-returns-4 c = rw (outside c)
+returns-4 c = beyond (c .before .before .args .x) one64 (c .before .abs .ensures) _ (c .if1 .left)
 
 pub asin-spec : {M : Type 1} → statement M
 asin-spec =

@@ -1,31 +1,24 @@
--- `trig::cos` meets its contract: its steps are the definition's. Assumes nothing.
-use mathlib.Core.Path.{_≡_, refl, sym, _∙_, ap, subst}
-use mathlib.Core.Bool.{true, false}
+-- `trig::cos`: up to a size of 8 the cosine's series is taken of the widened argument's square, and narrowed; beyond it the result is NaN. Assumes nothing.
+use mathlib.Core.Path.{_∙_, ap}
 use borrow.Author.Needs.{needs}
-use lib.Ieee.{Float, binary64, nan, ofBits, le, lt, mul, sub, div, neg}
-use Rattle.ieee.specs.Choose.{fabs}
+use lib.Ieee.{Float, binary64, ofBits, mul, div}
 use Rattle.ieee.specs.Narrow.{narrow}
 use Rattle.trig.specs.Series.{series}
 use Rattle.trig.specs.Trig.{cos, eight}
+use Rattle.trig.proofs.Sizes.{within, beyond}
 use Rattle.trig.proofs.cos.Statement.{statement}
 use Rattle.trig.proofs.cos.Tie as tie
 
--- the test, of the argument's size
-near : (c : tie.Then1) → le (fabs (c .before .before .args .x)) eight ≡ true
-unfolding ofBits
-near c = subst (λ (v : Float). le v eight ≡ true) (c .before .abs .ensures) (c .if1 .taken)
-
-far : (c : tie.Else1) → le (fabs (c .before .before .args .x)) eight ≡ false
-unfolding ofBits
-far c = subst (λ (v : Float). le v eight ≡ false) (c .before .abs .ensures) (c .if1 .left)
-
 returns : tie.Need-returns
-unfolding cos
-returns c = rw (near (c .before .before .before)) (c .narrow .ensures ∙ ap narrow (c .before .series .ensures ∙ ap (λ (w : Float). series 1 (mul binary64 w w)) (c .before .before .widen .ensures)))
+unfolding cos ofBits
+returns c =
+    let t = c .before .before .before in
+    within (t .before .before .args .x) eight (t .before .abs .ensures) (t .if1 .taken)
+    (c .narrow .ensures ∙ ap narrow (c .before .series .ensures ∙ ap (λ (w : Float). series 1 (mul binary64 w w)) (c .before .before .widen .ensures)))
 
 returns-2 : tie.Need-returns-2
 unfolding cos div ofBits
-returns-2 c = rw (far c)
+returns-2 c = beyond (c .before .before .args .x) eight (c .before .abs .ensures) _ (c .if1 .left)
 
 pub cos-spec : {M : Type 1} → statement M
 cos-spec =

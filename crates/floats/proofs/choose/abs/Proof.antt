@@ -1,4 +1,4 @@
--- `floats::choose::abs` meets its contract: a value below zero is negated, a zero becomes +0, any other stays. Assumes nothing.
+-- `floats::choose::abs`: a value below zero is negated, a zero becomes +0, any other stays, a NaN among them. Assumes nothing.
 use lib.Ieee.{binary32, ofBits}
 use Rattle.ieee.specs.ChooseLaws.{abs-below, abs-zero, abs-other}
 use Rattle.floats.proofs.choose.abs.Statement.{statement}

@@ -1,4 +1,4 @@
--- `floats::choose::clamp` meets its contract: the tests are the definition's. Assumes nothing.
+-- `floats::choose::clamp`: what the first test leaves is the definition's y, and the second test is made of it. Assumes nothing.
 use mathlib.Core.Path.{_≡_}
 use mathlib.Core.Bool.{cond}
 use mathlib.Core.Logic.{⊎-elim}

@@ -1,21 +1,16 @@
--- `floats::choose::max` meets its contract: the tests are the definition's. Assumes nothing.
-use Rattle.ieee.specs.Choose.{fmax}
-use Rattle.ieee.specs.ChooseLaws.{nan-test}
+-- `floats::choose::max`: only a NaN differs from itself, so the one test of the code parts as the definition's two. Assumes nothing.
+use mathlib.Core.Path.{_≡_}
+use mathlib.Core.Bool.{_||_}
+use mathlib.Core.Logic.{⊎-elim}
+use lib.Ieee.{lt, ne}
+use Rattle.ieee.specs.ChooseLaws.{fmax-tests}
 use Rattle.floats.proofs.choose.max.Statement.{statement}
 use Rattle.floats.proofs.choose.max.Tie as tie
 
-returns : tie.Need-returns
-unfolding fmax
-returns c = rw (nan-test (c .before .args .x), c .if1 .taken)
-
-returns-2 : tie.Need-returns-2
-unfolding fmax
-returns-2 c = rw (nan-test (c .before .before .args .x), c .before .if1 .left, c .if2 .taken)
-
-returns-3 : tie.Need-returns-3
-unfolding fmax
-returns-3 c = rw (nan-test (c .before .before .args .x), c .before .if1 .left, c .if2 .left)
+test : (c : tie.Joined1) → c .if1 .if2 ≡ (ne (c .before .args .x) (c .before .args .x) || lt (c .before .args .x) (c .before .args .y))
+test c = ⊎-elim (λ w. rw (w .1, w .0 .taken)) (λ w. rw (w .1, w .0 .left)) (c .if1 .came)
 
 pub max-spec : {M : Type 1} → statement M
 max-spec =
-    tie.close (tie.spec returns returns-2 returns-3)
+    tie.close (tie.spec (λ c. rw (fmax-tests (c .before .before .args .x) (c .before .before .args .y), ← test (c .before), c .if2 .taken))
+      (λ c. rw (fmax-tests (c .before .before .args .x) (c .before .before .args .y), ← test (c .before), c .if2 .left)))

@@ -1,4 +1,5 @@
--- `floats::narrow::narrow_word` meets its contract: each branch is a case of NarrowLaws. Assumes nothing.
+-- `floats::narrow::narrow_word`: the tests part the magnitudes into too large, normal, too small and subnormal; NarrowLaws says which digits each
+-- keeps. Assumes nothing.
 use Prim.Native.Nat.{_*_, _%_, _^_, _≤_}
 use native.Mathlib.Omega.{arith}
 use borrow.Author.Needs.{needs}
@@ -14,17 +15,22 @@ normal-kept : (c : tie.After-shifted-to-even) → c .shifted-to-even .result ≤
 normal-kept c = rw (c .shifted-to-even .ensures) (normal-room (c .before .before .before .before .args .w % 2 ^ 63) (c .before .before .if2 .left))
 
 subnormal-kept : (c : tie.After-shifted-to-even2) → c .shifted-to-even2 .result ≤ 2 ^ 23
-subnormal-kept c = rw (c .shifted-to-even2 .ensures) (subnormal-room (c .before .before .before .before .before .args .w % 2 ^ 63) (c .before .before .if3 .left))
+subnormal-kept c =
+    rw (c .shifted-to-even2 .ensures) (subnormal-room (c .before .before .before .before .before .args .w % 2 ^ 63) (c .before .before .if3 .left))
 
 returns : tie.Need-returns
 unfolding narrow toBits
 returns c = rw (nan-bits binary64 (c .before .args .w) (c .if1 .taken))
 
 returns-3 : tie.Need-returns-3
-returns-3 c = rw (c .shifted-to-even .ensures) (narrow-normal (c .before .before .before .before .args .w) (omega arith) (c .before .if3 .taken) (c .before .before .if2 .left))
+returns-3 c =
+    let s = c .before .before in
+    rw (c .shifted-to-even .ensures) (narrow-normal (s .before .before .args .w) (omega arith) (c .before .if3 .taken) (s .if2 .left))
 
 returns-5 : tie.Need-returns-5
-returns-5 c = rw (c .shifted-to-even2 .ensures) (narrow-subnormal (c .before .before .before .before .before .args .w) (omega arith) (c .before .if4 .left) (c .before .before .if3 .left))
+returns-5 c =
+    let s = c .before .before in
+    rw (c .shifted-to-even2 .ensures) (narrow-subnormal (s .before .before .before .args .w) (omega arith) (c .before .if4 .left) (s .if3 .left))
 
 pub narrow-word-spec : {M : Type 1} → statement M
 narrow-word-spec =

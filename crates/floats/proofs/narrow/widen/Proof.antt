@@ -1,4 +1,4 @@
--- `floats::narrow::widen` meets its contract: an f32 that is no NaN is an f64. Assumes nothing.
+-- `floats::narrow::widen`: a NaN is made anew, and any other f32 is an f64 as it stands. Assumes nothing.
 use borrow.Author.Needs.{needs}
 use mathlib.Core.Path.{sym, subst}
 use mathlib.Core.Bool.{not}

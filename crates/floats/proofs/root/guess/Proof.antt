@@ -1,4 +1,4 @@
--- `floats::root::guess` meets its contract: half of n is a whole number that an f64 holds. Assumes nothing.
+-- `floats::root::guess`: half of n is a whole number that an f64 holds, and the result is cut to 27 bits, however near it is. Assumes nothing.
 use Prim.Native.Nat.{_/_, _^_}
 use native.Mathlib.Omega.{arith}
 use borrow.Author.Needs.{needs}

@@ -1,4 +1,4 @@
--- `floats::root::halving_root` meets its contract: the root lies from `low` up to `low + range`, and the range falls to 1. Assumes nothing.
+-- `floats::root::halving_root`: the root lies from `low` up to `low + range`, and the range falls to 1. Assumes nothing.
 use Prim.Native.Nat.{ℕ, suc, _+_, _-_, _*_, _/_, _^_, _≤_, _<_}
 use mathlib.Core.Path.{_≡_, subst}
 use native.Mathlib.Nat.{mul-le-mul}
@@ -23,13 +23,16 @@ square-fits : (k : ℕ) → k ≤ 2 ^ 27 → k * k < 2 ^ 64
 square-fits k h = omega (arith, mul-le-mul h h)
 
 loop-again : tie.Need-loop-again Inv-loop μ-loop
-loop-again c = (c .if1 .taken, same-end (c .before .before .before .args .n) (c .before .before .loop .low) (c .before .before .loop .range) (c .before .before .loop .inv .1), omega arith, omega arith)
+loop-again c =
+    let at = c .before .before .loop in
+    (c .if1 .taken, same-end (c .before .before .before .args .n) (at .low) (at .range) (at .inv .1), omega arith, omega arith)
 
 returns : tie.Need-returns Inv-loop μ-loop
 returns c =
     let at = c .before .loop in
     let one : at .low + at .range ≡ suc (at .low) = omega arith in
-    root-unique (c .before .before .args .n) (at .low) (record { at-most = at .inv .0; below = subst (λ (z : ℕ). c .before .before .args .n < z * z) one (at .inv .1) })
+    let n = c .before .before .args .n in
+    root-unique n (at .low) (record { at-most = at .inv .0; below = subst (λ (z : ℕ). n < z * z) one (at .inv .1) })
 
 pub halving-root-spec : {M : Type 1} → statement M
 halving-root-spec =

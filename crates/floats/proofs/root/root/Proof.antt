@@ -1,9 +1,10 @@
--- `floats::root::root` meets its contract: each number that it returns has been seen to be the root. Assumes nothing.
+-- `floats::root::root`: a number whose square is at most n, and whose next number's is above n, is the root, wherever it came from. Assumes nothing.
 use Prim.Native.Nat.{ℕ, zero, suc, _-_, _*_, _^_, _≤_, _<_}
 use mathlib.Core.Path.{_≡_}
 use native.Mathlib.Nat.{mul-le-mul}
 use native.Mathlib.Omega.{arith}
 use borrow.Author.Needs.{needs}
+use borrow.Author.Tests.{leb-true}
 use Rattle.ieee.specs.SqrtLaws.{root-unique}
 use Rattle.floats.proofs.root.root.Statement.{statement}
 use Rattle.floats.proofs.root.root.Tie as tie
@@ -18,21 +19,23 @@ positive : (k n : ℕ) → n < k * k → 1 ≤ k
 positive zero n h = absurd (omega arith)
 positive (suc k) n h = omega arith
 
+above : (c : tie.Then3) → 1 ≤ c .before .before .guess .result
+above c = positive (c .before .before .guess .result) (c .before .before .before .args .n) (c .if3 .taken)
+
 returns : tie.Need-returns
 returns c =
-    let q = c .before .before .guess .result in
-    root-unique (c .before .before .before .args .n) q (record { at-most = c .before .if1 .taken; below = omega arith })
+    let g = c .before .before in
+    root-unique (g .before .args .n) (g .guess .result) (record { at-most = c .before .if1 .taken; below = omega (arith, leb-true) })
 
 returns-2 : tie.Need-returns-2
 returns-2 c =
-    let q = c .before .before .guess .result in
-    let n = c .before .before .before .args .n in
-    let e : suc (q - 1) ≡ q = omega (arith, positive q n (c .before .if1 .left)) in
-    root-unique n (q - 1) (record { at-most = c .if3 .taken; below = rw e (c .before .if1 .left) })
+    let g = c .before .before .before in
+    let e : suc (g .guess .result - 1) ≡ g .guess .result = omega (arith, above (c .before)) in
+    root-unique (g .before .args .n) (g .guess .result - 1) (record { at-most = leb-true _ _ (c .if4 .taken); below = rw e (c .before .if3 .taken) })
 
 pub root-spec : {M : Type 1} → statement M
 root-spec =
-    tie.close (tie.spec (λ c κs. search needs) (λ c. omega (arith, square-fits (c .guess .result) (c .guess .ensures))) (λ c. search needs)
-      returns (λ c. positive (c .before .guess .result) (c .before .before .args .n) (c .if1 .left))
-      (λ c. omega (arith, square-fits (c .before .guess .result - 1) (omega (arith, c .before .guess .ensures)))) returns-2
-      (λ c κs. search needs) (λ c. search needs))
+    tie.close (tie.spec (λ c κs. search needs) (λ c. omega (arith, square-fits (c .guess .result) (c .guess .ensures))) (λ c. search needs) returns
+      (λ c. above c) (λ c. above c)
+      (λ c. omega (arith, square-fits (c .before .before .guess .result - 1) (omega (arith, c .before .before .guess .ensures)))) (λ c. above (c .before))
+      returns-2 (λ c κs. search needs) (λ c. search needs))

@@ -1,4 +1,4 @@
--- `floats::root::sticky_root` meets its contract. Assumes nothing.
+-- `floats::root::sticky_root`: the root's square is n, or the root leaves a rest; both are cases of `sticky`. Assumes nothing.
 use Prim.Native.Nat.{_^_, _<_}
 use native.Mathlib.Omega.{arith}
 use borrow.Author.Needs.{needs}

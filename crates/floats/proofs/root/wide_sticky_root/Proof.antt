@@ -1,4 +1,5 @@
--- `floats::root::wide_sticky_root` meets its contract: the three branches are SqrtWords' three ways. Assumes nothing.
+-- `floats::root::wide_sticky_root`: what the upper half leaves, over twice the upper half, is the lower half or one more, and the rest of that
+-- division says which. Assumes nothing.
 use Prim.Native.Nat.{ℕ, _-_, _*_, _/_, _%_, _^_, _≤_, _<_}
 use native.Mathlib.Nat.{mul-le-mul}
 use native.Mathlib.Omega.{arith}
@@ -47,7 +48,9 @@ returns c = wide-exact (c .before .before .args .n) (c .before .root .result) (2
 
 returns-2 : tie.Need-returns-2
 unfolding lower over whole-root
-returns-2 c = wide-below (c .before .before .before .args .n) (c .before .before .root .result) (2 ^ 27) (halves (c .before .before) .upper) (wide (c .before .before)) (lit< tt) (c .if2 .taken)
+returns-2 c =
+    let r = c .before .before in
+    wide-below (r .before .args .n) (r .root .result) (2 ^ 27) (halves r .upper) (wide r) (lit< tt) (c .if2 .taken)
 
 returns-3 : tie.Need-returns-3
 unfolding lower over whole-root

@@ -1,4 +1,4 @@
--- `floats::shift::power` meets its contract. Assumes nothing.
+-- `floats::shift::power`: a one shifted by less than the width loses nothing. Assumes nothing.
 use borrow.Author.Needs.{needs}
 use Rattle.ieee.specs.Patterns.{one-shifted}
 use Rattle.floats.proofs.shift.power.Statement.{statement}

@@ -1,5 +1,4 @@
--- `floats::shift::shifted_to_even` meets its contract: half a unit less one, and one more where the last digit kept is odd, carries exactly where it
--- should. Assumes nothing.
+-- `floats::shift::shifted_to_even`: half a unit less one, and one more where the last digit kept is odd, carries exactly where it should. Assumes nothing.
 use Prim.Native.Nat.{_-_, _*_, _%_, _^_, _<_}
 use mathlib.Core.Path.{_≡_}
 use native.Mathlib.Omega.{arith}

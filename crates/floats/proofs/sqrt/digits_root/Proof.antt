@@ -1,4 +1,4 @@
--- `floats::sqrt::digits_root` meets its contract: SqrtWords' pattern of a root, with two digits to spare. Assumes nothing.
+-- `floats::sqrt::digits_root`: the root of the normalised digits has three digits more than f32 keeps, and one rounding drops them. Assumes nothing.
 use Prim.Native.Nat.{ℕ, _+_, _*_, _^_, _≤_, _<_}
 use mathlib.Core.Path.{_≡_, ap, _∙_}
 use native.Mathlib.Omega.{arith}

@@ -1,4 +1,5 @@
--- `floats::sqrt::digits_root64` meets its contract: SqrtWords' pattern of a root, of 54 digits more and with none to spare. Assumes nothing.
+-- `floats::sqrt::digits_root64`: with 54 zeros behind the normalised digits the root has one digit more than f64 keeps, and one rounding drops it.
+-- Assumes nothing.
 use Prim.Native.Nat.{ℕ, _+_, _-_, _*_, _^_, _≤_, _<_}
 use mathlib.Core.Path.{_≡_, ap, _∙_, sym}
 use native.Mathlib.Nat.{mul-le-mul-right, mul-lt-mul-of-pos-right, mul-assoc, zero-add}
@@ -27,7 +28,8 @@ kept c = c .shifted-to-even .ensures ∙ ap (λ (z : ℕ). closest z (2 ^ 2)) (c
 kept-le : (c : tie.After-shifted-to-even) → c .shifted-to-even .result ≤ 2 ^ 53
 kept-le c =
     let s = c .before .before .normalised in
-    rw (kept c) (root-kept binary64 0 (s .result .half - 27) (s .result .digits * 2 ^ 54) (from (s .result .digits) (s .ensures .1 .0)) (to (s .result .digits) (s .ensures .1 .1 .0)))
+    let n = s .result .digits in
+    rw (kept c) (root-kept binary64 0 (s .result .half - 27) (n * 2 ^ 54) (from n (s .ensures .1 .0)) (to n (s .ensures .1 .1 .0)))
 
 shifted-to-even-requires : tie.Need-shifted-to-even-requires
 shifted-to-even-requires c κs =
@@ -41,7 +43,8 @@ returns c =
     let t = s .result .half - 27 in
     let n = s .result .digits in
     let h : 27 + t ≡ s .result .half = omega arith in
-    let e : n * 2 ^ 54 * 4 ^ t ≡ c .before .before .before .args .d * 2 ^ c .before .before .before .args .e = mul-assoc n (2 ^ 54) (4 ^ t) ∙ ap (λ (z : ℕ). n * z) (sym (pow-add 4 27 t) ∙ ap (λ (z : ℕ). 4 ^ z) h) ∙ s .ensures .0 in
+    let e : n * 2 ^ 54 * 4 ^ t ≡ c .before .before .before .args .d * 2 ^ c .before .before .before .args .e =
+    mul-assoc n (2 ^ 54) (4 ^ t) ∙ ap (λ (z : ℕ). n * z) (sym (pow-add 4 27 t) ∙ ap (λ (z : ℕ). 4 ^ z) h) ∙ s .ensures .0 in
     ap (λ (z : ℕ). t * 2 ^ 52 + z) (kept c)
     ∙ ap (λ (z : ℕ). z * 2 ^ 52 + closest (sticky (n * 2 ^ 54)) (2 ^ 2)) (sym (zero-add t))
     ∙ root-pattern binary64 0 t (n * 2 ^ 54) (from n (s .ensures .1 .0)) (to n (s .ensures .1 .1 .0)) (omega arith)

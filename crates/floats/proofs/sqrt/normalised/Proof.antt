@@ -1,4 +1,4 @@
--- `floats::sqrt::normalised` meets its contract: the leading zeros say how far the digits can be shifted. Assumes nothing.
+-- `floats::sqrt::normalised`: the leading zeros say how far the digits can be shifted. Assumes nothing.
 use Prim.Native.Nat.{ℕ, _-_, _*_, _%_, _^_, _≤_, _<_}
 use mathlib.Core.Path.{_≡_, subst, sym}
 use mathlib.Core.Logic.{⊎-elim}
@@ -35,7 +35,8 @@ record Bounds (n : ℕ) : Type 0 where
 bounds : (c : tie.Start) → Bounds (last c)
 bounds c =
     let n = found c in
-    ⊎-elim (λ e. subst Bounds (sym e) (record { from = n .from; to = omega arith })) (λ e. subst Bounds (sym e) (record { from = omega arith; to = omega arith }))
+    ⊎-elim (λ e. subst Bounds (sym e) (record { from = n .from; to = omega arith }))
+    (λ e. subst Bounds (sym e) (record { from = omega arith; to = omega arith }))
     (once-more (digits c) (c .args .e - shift c))
 
 twice-shifted : (c : tie.Start) → last c % 2 ^ 64 ≡ last c

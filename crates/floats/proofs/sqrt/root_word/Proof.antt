@@ -1,4 +1,4 @@
--- `floats::sqrt::root_word` meets its contract: 1 is its own root. Assumes nothing.
+-- `floats::sqrt::root_word`: 1 is its own root, and any other word goes the common way. Assumes nothing.
 use mathlib.Core.Path.{_≡_, refl}
 use lib.Ieee.{binary32, ofBits, toBits}
 use Rattle.ieee.specs.Sqrt.{sqrt}

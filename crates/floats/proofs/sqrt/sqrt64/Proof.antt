@@ -1,22 +1,14 @@
--- `floats::sqrt::sqrt64` meets its contract: the word that is read back is that of the root. Assumes nothing.
-use Prim.Native.Nat.{ℕ}
-use mathlib.Core.Path.{_∙_, ap, sym, subst}
+-- `floats::sqrt::sqrt64`: the word that is read back is that of the root, which the format holds. Assumes nothing.
 use borrow.Author.Needs.{needs}
-use lib.Dec.{T}
-use lib.Ieee.{binary64, ofBits, toBits}
-use Rattle.ieee.specs.Patterns.{by-words}
-use Rattle.ieee.specs.Sqrt.{sqrt}
+use lib.Ieee.{binary64}
 use Rattle.ieee.specs.FormatLaws.{sqrt-fits}
+use Rattle.ieee.specs.Patterns.{through-words}
+use Rattle.ieee.specs.Sqrt.{sqrt}
 use Rattle.floats.proofs.sqrt.sqrt64.Statement.{statement}
 use Rattle.floats.proofs.sqrt.sqrt64.Tie as tie
 
-returns : tie.Need-returns
-returns c =
-    let start = c .before .before .before in
-    c .f64-of-word .ensures
-    ∙ ap (ofBits binary64) (c .before .sqrt64-word .ensures ∙ ap (λ (w : ℕ). toBits binary64 (sqrt binary64 (ofBits binary64 w))) (c .before .before .word-of-f64 .ensures))
-    ∙ by-words binary64 binary64 (sqrt binary64) (start .args .x) (start .good .0 .1) (sqrt-fits binary64 (start .args .x) (subst T (sym (start .good .0 .1)) tt))
-
 pub sqrt64-spec : {M : Type 1} → statement M
 sqrt64-spec =
-    tie.close (tie.spec (λ c κs. search needs) (λ c κs. search needs) (λ c κs. search needs) returns)
+    tie.close (tie.spec (λ c κs. search needs) (λ c κs. search needs) (λ c κs. search needs) (λ c. let s = c .before .before .before in
+      through-words binary64 binary64 (sqrt binary64) (s .args .x) _ _ _ (s .good .0 .1) (sqrt-fits binary64 (s .args .x))
+      (c .before .before .word-of-f64 .ensures) (c .before .sqrt64-word .ensures) (c .f64-of-word .ensures)))

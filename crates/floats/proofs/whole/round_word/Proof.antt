@@ -1,4 +1,5 @@
--- `floats::whole::round_word` meets its contract: each branch is a case of WholeWords. Assumes nothing.
+-- `floats::whole::round_word`: adding half the weight of a one and cutting the fraction off rounds halves away from zero; each range of magnitudes
+-- is a case of WholeWords. Assumes nothing.
 use Prim.Native.Nat.{_+_, _-_, _%_, _/_, _^_, _≤_}
 use native.Mathlib.Nat.{mod-le}
 use native.Mathlib.Omega.{arith}
@@ -31,7 +32,8 @@ sub-result : tie.Need-sub-result
 sub-result c = mod-le (c .before .before .before .before .args .w % 2 ^ 31 + c .power .result / 2) (c .power .result)
 
 returns-5 : tie.Need-returns-5
-returns-5 c = rw (c .power .ensures) (roundAway-part (c .before .before .before .before .args .w) (omega arith) (c .before .if3 .left) (c .before .before .if2 .left))
+returns-5 c =
+    rw (c .power .ensures) (roundAway-part (c .before .before .before .before .args .w) (omega arith) (c .before .if3 .left) (c .before .before .if2 .left))
 
 pub round-word-spec : {M : Type 1} → statement M
 round-word-spec =
