@@ -129,7 +129,8 @@ fn write_union(a: LightBounds, b: LightBounds, out: &mut [u32]) -> u32
 #[no_mangle]
 pub extern "C" fn bounds_union(a: &[u32], b: &[u32], out: &mut [u32]) -> u32
     ensures { λ r. ⌜ r ≡ code (unionWords (now (a .entry)) (now (b .entry)) (length (now (out .entry)))) ⌝ }
-    ensures { λ _. ⌜ now (out .exit) ≡ tray recordList recordWords (unionWords (now (a .entry)) (now (b .entry)) (length (now (out .entry)))) (now (out .entry)) ⌝ }
+    ensures { λ _. ⌜ now (out .exit) ≡ tray recordList recordWords (unionWords (now (a .entry)) (now (b .entry)) (length (now (out .entry))))
+        (now (out .entry)) ⌝ }
 {
     match read_record(a, 0) {
         Found::Record(first) => match read_record(b, 0) {

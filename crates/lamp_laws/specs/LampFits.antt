@@ -23,7 +23,9 @@ use Rattle.light_bounds.specs.declared.bounds.Bounds3.{Bounds3}
 use Rattle.light_bounds.specs.declared.light_bounds.LightBounds.{LightBounds}
 use Rattle.light_bounds.specs.declared.vecmath.Vec3.{Vec3}
 use Rattle.lamps.specs.Build.{boundsOf, allBounds}
-use Rattle.lamps.specs.LampBounds.{nearlyOne, pointBox, pointPhi, groupPhi, validateEmission, checked, pointBounds, tooNarrow, falloff, spotRecord, spotBounds, noArea, triangleBounds, triangleAt, facedRecord, triangleRecord, joinNext, unionFrom, groupBounds, lightBoundsForInput}
+use Rattle.lamps.specs.LampBounds.{nearlyOne, pointBox, pointPhi, groupPhi, validateEmission, checked, pointBounds, tooNarrow, falloff, spotRecord}
+use Rattle.lamps.specs.LampBounds.{spotBounds, noArea, triangleBounds, triangleAt, facedRecord, triangleRecord, joinNext, unionFrom, groupBounds}
+use Rattle.lamps.specs.LampBounds.{lightBoundsForInput}
 use Rattle.lamps.specs.LampList.{pointWords, spotWords, groupWords, triangleWords, groupFits, lampAt, lampsFrom, trianglesOf}
 use Rattle.lamps.specs.declared.lamp_bounds.AreaTriangleInput.{AreaTriangleInput}
 use Rattle.lamps.specs.declared.lamp_list.Lamp.{Lamp}
@@ -79,7 +81,8 @@ falloff-fits cosO cosEnd =
     let e = cos (acos cosEnd ⊖ acos cosO) in
     cond-fits binary32 (tooNarrow e cosO cosEnd) nearlyOne e (single-fits 0x3f7f_be77) (cos-fits _)
 
-spot-fits : (p d : Vec3) (intensity scale cosO cosEnd : Float) → VecFits p → T (fits binary32 cosO) → Gives RecordFits (spotBounds p d intensity scale cosO cosEnd)
+spot-fits : (p d : Vec3) (intensity scale cosO cosEnd : Float) → VecFits p → T (fits binary32 cosO) → Gives RecordFits
+    (spotBounds p d intensity scale cosO cosEnd)
 unfolding spotBounds spotRecord
 spot-fits p d intensity scale cosO cosEnd h o =
     gives-then (gives-any (validateEmission intensity scale))

@@ -22,7 +22,8 @@ use Rattle.light_bounds.specs.RecordLaws.{RecordFits, reread}
 use Rattle.light_bounds.specs.RecordWords.{recordWords, vecAt, boxAt, readRecord, recordList, sideKnown, sideOf, sideWord, sidePlace}
 use Rattle.light_bounds.specs.declared.light_bounds.LightBounds.{LightBounds}
 use Rattle.light_bounds.proofs.RecordPlaces.{recordAt-found}
-use Rattle.lamps.specs.Block.{boundsWords, boundsRow, blockWords, packExhaustiveBounds, handlePlace, recordPlace, sideAt, handleAt, blockLayout, blockHandles, blockCheck, blockRecord}
+use Rattle.lamps.specs.Block.{boundsWords, boundsRow, blockWords, packExhaustiveBounds, handlePlace, recordPlace, sideAt, handleAt, blockLayout}
+use Rattle.lamps.specs.Block.{blockHandles, blockCheck, blockRecord}
 use Rattle.lamps.specs.Build.{boundsOf, allBounds, buildLightBounds}
 use Rattle.lamps.specs.LampList.{lampList}
 use Rattle.lamps.specs.declared.lamp_list.Reading.{Reading}
@@ -52,7 +53,8 @@ accepted-length ws [] (b ∷ bs) h = absurd h
 accepted-length ws (r ∷ rs) [] h = absurd h
 accepted-length ws (r ∷ rs) (b ∷ bs) h = ap suc (accepted-length ws rs bs (h .1))
 
-pub accepted-list : (ws : List ℕ) (room : ℕ) (rs : List Reading) (bs : List LightBounds) → lampList ws ≡ given rs → Accepted ws rs bs → blockWords (getD ws 0 0) ≤ room
+pub accepted-list : (ws : List ℕ) (room : ℕ) (rs : List Reading) (bs : List LightBounds) → lampList ws ≡ given rs → Accepted ws rs bs → blockWords
+    (getD ws 0 0) ≤ room
     → (buildLightBounds ws room ≡ given bs) × (length bs ≡ getD ws 0 0)
 unfolding buildLightBounds _then_
 accepted-list ws room rs bs read h enough =
@@ -118,7 +120,8 @@ block-at bs i d h =
     let e : 0 + i ≡ i = omega arith in
     let e′ : handlePlace i ≡ suc (boundsWords * i) = omega arith in
     (rowsFrom boundsRow (suc (0 + i)) (drop (suc i) bs),
-    rw e′ (row-at boundsRow boundsWords row-width 0 i bs d h ∙ ap (λ (j : ℕ). boundsRow j (getD bs i d) ++ rowsFrom boundsRow (suc (0 + i)) (drop (suc i) bs)) e))
+    rw e′ (row-at boundsRow boundsWords row-width 0 i bs d h ∙ ap
+        (λ (j : ℕ). boundsRow j (getD bs i d) ++ rowsFrom boundsRow (suc (0 + i)) (drop (suc i) bs)) e))
 
 -- ---- a block read back
 
@@ -178,7 +181,8 @@ layout-is ws m e = uncrowded (crowded ws) e
     halves true b e = (refl, e)
     halves false b e = absurd (subst T (sym e) tt)
 
-    laid : (a b : Bool) → eqb (length ws) (blockWords (getD ws 0 0)) ≡ a → below (sideAt ws) (getD ws 0 0) ≡ b → cond (a && b) (given (getD ws 0 0)) (refused 1) ≡ given m
+    laid : (a b : Bool) → eqb (length ws) (blockWords (getD ws 0 0)) ≡ a → below (sideAt ws) (getD ws 0 0) ≡ b → cond (a && b) (given (getD ws 0 0))
+        (refused 1) ≡ given m
         → (length ws ≡ blockWords m) × (below (sideAt ws) m ≡ true)
     laid true true ea eb e =
         let is : getD ws 0 0 ≡ m = given-injective e in
@@ -186,7 +190,8 @@ layout-is ws m e = uncrowded (crowded ws) e
     laid true false ea eb e = absurd (not-both e refl)
     laid false b ea eb e = absurd (not-both e refl)
 
-    uncrowded : (c : Bool) → cond c (refused 2) (cond (eqb (length ws) (blockWords (getD ws 0 0)) && below (sideAt ws) (getD ws 0 0)) (given (getD ws 0 0)) (refused 1)) ≡ given m
+    uncrowded : (c : Bool) → cond c (refused 2) (cond (eqb (length ws) (blockWords (getD ws 0 0)) && below (sideAt ws) (getD ws 0 0))
+        (given (getD ws 0 0)) (refused 1)) ≡ given m
         → (length ws ≡ blockWords m) × (below (sideAt ws) m ≡ true)
     uncrowded true e = absurd (not-both e refl)
     uncrowded false e = laid (eqb (length ws) (blockWords (getD ws 0 0))) (below (sideAt ws) (getD ws 0 0)) refl refl e
@@ -228,7 +233,8 @@ layout-count ws m e = uncrowded (crowded ws) e
     laid true e = sym (given-injective e)
     laid false e = absurd (not-both e refl)
 
-    uncrowded : (c : Bool) → cond c (refused 2) (cond (eqb (length ws) (blockWords (getD ws 0 0)) && below (sideAt ws) (getD ws 0 0)) (given (getD ws 0 0)) (refused 1)) ≡ given m
+    uncrowded : (c : Bool) → cond c (refused 2) (cond (eqb (length ws) (blockWords (getD ws 0 0)) && below (sideAt ws) (getD ws 0 0))
+        (given (getD ws 0 0)) (refused 1)) ≡ given m
         → m ≡ getD ws 0 0
     uncrowded true e = absurd (not-both e refl)
     uncrowded false e = laid (eqb (length ws) (blockWords (getD ws 0 0)) && below (sideAt ws) (getD ws 0 0)) e
@@ -246,4 +252,5 @@ block-read ws room bs i d e h =
     let (m, layout, handles) = then-given (blockLayout block) (λ _. blockHandles block) (length bs) (accepted-block-checked ws room bs e) in
     let count : m ≡ length bs = layout-count block m layout ∙ count-is bs in
     record-found block m i layout (omega (arith, count, h))
-    ∙ ap given (read-words block stored at words ∙ behind-record (getD bs i d) (block-at bs i d h .0) ∙ reread (getD bs i d) (fit-at bs i d (built-fits ws room bs e) h))
+    ∙ ap given (read-words block stored at words ∙ behind-record (getD bs i d) (block-at bs i d h .0) ∙ reread (getD bs i d)
+        (fit-at bs i d (built-fits ws room bs e) h))

@@ -13,7 +13,8 @@ use Rattle.words.specs.Answers.{Answer, given, refused, _then_, count}
 use Rattle.words.specs.Limits.{maxLamps, crowded}
 use Rattle.words.specs.Heads.{kindOf}
 use Rattle.words.specs.Rows.{gathered}
-use Rattle.words.proofs.AnswerLaws.{Early, Late, only-given, only-refused, only-cond, only-then, only-number, then-given, given-injective, not-both, count-given}
+use Rattle.words.proofs.AnswerLaws.{Early, Late, only-given, only-refused, only-cond, only-then, only-number, then-given, given-injective, not-both}
+use Rattle.words.proofs.AnswerLaws.{count-given}
 use Rattle.words.proofs.LimitLaws.{few-lamps}
 use Rattle.words.proofs.RowLaws.{rows-length}
 use Rattle.light_bounds.specs.LightBounds.{areCosines}
@@ -24,8 +25,10 @@ use Rattle.light_bounds.proofs.LateLaws.{late-box, late-normalize, late-validat
 use Rattle.light_bounds.proofs.RecordPlaces.{length-recordList}
 use Rattle.lamps.specs.Block.{blockWords, boundsWords, boundsRow, packExhaustiveBounds}
 use Rattle.lamps.specs.Build.{allBounds, buildLightBounds}
-use Rattle.lamps.specs.LampBounds.{pointBox, triangleBounds, noArea, emissionBad, validateEmission, checked, pointBounds, spotRecord, spotBounds, facedRecord, triangleAt, triangleRecord, joinNext, unionFrom, groupBounds, lightBoundsForInput}
-use Rattle.lamps.specs.LampList.{pointWords, spotWords, groupWords, triangleWords, lampAt, groupFits, lampsFrom, inPlace, placedLamps, lampList, trianglesOf}
+use Rattle.lamps.specs.LampBounds.{pointBox, triangleBounds, noArea, emissionBad, validateEmission, checked, pointBounds, spotRecord}
+use Rattle.lamps.specs.LampBounds.{spotBounds, facedRecord, triangleAt, triangleRecord, joinNext, unionFrom, groupBounds, lightBoundsForInput}
+use Rattle.lamps.specs.LampList.{pointWords, spotWords, groupWords, triangleWords, lampAt, groupFits, lampsFrom, inPlace, placedLamps, lampList}
+use Rattle.lamps.specs.LampList.{trianglesOf}
 use Rattle.lamps.specs.declared.lamp_bounds.AreaTriangleInput.{AreaTriangleInput}
 use Rattle.lamps.specs.declared.lamp_list.Lamp.{Lamp}
 use Rattle.lamps.specs.declared.lamp_list.Lamp.the-variants.{Point, Spot, AreaGroup}
@@ -65,7 +68,8 @@ late-join : (x : Answer LightBounds) (r : LightBounds) → Late (joinNext x r)
 late-join (given existing) r = late-union existing r
 late-join (refused n) r = only-given
 
-late-unionFrom : (emission scale : Float) (side : Bool) (ts : List ℕ) (i n : ℕ) (x : Answer LightBounds) → Late x → Late (unionFrom emission scale side ts i n x)
+late-unionFrom : (emission scale : Float) (side : Bool) (ts : List ℕ) (i n : ℕ) (x : Answer LightBounds) → Late x → Late
+    (unionFrom emission scale side ts i n x)
 unfolding unionFrom
 late-unionFrom emission scale side ts i zero x h = h
 late-unionFrom emission scale side ts i (suc n) x h =

@@ -45,7 +45,8 @@ fn next_bounds(list: &[u32], cursor: Cursor) -> Next
 // The block of a list: 1 + 14m words, the side last in each record. Refusals 2, 1, 4, 3 leave the lent words as they are, later ones zero 1 + 14m of them.
 pub fn build_light_bounds(list: &[u32], block: &mut [u32]) -> Counted
     ensures { λ r. ⌜ counted r ≡ count (buildLightBounds (now (list .entry)) (length (now (block .entry)))) ⌝ }
-    ensures { λ _. ⌜ now (block .exit) ≡ tray packExhaustiveBounds (blockWords (getD (now (list .entry)) 0 0)) (buildLightBounds (now (list .entry)) (length (now (block .entry)))) (now (block .entry)) ⌝ }
+    ensures { λ _. ⌜ now (block .exit) ≡ tray packExhaustiveBounds (blockWords (getD (now (list .entry)) 0 0))
+        (buildLightBounds (now (list .entry)) (length (now (block .entry)))) (now (block .entry)) ⌝ }
 {
     match check_list(list) {
         Counted::Count(m) => {
@@ -63,7 +64,8 @@ fn write_block(list: &[u32], m: usize, block: &mut [u32]) -> Counted
     requires { ⌜ count (lampList (now list)) ≡ given m ⌝ }
     requires { ⌜ blockWords m ≤ length (now block) ⌝ }
     ensures { λ r. ⌜ counted r ≡ count (buildLightBounds (now (list .entry)) (length (now (block .entry)))) ⌝ }
-    ensures { λ _. ⌜ now (block .exit) ≡ tray packExhaustiveBounds (blockWords (getD (now (list .entry)) 0 0)) (buildLightBounds (now (list .entry)) (length (now (block .entry)))) (now (block .entry)) ⌝ }
+    ensures { λ _. ⌜ now (block .exit) ≡ tray packExhaustiveBounds (blockWords (getD (now (list .entry)) 0 0))
+        (buildLightBounds (now (list .entry)) (length (now (block .entry)))) (now (block .entry)) ⌝ }
 {
     block[0] = m as u32;
     let mut place: usize = 0;

@@ -5,7 +5,8 @@ ghost use Prim.Native.Nat.{_+_, _≤_};
 ghost use lib.Dec.{leb, eqb};
 ghost use lib.ListN.{length, getD};
 ghost use Rattle.words.specs.Answers.{given, refused, count, counted};
-ghost use Rattle.lamps.specs.LampList.{firstLamp, lampAt, step, trianglesOf, handle, pointWords, spotWords, groupWords, groupEnd, groupFits, alone as aloneOf, pointAt, spotAt, groupAt, listSideKnown, lampList, placedLamps};
+ghost use Rattle.lamps.specs.LampList.{firstLamp, lampAt, step, trianglesOf, handle, pointWords, spotWords, groupWords, groupEnd, groupFits};
+ghost use Rattle.lamps.specs.LampList.{alone as aloneOf, pointAt, spotAt, groupAt, listSideKnown, lampList, placedLamps};
 use light_bounds::record_words::vec_at;
 use light_bounds::vecmath::Vec3;
 use words::answers::Counted;
@@ -202,7 +203,8 @@ fn read_spot(list: &[u32], at: usize) -> Reading
 }
 
 fn group_at(list: &[u32], at: usize) -> Step
-    ensures { λ r. ⌜ step r ≡ cond (leb (at + groupWords) (length (now (list .entry))) && groupFits (now (list .entry)) at) (given (groupAt (now (list .entry)) at)) (refused 1) ⌝ }
+    ensures { λ r. ⌜ step r ≡ cond (leb (at + groupWords) (length (now (list .entry))) && groupFits (now (list .entry)) at)
+        (given (groupAt (now (list .entry)) at)) (refused 1) ⌝ }
 {
     if fits(list.len(), at, GROUP_WORDS) {
         return whole_group(list, at);

@@ -13,7 +13,8 @@ use words::answers::counted_code;
 #[no_mangle]
 pub extern "C" fn lamps_build_light_bounds(list: &[u32], block: &mut [u32]) -> u32
     ensures { λ r. ⌜ r ≡ code (buildLightBounds (now (list .entry)) (length (now (block .entry)))) ⌝ }
-    ensures { λ _. ⌜ now (block .exit) ≡ tray packExhaustiveBounds (blockWords (getD (now (list .entry)) 0 0)) (buildLightBounds (now (list .entry)) (length (now (block .entry)))) (now (block .entry)) ⌝ }
+    ensures { λ _. ⌜ now (block .exit) ≡ tray packExhaustiveBounds (blockWords (getD (now (list .entry)) 0 0))
+        (buildLightBounds (now (list .entry)) (length (now (block .entry)))) (now (block .entry)) ⌝ }
 {
     counted_code(build_light_bounds(list, block))
 }

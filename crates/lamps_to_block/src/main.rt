@@ -1,5 +1,5 @@
-// A lamp list on standard input, its bounds block on standard output: little-endian words in, little-endian words out; or `refused N` and a line's end. Bytes that
-// are no whole word make the list ragged (1), unless it is over the limits (2).
+// A lamp list on standard input, its bounds block on standard output: little-endian words in, little-endian words out; or `refused N` and a line's
+// end. Bytes that are no whole word make the list ragged (1), unless it is over the limits (2).
 ghost use Prim.Native.Nat.{_≤_};
 ghost use lib.ListN.{length};
 use lamps::block::EXHAUSTIVE_BOUNDS_WORDS;

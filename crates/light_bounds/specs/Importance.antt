@@ -1,5 +1,5 @@
--- The importance of a record for a point and a normal, step by step as `importance` of `light_bounds.rs` has it. The power enters in the last step alone (`finish`).
--- Definitions only. Assumes nothing.
+-- The importance of a record for a point and a normal, step by step as `importance` of `light_bounds.rs` has it. The power enters in the last step
+-- alone (`finish`). Definitions only. Assumes nothing.
 use mathlib.Core.Bool.{Bool, cond, _&&_}
 use lib.Ieee.{Float, le, eq}
 use Rattle.ieee.specs.Choose.{fmax, fabs}

@@ -1,6 +1,7 @@
 // Boxes (specs/Boxes.antt).
 ghost use mathlib.Core.Path.{_≡_};
-ghost use Rattle.light_bounds.specs.Bounds.{boxCheck, finiteBox, inverted, boxUnion, diagonal as diagonalOf, centroid as centroidOf, surfaceArea, leastOf, greatestOf, validity};
+ghost use Rattle.light_bounds.specs.Bounds.{boxCheck, finiteBox, inverted, boxUnion, diagonal as diagonalOf, centroid as centroidOf};
+ghost use Rattle.light_bounds.specs.Bounds.{surfaceArea, leastOf, greatestOf, validity};
 use super::vecmath::Vec3;
 use super::vecmath::is_finite_vec;
 use floats::choose::max;

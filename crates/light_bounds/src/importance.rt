@@ -1,7 +1,9 @@
 // The importance of a record for a point and a normal (specs/Importance.antt), as pbrt-r4's LightBounds has it.
 ghost use mathlib.Core.Path.{_≡_};
 ghost use Rattle.light_bounds.specs.Cones.{cosSubClamped};
-ghost use Rattle.light_bounds.specs.Importance.{importance as importanceOf, weigh as weighOf, checkedImportance, finiteQuery, weight, viewed, finishView, geometry as geometryOf, toward as towardOf, diagonalLength, withNormal, normalFactor, cosP, cosW, sine as sineOf};
+ghost use Rattle.light_bounds.specs.Importance.{importance as importanceOf, weigh as weighOf, checkedImportance, finiteQuery, weight, viewed};
+ghost use Rattle.light_bounds.specs.Importance.{finishView, geometry as geometryOf, toward as towardOf, diagonalLength, withNormal};
+ghost use Rattle.light_bounds.specs.Importance.{normalFactor, cosP, cosW, sine as sineOf};
 use super::bounds::Validity;
 use super::bounds::centroid;
 use super::bounds::diagonal;

@@ -9,7 +9,8 @@ use Rattle.bounds_c.proofs.bounds_validate.Tie as tie
 returns : tie.Need-returns
 unfolding validateWords _then_
 returns c =
-    rw (← c .before .before .before .before .before .read-record .ensures 1, c .before .before .before .whole .given .1) (c .validity-code .ensures ∙ ap code (c .before .validate .ensures))
+    rw (← c .before .before .before .before .before .read-record .ensures 1, c .before .before .before .whole .given .1)
+        (c .validity-code .ensures ∙ ap code (c .before .validate .ensures))
 
 returns-2 : tie.Need-returns-2
 unfolding validateWords _then_

@@ -5,13 +5,10 @@ use borrow.Author.Needs.{needs}
 use Rattle.bounds_c.proofs.weight_code.Statement.{statement}
 use Rattle.bounds_c.proofs.weight_code.Tie as tie
 
-returns : tie.Need-returns
-returns c = rw (c .before .before .answer .given .1) (c .word-of-f32 .ensures)
-
 returns-2 : tie.Need-returns-2
 returns-2 c = rw (c .before .before .answer2 .given .1) (ap (λ (n : ℕ). 0x1_0000_0000 + n) (c .refusal-number .ensures))
 
 pub weight-code-spec : {M : Type 1} → statement M
 weight-code-spec =
     tie.close (tie.spec (λ c. search needs) (λ c κs. search needs) (λ c. search needs) (λ c. search needs) (λ c κs. search needs)
-      (λ c. search needs) (λ c. search needs) returns returns-2)
+      (λ c. search needs) (λ c. search needs) (λ c. rw (c .before .before .answer .given .1) (c .word-of-f32 .ensures)) returns-2)

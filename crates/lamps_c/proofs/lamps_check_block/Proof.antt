@@ -5,8 +5,7 @@ use Rattle.words.specs.Answers.{code}
 use Rattle.lamps_c.proofs.lamps_check_block.Statement.{statement}
 use Rattle.lamps_c.proofs.lamps_check_block.Tie as tie
 
-returns : tie.Need-returns
-returns c = c .counted-code .ensures ∙ ap code (c .before .check-block .ensures)
-
 pub lamps-check-block-spec : {M : Type 1} → statement M
-lamps-check-block-spec = tie.close (tie.spec (λ c κs. search needs) (λ c κs. search needs) returns)
+lamps-check-block-spec =
+    tie.close (tie.spec (λ c κs. search needs) (λ c κs. search needs)
+      (λ c. c .counted-code .ensures ∙ ap code (c .before .check-block .ensures)))

@@ -26,12 +26,14 @@ loop-again : tie.Need-loop-again Inv-loop μ-loop
 loop-again c =
     let loop = c .before .before .before .before .loop in
     (loop .inv .0, omega arith,
-    rw (below-next (sideAt (now (c .before .before .before .before .before .before .args .block))) (loop .i), loop .inv .2, ← c .before .is-side .ensures) (c .if1 .taken))
+    rw (below-next (sideAt (now (c .before .before .before .before .before .before .args .block))) (loop .i), loop .inv .2,
+        ← c .before .is-side .ensures) (c .if1 .taken))
 
 returns : tie.Need-returns Inv-loop μ-loop
 returns c =
     let args = c .before .before .before .before .before .before .args in
-    rw (below-false (sideAt (now (args .block))) (args .m) (c .before .before .before .before .loop .i) (omega arith) (sym (c .before .is-side .ensures) ∙ c .if1 .left))
+    rw (below-false (sideAt (now (args .block))) (args .m) (c .before .before .before .before .loop .i) (omega arith)
+        (sym (c .before .is-side .ensures) ∙ c .if1 .left))
 
 returns-2 : tie.Need-returns-2 Inv-loop μ-loop
 returns-2 c =

@@ -20,10 +20,8 @@ abbrev μ-loop : tie.MeasureT-loop
 
 cast-block : tie.Need-cast-block Inv-loop μ-loop
 cast-block c =
-    let (rs, read, n, is, few) = list-counted (now (c .before .before .args .list)) (c .before .before .args .m) (c .before .before .pre .0) in omega (arith, few)
-
-slice-write-block : tie.Need-slice-write-block Inv-loop μ-loop
-slice-write-block c = omega (arith, c .before .before .pre .1)
+    let (rs, read, n, is, few) = list-counted (now (c .before .before .args .list)) (c .before .before .args .m) (c .before .before .pre .0) in omega
+        (arith, few)
 
 loop-holds : tie.Need-loop-holds Inv-loop μ-loop
 loop-holds c =
@@ -32,30 +30,44 @@ loop-holds c =
     rw (c .new .ensures) (taking-none (now (args .list)) (args .m) (now (args .block)) few (c .before .before .before .pre .1))
 
 same-length : tie.Need-same-length Inv-loop μ-loop
-same-length c = c .before .before .zero-words .kept .0 ∙ c .before .before .before .before .before .before .before .before .before .loop .inv .written .same ∙ length-set (now (c .before .before .before .before .before .before .before .before .before .before .before .before .before .args .block)) 0 (c .before .before .before .before .before .before .before .before .before .before .before .before .before .args .m)
+same-length c = c .before .before .zero-words .kept .0 ∙
+    c .before .before .before .before .before .before .before .before .before .loop .inv .written .same ∙ length-set
+    (now (c .before .before .before .before .before .before .before .before .before .before .before .before .before .args .block)) 0
+    (c .before .before .before .before .before .before .before .before .before .before .before .before .before .args .m)
 
 returns : tie.Need-returns Inv-loop μ-loop
 returns c =
-    let told = sym (c .before .before .before .before .before .before .before .next-bounds .ensures) ∙ ap passed (c .before .before .before .before .before .why .given .1) in
+    let told = sym (c .before .before .before .before .before .before .before .next-bounds .ensures) ∙ ap passed
+        (c .before .before .before .before .before .why .given .1) in
     let (answer, block) =
-    taking-refused (now (c .before .before .before .before .before .before .before .before .before .before .before .before .before .args .block)) (c .before .before .before .before .before .before .before .before .before .loop .inv) (c .before .before .before .before .before .before .before .before .before .before .before .before .before .pre .0) (c .before .before .before .before .before .before .before .before .before .before .before .before .before .pre .1) (number (c .before .before .before .before .before .why .given .0 .0))
+    taking-refused (now (c .before .before .before .before .before .before .before .before .before .before .before .before .before .args .block))
+        (c .before .before .before .before .before .before .before .before .before .loop .inv)
+        (c .before .before .before .before .before .before .before .before .before .before .before .before .before .pre .0)
+        (c .before .before .before .before .before .before .before .before .before .before .before .before .before .pre .1)
+        (number (c .before .before .before .before .before .why .given .0 .0))
     (omega arith) told in
     (answer, c .before .before .zero-words .ensures ∙ block)
 
 loop-again : tie.Need-loop-again Inv-loop μ-loop
 loop-again c =
-    let told = sym (c .before .before .before .before .before .before .before .next-bounds .ensures) ∙ ap passed (c .before .before .before .before .before .«record» .given .1) in
-    rw (c .before .before .write-record .ensures) (taking-next (c .before .before .before .before .before .before .before .before .before .loop .inv) (record { bounds = c .before .before .before .before .before .«record» .given .0 .0; next = c .before .before .before .before .before .«record» .given .0 .1 .0 }) (omega arith) told)
+    let told = sym (c .before .before .before .before .before .before .before .next-bounds .ensures) ∙ ap passed
+        (c .before .before .before .before .before .«record» .given .1) in
+    rw (c .before .before .write-record .ensures)
+        (taking-next (c .before .before .before .before .before .before .before .before .before .loop .inv)
+        (record { bounds = c .before .before .before .before .before .«record» .given .0 .0; next =
+        c .before .before .before .before .before .«record» .given .0 .1 .0 }) (omega arith) told)
 
 same-length-2 : tie.Need-same-length-2 Inv-loop μ-loop
-same-length-2 c = c .before .loop .inv .written .same ∙ length-set (now (c .before .before .before .before .before .args .block)) 0 (c .before .before .before .before .before .args .m)
+same-length-2 c = c .before .loop .inv .written .same ∙ length-set (now (c .before .before .before .before .before .args .block)) 0
+    (c .before .before .before .before .before .args .m)
 
 returns-2 : tie.Need-returns-2 Inv-loop μ-loop
-returns-2 c = taking-all (now (c .before .before .before .before .before .args .block)) (c .before .loop .inv) (c .before .before .before .before .before .pre .0) (c .before .before .before .before .before .pre .1) (omega arith)
+returns-2 c = taking-all (now (c .before .before .before .before .before .args .block)) (c .before .loop .inv)
+    (c .before .before .before .before .before .pre .0) (c .before .before .before .before .before .pre .1) (omega arith)
 
 pub write-block-spec : {M : Type 1} → statement M
 write-block-spec =
-    tie.close (tie.spec Inv-loop μ-loop cast-block slice-write-block (λ c κs. search needs) loop-holds (λ c κs. search needs)
-      (λ c. search needs) (λ c. omega arith) (λ c. omega arith) (λ c. omega arith) (λ c. omega arith) (λ c. omega arith) (λ c. omega arith)
-      (λ c. omega arith) (λ c κs. search needs) (λ c. search needs) (λ c. omega arith) (λ c. omega arith) (λ c κs. search needs) same-length
-      returns (λ c. omega arith) (λ c. omega arith) loop-again same-length-2 returns-2)
+    tie.close (tie.spec Inv-loop μ-loop cast-block (λ c. omega (arith, c .before .before .pre .1)) (λ c κs. search needs) loop-holds
+      (λ c κs. search needs) (λ c. search needs) (λ c. omega arith) (λ c. omega arith) (λ c. omega arith) (λ c. omega arith)
+      (λ c. omega arith) (λ c. omega arith) (λ c. omega arith) (λ c κs. search needs) (λ c. search needs) (λ c. omega arith)
+      (λ c. omega arith) (λ c κs. search needs) same-length returns (λ c. omega arith) (λ c. omega arith) loop-again same-length-2 returns-2)

@@ -1,12 +1,9 @@
--- `lamps::lamp_bounds::checked` meets its contract. Assumes nothing.
+-- `lamps::lamp_bounds::checked` meets its contract: the record as it is, where it passes its check. Assumes nothing.
 use borrow.Author.Needs.{needs}
 use Rattle.words.specs.Answers.{_then_}
 use Rattle.lamps.specs.LampBounds.{checked}
 use Rattle.lamps.proofs.lamp_bounds.checked.Statement.{statement}
 use Rattle.lamps.proofs.lamp_bounds.checked.Tie as tie
-
-enum-told : tie.Need-enum-told
-enum-told c = search needs
 
 returns : tie.Need-returns
 unfolding checked _then_
@@ -18,4 +15,4 @@ returns-2 c = rw (← c .before .before .before .validate .ensures, c .before .w
 
 pub checked-spec : {M : Type 1} → statement M
 checked-spec =
-    tie.close (tie.spec (λ c κs. search needs) enum-told (λ c. search needs) returns returns-2)
+    tie.close (tie.spec (λ c κs. search needs) (λ c. search needs) (λ c. search needs) returns returns-2)

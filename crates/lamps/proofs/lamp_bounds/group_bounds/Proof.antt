@@ -1,4 +1,4 @@
--- `lamps::lamp_bounds::group_bounds` meets its contract. Assumes nothing.
+-- `lamps::lamp_bounds::group_bounds` meets its contract: the first triangle is kept as it is, the rest are joined to it. Assumes nothing.
 use borrow.Author.Needs.{needs}
 use Prim.Native.Nat.{_/_}
 use native.Mathlib.Omega.{arith}
@@ -10,9 +10,6 @@ use Rattle.lamps.proofs.LampBoundsLaws.{unionFrom-first, unionFrom-end}
 use Rattle.lamps.proofs.lamp_bounds.group_bounds.Statement.{statement}
 use Rattle.lamps.proofs.lamp_bounds.group_bounds.Tie as tie
 
-enum-told : tie.Need-enum-told
-enum-told c = search needs
-
 returns : tie.Need-returns
 unfolding groupBounds _then_
 returns c =
@@ -20,7 +17,8 @@ returns c =
     rw (
       ← c .before .before .before .validate-emission .ensures,
       c .before .enum-told .given .1,
-      unionFrom-end (args .emission-max) (args .scale) (args .two-sided) (now (args .triangles)) 0 (length (now (args .triangles)) / 13) (refused 9) (c .if1 .taken),
+      unionFrom-end (args .emission-max) (args .scale) (args .two-sided) (now (args .triangles)) 0 (length (now (args .triangles)) / 13) (refused 9)
+          (c .if1 .taken),
     )
 
 returns-2 : tie.Need-returns-2
@@ -55,5 +53,5 @@ returns-4 c = rw (← c .before .before .before .validate-emission .ensures, c .
 
 pub group-bounds-spec : {M : Type 1} → statement M
 group-bounds-spec =
-    tie.close (tie.spec (λ c κs. search needs) enum-told returns (λ c κs. search needs) (λ c κs. search needs) (λ c. search needs)
+    tie.close (tie.spec (λ c κs. search needs) (λ c. search needs) returns (λ c κs. search needs) (λ c κs. search needs) (λ c. search needs)
       (λ c κs. search needs) (λ c. search needs) (λ c. search needs) returns-2 returns-3 returns-4)

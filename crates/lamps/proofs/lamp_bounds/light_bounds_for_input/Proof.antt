@@ -1,4 +1,4 @@
--- `lamps::lamp_bounds::light_bounds_for_input` meets its contract. Assumes nothing.
+-- `lamps::lamp_bounds::light_bounds_for_input` meets its contract: a kind of lamp at a time. Assumes nothing.
 use borrow.Author.Needs.{needs}
 use Rattle.lamps.specs.LampBounds.{lightBoundsForInput}
 use Rattle.lamps.proofs.lamp_bounds.light_bounds_for_input.Statement.{statement}

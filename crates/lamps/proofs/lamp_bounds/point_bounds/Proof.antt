@@ -10,13 +10,18 @@ use Rattle.lamps.proofs.lamp_bounds.point_bounds.Tie as tie
 returns : tie.Need-returns
 unfolding pointBounds _then_
 returns c =
-    rw (← c .before .before .before .before .before .before .before .before .before .validate-emission .ensures, c .before .before .before .before .before .before .before .enum-told .given .1, ← c .before .before .before .before .before .before .point-box .ensures, ← c .before .before .before .before .before .check .ensures, c .before .before .before .enum-told2 .given .1, cos-half-pi,
+    rw (← c .before .before .before .before .before .before .before .before .before .validate-emission .ensures,
+        c .before .before .before .before .before .before .before .enum-told .given .1,
+        ← c .before .before .before .before .before .before .point-box .ensures, ← c .before .before .before .before .before .check .ensures,
+        c .before .before .before .enum-told2 .given .1, cos-half-pi,
     ← c .before .before .point-phi .ensures, ← c .before .new .ensures)
     (c .checked .ensures)
 
 returns-2 : tie.Need-returns-2
 unfolding pointBounds _then_
-returns-2 c = rw (← c .before .before .before .before .before .before .before .validate-emission .ensures, c .before .before .before .before .before .enum-told .given .1, ← c .before .before .before .before .point-box .ensures, ← c .before .before .before .check .ensures, c .before .why .given .1)
+returns-2 c = rw (← c .before .before .before .before .before .before .before .validate-emission .ensures,
+    c .before .before .before .before .before .enum-told .given .1, ← c .before .before .before .before .point-box .ensures,
+    ← c .before .before .before .check .ensures, c .before .why .given .1)
 
 returns-3 : tie.Need-returns-3
 unfolding pointBounds _then_

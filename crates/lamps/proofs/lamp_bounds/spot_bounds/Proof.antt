@@ -8,11 +8,13 @@ use Rattle.lamps.proofs.lamp_bounds.spot_bounds.Tie as tie
 returns : tie.Need-returns
 unfolding spotBounds _then_
 returns c =
-    rw (← c .before .before .before .before .before .before .validate-emission .ensures, c .before .before .before .before .enum-told .given .1, ← c .before .before .before .are-cosines .ensures, c .before .before .if1 .taken, ← c .before .point-phi .ensures) (c .spot-record .ensures)
+    rw (← c .before .before .before .before .before .before .validate-emission .ensures, c .before .before .before .before .enum-told .given .1,
+        ← c .before .before .before .are-cosines .ensures, c .before .before .if1 .taken, ← c .before .point-phi .ensures) (c .spot-record .ensures)
 
 returns-2 : tie.Need-returns-2
 unfolding spotBounds _then_
-returns-2 c = rw (← c .before .before .before .before .validate-emission .ensures, c .before .before .enum-told .given .1, ← c .before .are-cosines .ensures, c .if1 .left)
+returns-2 c = rw (← c .before .before .before .before .validate-emission .ensures, c .before .before .enum-told .given .1,
+    ← c .before .are-cosines .ensures, c .if1 .left)
 
 returns-3 : tie.Need-returns-3
 unfolding spotBounds _then_

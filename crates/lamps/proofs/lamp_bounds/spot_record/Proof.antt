@@ -8,12 +8,18 @@ use Rattle.lamps.proofs.lamp_bounds.spot_record.Tie as tie
 returns : tie.Need-returns
 unfolding spotRecord _then_
 returns c =
-    rw (← c .before .before .before .before .before .before .before .before .before .before .point-box .ensures, ← c .before .before .before .before .before .before .before .before .before .check .ensures, c .before .before .before .before .before .before .before .enum-told .given .1, ← c .before .before .before .before .before .before .normalize .ensures, c .before .before .before .before .unit .given .1, ← c .before .before .falloff .ensures, ← c .before .new .ensures)
+    rw (← c .before .before .before .before .before .before .before .before .before .before .point-box .ensures,
+        ← c .before .before .before .before .before .before .before .before .before .check .ensures,
+        c .before .before .before .before .before .before .before .enum-told .given .1,
+        ← c .before .before .before .before .before .before .normalize .ensures, c .before .before .before .before .unit .given .1,
+        ← c .before .before .falloff .ensures, ← c .before .new .ensures)
     (c .checked .ensures)
 
 returns-2 : tie.Need-returns-2
 unfolding spotRecord _then_
-returns-2 c = rw (← c .before .before .before .before .before .before .before .point-box .ensures, ← c .before .before .before .before .before .before .check .ensures, c .before .before .before .before .enum-told .given .1, ← c .before .before .before .normalize .ensures, c .before .why .given .1)
+returns-2 c = rw (← c .before .before .before .before .before .before .before .point-box .ensures,
+    ← c .before .before .before .before .before .before .check .ensures, c .before .before .before .before .enum-told .given .1,
+    ← c .before .before .before .normalize .ensures, c .before .why .given .1)
 
 returns-3 : tie.Need-returns-3
 unfolding spotRecord _then_

@@ -1,4 +1,4 @@
--- `lamps::lamp_bounds::triangle_at` meets its contract. Assumes nothing.
+-- `lamps::lamp_bounds::triangle_at` meets its contract: word by word, each within the thirteen. Assumes nothing.
 use borrow.Author.Needs.{needs}
 use Rattle.lamps.specs.LampBounds.{triangleAt}
 use Rattle.lamps.proofs.lamp_bounds.triangle_at.Statement.{statement}

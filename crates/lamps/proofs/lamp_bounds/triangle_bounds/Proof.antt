@@ -1,4 +1,4 @@
--- `lamps::lamp_bounds::triangle_bounds` meets its contract. Assumes nothing.
+-- `lamps::lamp_bounds::triangle_bounds` meets its contract: two choices an axis, in the order of the vertices. Assumes nothing.
 use borrow.Author.Needs.{needs}
 use Rattle.lamps.specs.LampBounds.{triangleBounds}
 use Rattle.lamps.proofs.lamp_bounds.triangle_bounds.Statement.{statement}

@@ -7,12 +7,15 @@ use Rattle.lamps.proofs.lamp_bounds.triangle_record.Tie as tie
 
 returns : tie.Need-returns
 unfolding triangleRecord _then_
-returns c = rw (← c .before .before .before .before .before .triangle-bounds .ensures, ← c .before .before .before .before .check .ensures, c .before .before .enum-told .given .1, ← c .before .has-no-area .ensures, c .if1 .taken)
+returns c = rw (← c .before .before .before .before .before .triangle-bounds .ensures, ← c .before .before .before .before .check .ensures,
+    c .before .before .enum-told .given .1, ← c .before .has-no-area .ensures, c .if1 .taken)
 
 returns-2 : tie.Need-returns-2
 unfolding triangleRecord _then_
 returns-2 c =
-    rw (← c .before .before .before .before .before .before .before .triangle-bounds .ensures, ← c .before .before .before .before .before .before .check .ensures, c .before .before .before .before .enum-told .given .1, ← c .before .before .before .has-no-area .ensures, c .before .before .if1 .left, ← c .before .group-phi .ensures)
+    rw (← c .before .before .before .before .before .before .before .triangle-bounds .ensures,
+        ← c .before .before .before .before .before .before .check .ensures, c .before .before .before .before .enum-told .given .1,
+        ← c .before .before .before .has-no-area .ensures, c .before .before .if1 .left, ← c .before .group-phi .ensures)
     (c .faced-record .ensures)
 
 returns-3 : tie.Need-returns-3

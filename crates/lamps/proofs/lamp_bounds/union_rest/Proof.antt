@@ -1,4 +1,4 @@
--- `lamps::lamp_bounds::union_rest` meets its contract. Assumes nothing.
+-- `lamps::lamp_bounds::union_rest` meets its contract: what is left to join from triangle k on gives the same answer at each turn. Assumes nothing.
 use Prim.Native.Nat.{_+_, _*_, _-_, _≤_}
 use mathlib.Core.Path.{_≡_, refl, sym, _∙_}
 use native.Mathlib.Omega.{arith}
@@ -11,7 +11,9 @@ use Rattle.lamps.proofs.lamp_bounds.union_rest.Statement.{statement}
 use Rattle.lamps.proofs.lamp_bounds.union_rest.Tie as tie
 
 abbrev Inv-loop : tie.InvT-loop
-Inv-loop emission-max scale two-sided triangles n result₀ k₀ result k = (1 ≤ k) × (k ≤ n) × (unionFrom emission-max scale two-sided triangles 13 (n - 1) (given result₀) ≡ unionFrom emission-max scale two-sided triangles (13 * k) (n - k) (given result))
+Inv-loop emission-max scale two-sided triangles n result₀ k₀ result k = (1 ≤ k) × (k ≤ n) ×
+    (unionFrom emission-max scale two-sided triangles 13 (n - 1) (given result₀) ≡ unionFrom emission-max scale two-sided triangles (13 * k) (n - k)
+    (given result))
 
 abbrev μ-loop : tie.MeasureT-loop
 μ-loop emission-max scale two-sided triangles n result₀ k₀ result k = n - k
@@ -23,7 +25,8 @@ returns c =
     let args = c .before .before .before .before .before .before .before .before .args in
     rw (
       loop .inv .2,
-      unionFrom-next (args .emission-max) (args .scale) (args .two-sided) (now (args .triangles)) (13 * loop .k) (args .n - loop .k) (loop .result) (omega arith),
+      unionFrom-next (args .emission-max) (args .scale) (args .two-sided) (now (args .triangles)) (13 * loop .k) (args .n - loop .k) (loop .result)
+          (omega arith),
       ← c .before .before .before .before .triangle-at .ensures,
       ← c .before .before .before .grown .ensures,
       c .before .why .given .1,
@@ -40,7 +43,8 @@ loop-again c =
       omega arith,
       rw (
         loop .inv .2,
-        unionFrom-next (args .emission-max) (args .scale) (args .two-sided) (now (args .triangles)) (13 * loop .k) (args .n - loop .k) (loop .result) (omega arith),
+        unionFrom-next (args .emission-max) (args .scale) (args .two-sided) (now (args .triangles)) (13 * loop .k) (args .n - loop .k) (loop .result)
+            (omega arith),
         ← c .before .before .before .before .triangle-at .ensures,
         ← c .before .before .before .grown .ensures,
         c .before .«record» .given .1,
@@ -53,7 +57,8 @@ returns-2 : tie.Need-returns-2 Inv-loop μ-loop
 returns-2 c =
     let loop = c .before .loop in
     let args = c .before .before .before .args in
-    sym (loop .inv .2 ∙ unionFrom-end (args .emission-max) (args .scale) (args .two-sided) (now (args .triangles)) (13 * loop .k) (args .n - loop .k) (given (loop .result)) (omega arith))
+    sym (loop .inv .2 ∙ unionFrom-end (args .emission-max) (args .scale) (args .two-sided) (now (args .triangles)) (13 * loop .k) (args .n - loop .k)
+        (given (loop .result)) (omega arith))
 
 pub union-rest-spec : {M : Type 1} → statement M
 union-rest-spec =

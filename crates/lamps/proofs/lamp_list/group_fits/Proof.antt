@@ -25,10 +25,8 @@ returns c =
     rw (← c .before .before .before .is-list-side .ensures, c .before .before .if1 .taken, c .wide .ensures)
     (divided (getD (now (args .list)) (args .at + 4) 0) (args .at + 5) (length (now (args .list))) (omega arith))
 
-returns-2 : tie.Need-returns-2
-returns-2 c = rw (← c .before .is-list-side .ensures, c .if1 .left)
-
 pub group-fits-spec : {M : Type 1} → statement M
 group-fits-spec =
     tie.close (tie.spec (λ c. search needs) (λ c. search needs) (λ c. search needs) (λ c κs. search needs) (λ c. search needs)
-      (λ c. search needs) (λ c. search needs) (λ c κs. search needs) (λ c. search needs) (λ c. search needs) returns returns-2)
+      (λ c. search needs) (λ c. search needs) (λ c κs. search needs) (λ c. search needs) (λ c. search needs) returns
+      (λ c. rw (← c .before .is-list-side .ensures, c .if1 .left)))

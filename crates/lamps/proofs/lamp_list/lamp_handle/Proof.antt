@@ -4,11 +4,7 @@ use Rattle.lamps.specs.LampList.{handle}
 use Rattle.lamps.proofs.lamp_list.lamp_handle.Statement.{statement}
 use Rattle.lamps.proofs.lamp_list.lamp_handle.Tie as tie
 
-returns : tie.Need-returns
-returns c = rw (c .before .lamp .given .1)
-
-returns-2 : tie.Need-returns-2
-returns-2 c = rw (c .before .lamp2 .given .1)
-
 pub lamp-handle-spec : {M : Type 1} → statement M
-lamp-handle-spec = tie.close (tie.spec (λ c. search needs) (λ c. search needs) (λ c. search needs) returns returns-2 (λ c. search needs))
+lamp-handle-spec =
+    tie.close (tie.spec (λ c. search needs) (λ c. search needs) (λ c. search needs) (λ c. rw (c .before .lamp .given .1))
+      (λ c. rw (c .before .lamp2 .given .1)) (λ c. search needs))

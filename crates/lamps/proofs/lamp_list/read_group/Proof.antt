@@ -6,7 +6,8 @@ use Rattle.lamps.proofs.lamp_list.read_group.Tie as tie
 
 returns : tie.Need-returns
 returns c =
-    rw (c .before .before .before .before .before .before .before .handle-of .ensures, c .before .before .before .before .before .f32-of-word .ensures, c .before .before .before .f32-of-word2 .ensures, c .wide .ensures)
+    rw (c .before .before .before .before .before .before .before .handle-of .ensures,
+        c .before .before .before .before .before .f32-of-word .ensures, c .before .before .before .f32-of-word2 .ensures, c .wide .ensures)
 
 pub read-group-spec : {M : Type 1} → statement M
 read-group-spec =

@@ -6,14 +6,8 @@ use borrow.Author.Needs.{needs}
 use Rattle.lamps.proofs.lamp_list.spot_at.Statement.{statement}
 use Rattle.lamps.proofs.lamp_list.spot_at.Tie as tie
 
-read-spot-requires : tie.Need-read-spot-requires
-read-spot-requires c κs = leb-true _ _ (sym (c .before .fits2 .ensures) ∙ c .if1 .taken)
-
-returns : tie.Need-returns
-returns c = rw (← c .before .before .fits2 .ensures, c .before .if1 .taken) (ap given (c .read-spot .ensures))
-
-returns-2 : tie.Need-returns-2
-returns-2 c = rw (← c .before .fits2 .ensures, c .if1 .left)
-
 pub spot-at-spec : {M : Type 1} → statement M
-spot-at-spec = tie.close (tie.spec (λ c κs. search needs) read-spot-requires returns returns-2)
+spot-at-spec =
+    tie.close (tie.spec (λ c κs. search needs) (λ c κs. leb-true _ _ (sym (c .before .fits2 .ensures) ∙ c .if1 .taken))
+      (λ c. rw (← c .before .before .fits2 .ensures, c .before .if1 .taken) (ap given (c .read-spot .ensures)))
+      (λ c. rw (← c .before .fits2 .ensures, c .if1 .left)))

@@ -4,8 +4,6 @@ use borrow.Author.Needs.{needs}
 use Rattle.lamps.proofs.lamp_list.still_placed.Statement.{statement}
 use Rattle.lamps.proofs.lamp_list.still_placed.Tie as tie
 
-returns : tie.Need-returns
-returns c = rw (c .if1 .taken)
-
 pub still-placed-spec : {M : Type 1} → statement M
-still-placed-spec = tie.close (tie.spec returns (λ c. search needs))
+still-placed-spec =
+    tie.close (tie.spec (λ c. rw (c .if1 .taken)) (λ c. search needs))

@@ -22,8 +22,6 @@ read-group-requires c κs =
 returns : tie.Need-returns
 returns c = rw (← c .before .before .group-fits .ensures, c .before .if1 .taken) (ap given (c .read-group .ensures))
 
-returns-2 : tie.Need-returns-2
-returns-2 c = rw (← c .before .group-fits .ensures, c .if1 .left)
-
 pub whole-group-spec : {M : Type 1} → statement M
-whole-group-spec = tie.close (tie.spec (λ c κs. search needs) read-group-requires returns returns-2)
+whole-group-spec =
+    tie.close (tie.spec (λ c κs. search needs) read-group-requires returns (λ c. rw (← c .before .group-fits .ensures, c .if1 .left)))

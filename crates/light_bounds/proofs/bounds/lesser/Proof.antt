@@ -1,4 +1,4 @@
--- `light_bounds::bounds::lesser` meets its contract: its steps are the definition's. Assumes nothing.
+-- `light_bounds::bounds::lesser` meets its contract: axis by axis. Assumes nothing.
 use Rattle.light_bounds.specs.Bounds.{leastOf}
 use borrow.Author.Needs.{needs}
 use Rattle.light_bounds.proofs.bounds.lesser.Statement.{statement}

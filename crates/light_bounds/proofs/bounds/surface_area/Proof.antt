@@ -1,4 +1,4 @@
--- `light_bounds::bounds::surface_area` meets its contract: its steps are the definition's. Assumes nothing.
+-- `light_bounds::bounds::surface_area` meets its contract: the three faces, summed left to right and doubled. Assumes nothing.
 use mathlib.Core.Path.{ap}
 use Rattle.ieee.specs.Single.{_⊕_, _⊗_, twof}
 use Rattle.light_bounds.specs.Bounds.{surfaceArea}

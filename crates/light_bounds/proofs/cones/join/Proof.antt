@@ -1,4 +1,4 @@
--- `light_bounds::cones::join` meets its contract: its steps are the definition's. Assumes nothing.
+-- `light_bounds::cones::join` meets its contract: every direction, or the turned axis. Assumes nothing.
 use mathlib.Core.Path.{_≡_, sym, _∙_, ap}
 use Rattle.ieee.specs.Single.{_⊖_}
 use Rattle.light_bounds.specs.Cones.{axisOr, joined}
@@ -23,8 +23,11 @@ returns-3 : tie.Need-returns-3
 unfolding joined
 returns-3 c =
     let a = c .before .before .before .before .before .before .before .before .args in
-    let turned = c .before .rotate .ensures ∙ ap (λ (v : Vec3). rotate (a .a) v (a .theta-o ⊖ a .theta-a)) (c .before .before .unit-or-z .ensures ∙ ap axisOr (c .before .before .before .normalize .ensures ∙ ap normalize (c .before .before .before .before .before .before .cross .ensures))) in
-    rw (c .before .before .before .before .before .before .before .if1 .left, parallel (c .before .before .before .before .before), c .before .before .before .before .if2 .left) (λ i. record { direction = turned i; «cos_theta» = c .cos .ensures i })
+    let turned = c .before .rotate .ensures ∙ ap (λ (v : Vec3). rotate (a .a) v (a .theta-o ⊖ a .theta-a))
+        (c .before .before .unit-or-z .ensures ∙ ap axisOr
+        (c .before .before .before .normalize .ensures ∙ ap normalize (c .before .before .before .before .before .before .cross .ensures))) in
+    rw (c .before .before .before .before .before .before .before .if1 .left, parallel (c .before .before .before .before .before),
+        c .before .before .before .before .if2 .left) (λ i. record { direction = turned i; «cos_theta» = c .cos .ensures i })
 
 pub join-spec : {M : Type 1} → statement M
 join-spec =

@@ -1,4 +1,4 @@
--- `light_bounds::cones::subtended` meets its contract: its steps are the definition's. Assumes nothing.
+-- `light_bounds::cones::subtended` meets its contract: the diagonal's length that is handed in is the definition's. Assumes nothing.
 use mathlib.Core.Path.{_≡_, sym, _∙_, ap}
 use lib.Ieee.{neg, ofBits}
 use Rattle.light_bounds.specs.Bounds.{centroid, diagonal}
@@ -13,7 +13,8 @@ size : (c : tie.Start) → vecLength (diagonal (c .args .bounds)) ≡ c .args .d
 size c = sym (c .pre)
 
 -- the raw squared distance to the centre
-distance : (c : tie.After-dot) → (let s = c .before .before .before .args in dot (minus (centroid (s .bounds)) (s .p)) (minus (centroid (s .bounds)) (s .p))) ≡ c .dot .result
+distance : (c : tie.After-dot) → (let s = c .before .before .before .args in dot (minus (centroid (s .bounds)) (s .p))
+    (minus (centroid (s .bounds)) (s .p))) ≡ c .dot .result
 distance c =
     let p = c .before .before .before .args .p in
     sym (c .dot .ensures ∙ ap (λ (v : Vec3). dot v v) (c .before .sub .ensures ∙ ap (λ (v : Vec3). minus v p) (c .before .before .centroid .ensures)))
@@ -28,7 +29,8 @@ returns-2 c = rw (size (c .before .before .before .before .before), distance (c 
 
 returns-3 : tie.Need-returns-3
 unfolding boundSubtendedDirections
-returns-3 c = rw (size (c .before .before .before .before .before .before), distance (c .before .before .before), c .before .before .if1 .left, c .before .if2 .left) (c .safe-sqrt .ensures)
+returns-3 c = rw (size (c .before .before .before .before .before .before), distance (c .before .before .before), c .before .before .if1 .left,
+    c .before .if2 .left) (c .safe-sqrt .ensures)
 
 pub subtended-spec : {M : Type 1} → statement M
 subtended-spec =

@@ -1,4 +1,4 @@
--- `light_bounds::cones::union_direction_cones` meets its contract: its steps are the definition's. Assumes nothing.
+-- `light_bounds::cones::union_direction_cones` meets its contract: the first cone, the second, or the one around both. Assumes nothing.
 use mathlib.Core.Path.{_≡_, sym, _∙_, ap}
 use lib.Ieee.{neg, ofBits}
 use Rattle.ieee.specs.Choose.{fmin, clamp}
@@ -26,20 +26,25 @@ theta-d c = sym (c .angle-between .ensures)
 first : (c : tie.After-min) → fmin (c .before .angle-between .result ⊕ c .before .before .acos2 .result) pi ≡ c .min .result
 first c = sym (c .min .ensures)
 
-second : (c : tie.After-min2) → fmin (c .before .before .before .angle-between .result ⊕ c .before .before .before .before .before .before .acos .result) pi ≡ c .min2 .result
+second : (c : tie.After-min2) → fmin (c .before .before .before .angle-between .result ⊕
+    c .before .before .before .before .before .before .acos .result) pi ≡ c .min2 .result
 second c = sym (c .min2 .ensures)
 
 returns : tie.Need-returns
 unfolding unionDirectionCones
-returns c = rw (theta-a (c .before .before .before .before .before), theta-b (c .before .before .before), theta-d (c .before .before), first (c .before), c .if1 .taken)
+returns c = rw (theta-a (c .before .before .before .before .before), theta-b (c .before .before .before), theta-d (c .before .before), first
+    (c .before), c .if1 .taken)
 
 returns-2 : tie.Need-returns-2
 unfolding unionDirectionCones
-returns-2 c = rw (theta-a (c .before .before .before .before .before .before .before), theta-b (c .before .before .before .before .before), theta-d (c .before .before .before .before), first (c .before .before .before), c .before .before .if1 .left, second (c .before), c .if2 .taken)
+returns-2 c = rw (theta-a (c .before .before .before .before .before .before .before), theta-b (c .before .before .before .before .before), theta-d
+    (c .before .before .before .before), first (c .before .before .before), c .before .before .if1 .left, second (c .before), c .if2 .taken)
 
 returns-3 : tie.Need-returns-3
 unfolding unionDirectionCones
-returns-3 c = rw (theta-a (c .before .before .before .before .before .before .before .before), theta-b (c .before .before .before .before .before .before), theta-d (c .before .before .before .before .before), first (c .before .before .before .before), c .before .before .before .if1 .left, second (c .before .before), c .before .if2 .left) (c .join .ensures)
+returns-3 c = rw (theta-a (c .before .before .before .before .before .before .before .before), theta-b
+    (c .before .before .before .before .before .before), theta-d (c .before .before .before .before .before), first
+    (c .before .before .before .before), c .before .before .before .if1 .left, second (c .before .before), c .before .if2 .left) (c .join .ensures)
 
 pub union-direction-cones-spec : {M : Type 1} → statement M
 union-direction-cones-spec =

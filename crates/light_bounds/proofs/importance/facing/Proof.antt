@@ -1,4 +1,4 @@
--- `light_bounds::importance::facing` meets its contract: its steps are the definition's. Assumes nothing.
+-- `light_bounds::importance::facing` meets its contract: a sine is taken only where the angle is not cut to 0. Assumes nothing.
 use mathlib.Core.Path.{ap₂}
 use lib.Ieee.{Float}
 use Rattle.ieee.specs.Single.{_⊕_, _⊗_}
@@ -17,7 +17,8 @@ unfolding normalFactor cosSubClamped
 returns-2 c =
     let i = c .before .before .before .abs .result in
     let k = c .before .before .before .before .args .cos-b in
-    rw (← c .before .before .before .abs .ensures, c .before .before .if1 .left) (ap₂ (λ (s t : Float). i ⊗ k ⊕ s ⊗ t) (c .before .sine .ensures) (c .sine2 .ensures))
+    rw (← c .before .before .before .abs .ensures, c .before .before .if1 .left)
+        (ap₂ (λ (s t : Float). i ⊗ k ⊕ s ⊗ t) (c .before .sine .ensures) (c .sine2 .ensures))
 
 pub facing-spec : {M : Type 1} → statement M
 facing-spec =

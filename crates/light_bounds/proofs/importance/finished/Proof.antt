@@ -1,13 +1,10 @@
--- `light_bounds::importance::finished` meets its contract: its steps are the definition's. Assumes nothing.
+-- `light_bounds::importance::finished` meets its contract: a way of being seen at a time. Assumes nothing.
 use mathlib.Core.Path.{ap}
 use Rattle.words.specs.Answers.{_then_, given}
 use Rattle.light_bounds.specs.Importance.{finish}
 use borrow.Author.Needs.{needs}
 use Rattle.light_bounds.proofs.importance.finished.Statement.{statement}
 use Rattle.light_bounds.proofs.importance.finished.Tie as tie
-
-enum-told : tie.Need-enum-told
-enum-told c = search needs
 
 returns : tie.Need-returns
 unfolding finish _then_
@@ -27,5 +24,5 @@ returns-4 c = rw (c .before .view3 .given .1)
 
 pub finished-spec : {M : Type 1} → statement M
 finished-spec =
-    tie.close (tie.spec enum-told (λ c. search needs) (λ c κs. search needs) (λ c. search needs) (λ c κs. search needs) (λ c. search needs)
-      returns returns-2 returns-3 returns-4)
+    tie.close (tie.spec (λ c. search needs) (λ c. search needs) (λ c κs. search needs) (λ c. search needs) (λ c κs. search needs)
+      (λ c. search needs) returns returns-2 returns-3 returns-4)

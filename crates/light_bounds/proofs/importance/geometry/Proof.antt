@@ -1,4 +1,4 @@
--- `light_bounds::importance::geometry` meets its contract: its steps are the definition's. Assumes nothing.
+-- `light_bounds::importance::geometry` meets its contract: the diagonal is taken once, for both its uses. Assumes nothing.
 use mathlib.Core.Path.{_≡_, sym, _∙_, ap}
 use Rattle.words.specs.Answers.{_then_}
 use Rattle.light_bounds.specs.Bounds.{diagonal, centroid}
@@ -18,15 +18,22 @@ size c = sym (c .length .ensures ∙ ap vecLength (c .before .diagonal .ensures)
 
 returns : tie.Need-returns
 unfolding geometry distance2
-returns c = rw (delta (c .before .before .before .before .before), size (c .before .before .before), ← c .before .before .dot .ensures, ← c .before .max .ensures, c .if1 .taken)
+returns c = rw (delta (c .before .before .before .before .before), size (c .before .before .before), ← c .before .before .dot .ensures,
+    ← c .before .max .ensures, c .if1 .taken)
 
 returns-2 : tie.Need-returns-2
 unfolding geometry distance2 _then_
-returns-2 c = rw (delta (c .before .before .before .before .before .before .before .before .before .before), size (c .before .before .before .before .before .before .before .before), ← c .before .before .before .before .before .before .before .dot .ensures, ← c .before .before .before .before .before .before .max .ensures, c .before .before .before .before .before .if1 .left, ← c .before .before .before .before .normalize .ensures, c .before .before .wi .given .1) (c .toward .ensures)
+returns-2 c = rw (delta (c .before .before .before .before .before .before .before .before .before .before), size
+    (c .before .before .before .before .before .before .before .before), ← c .before .before .before .before .before .before .before .dot .ensures,
+    ← c .before .before .before .before .before .before .max .ensures, c .before .before .before .before .before .if1 .left,
+    ← c .before .before .before .before .normalize .ensures, c .before .before .wi .given .1) (c .toward .ensures)
 
 returns-3 : tie.Need-returns-3
 unfolding geometry distance2 _then_
-returns-3 c = rw (delta (c .before .before .before .before .before .before .before .before .before), size (c .before .before .before .before .before .before .before), ← c .before .before .before .before .before .before .dot .ensures, ← c .before .before .before .before .before .max .ensures, c .before .before .before .before .if1 .left, ← c .before .before .before .normalize .ensures, c .before .why .given .1)
+returns-3 c = rw (delta (c .before .before .before .before .before .before .before .before .before), size
+    (c .before .before .before .before .before .before .before), ← c .before .before .before .before .before .before .dot .ensures,
+    ← c .before .before .before .before .before .max .ensures, c .before .before .before .before .if1 .left,
+    ← c .before .before .before .normalize .ensures, c .before .why .given .1)
 
 pub geometry-spec : {M : Type 1} → statement M
 geometry-spec =

@@ -1,12 +1,9 @@
--- `light_bounds::importance::importance` meets its contract: its steps are the definition's. Assumes nothing.
+-- `light_bounds::importance::importance` meets its contract: the record's check, then the query. Assumes nothing.
 use Rattle.words.specs.Answers.{_then_}
 use Rattle.light_bounds.specs.Importance.{importance}
 use borrow.Author.Needs.{needs}
 use Rattle.light_bounds.proofs.importance.importance.Statement.{statement}
 use Rattle.light_bounds.proofs.importance.importance.Tie as tie
-
-enum-told : tie.Need-enum-told
-enum-told c = search needs
 
 returns : tie.Need-returns
 unfolding importance _then_
@@ -18,4 +15,4 @@ returns-2 c = rw (← c .before .before .before .validate .ensures, c .before .w
 
 pub importance-spec : {M : Type 1} → statement M
 importance-spec =
-    tie.close (tie.spec (λ c κs. search needs) enum-told (λ c κs. search needs) (λ c. search needs) returns returns-2)
+    tie.close (tie.spec (λ c κs. search needs) (λ c. search needs) (λ c κs. search needs) (λ c. search needs) returns returns-2)

@@ -1,4 +1,4 @@
--- `light_bounds::importance::smallest_angle` meets its contract: its steps are the definition's. Assumes nothing.
+-- `light_bounds::importance::smallest_angle` meets its contract: inside the cone both clamped differences are those of 0. Assumes nothing.
 use Rattle.light_bounds.proofs.Clamped.{cut-cos, cut-sin, kept-cos, kept-sin}
 use Rattle.light_bounds.specs.Importance.{cosP, sine}
 use borrow.Author.Needs.{needs}
@@ -10,14 +10,17 @@ unfolding cosP
 returns c =
     let w = c .before .before .cos-w .result in
     let o = c .before .before .before .args .record .«cos_theta_o» in
-    rw (← c .before .before .cos-w .ensures, cut-sin (sine w) w (sine o) o (c .before .if1 .taken), cut-cos (sine w) w (sine o) o (c .before .if1 .taken)) (c .less-the-box .ensures)
+    rw (← c .before .before .cos-w .ensures, cut-sin (sine w) w (sine o) o (c .before .if1 .taken), cut-cos (sine w) w (sine o) o
+        (c .before .if1 .taken)) (c .less-the-box .ensures)
 
 returns-2 : tie.Need-returns-2
 unfolding cosP
 returns-2 c =
     let w = c .before .before .before .before .cos-w .result in
     let o = c .before .before .before .before .before .args .record .«cos_theta_o» in
-    rw (← c .before .before .before .before .cos-w .ensures, kept-sin (sine w) w (sine o) o (c .before .before .before .if1 .left), kept-cos (sine w) w (sine o) o (c .before .before .before .if1 .left), ← c .before .before .sine .ensures, ← c .before .sine2 .ensures) (c .less-the-box2 .ensures)
+    rw (← c .before .before .before .before .cos-w .ensures, kept-sin (sine w) w (sine o) o (c .before .before .before .if1 .left), kept-cos
+        (sine w) w (sine o) o (c .before .before .before .if1 .left), ← c .before .before .sine .ensures, ← c .before .sine2 .ensures)
+        (c .less-the-box2 .ensures)
 
 pub smallest-angle-spec : {M : Type 1} → statement M
 smallest-angle-spec =

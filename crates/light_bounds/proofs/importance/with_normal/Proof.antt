@@ -1,4 +1,4 @@
--- `light_bounds::importance::with_normal` meets its contract: its steps are the definition's. Assumes nothing.
+-- `light_bounds::importance::with_normal` meets its contract: a normal whose dot is 0 is none. Assumes nothing.
 use mathlib.Core.Path.{_∙_, ap}
 use lib.Ieee.{Float}
 use Rattle.words.specs.Answers.{_then_, given}
@@ -15,12 +15,14 @@ returns-2 : tie.Need-returns-2
 unfolding withNormal _then_
 returns-2 c =
     let a = c .before .before .before .before .before .before .before .before .args in
-    rw (← c .before .before .before .before .before .before .before .dot .ensures, c .before .before .before .before .before .before .if1 .left, ← c .before .before .before .before .before .normalize .ensures, c .before .before .before .u .given .1)
+    rw (← c .before .before .before .before .before .before .before .dot .ensures, c .before .before .before .before .before .before .if1 .left,
+        ← c .before .before .before .before .before .normalize .ensures, c .before .before .before .u .given .1)
     (ap (λ (k : Float). given (facing (a .cos-p) (a .d2) k)) (c .facing .ensures ∙ ap (λ (k : Float). normalFactor k (a .cos-b)) (c .before .dot2 .ensures)))
 
 returns-3 : tie.Need-returns-3
 unfolding withNormal _then_
-returns-3 c = rw (← c .before .before .before .before .before .dot .ensures, c .before .before .before .before .if1 .left, ← c .before .before .before .normalize .ensures, c .before .why .given .1)
+returns-3 c = rw (← c .before .before .before .before .before .dot .ensures, c .before .before .before .before .if1 .left,
+    ← c .before .before .before .normalize .ensures, c .before .why .given .1)
 
 pub with-normal-spec : {M : Type 1} → statement M
 with-normal-spec =

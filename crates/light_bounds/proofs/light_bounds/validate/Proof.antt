@@ -1,12 +1,9 @@
--- `light_bounds::light_bounds::validate` meets its contract: its steps are the definition's. Assumes nothing.
+-- `light_bounds::light_bounds::validate` meets its contract: the box, then the cone. Assumes nothing.
 use Rattle.words.specs.Answers.{_then_}
 use Rattle.light_bounds.specs.LightBounds.{validate}
 use borrow.Author.Needs.{needs}
 use Rattle.light_bounds.proofs.light_bounds.validate.Statement.{statement}
 use Rattle.light_bounds.proofs.light_bounds.validate.Tie as tie
-
-enum-told : tie.Need-enum-told
-enum-told c = search needs
 
 returns : tie.Need-returns
 unfolding validate _then_
@@ -18,4 +15,4 @@ returns-2 c = rw (← c .before .before .before .check .ensures, c .before .enum
 
 pub validate-spec : {M : Type 1} → statement M
 validate-spec =
-    tie.close (tie.spec (λ c κs. search needs) enum-told (λ c. search needs) returns (λ c κs. search needs) returns-2)
+    tie.close (tie.spec (λ c κs. search needs) (λ c. search needs) (λ c. search needs) returns (λ c κs. search needs) returns-2)

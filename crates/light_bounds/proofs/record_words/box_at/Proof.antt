@@ -13,8 +13,7 @@ returns c =
     let at = c .before .before .before .args .at in
     rw (c .before .vec-at .ensures, vecAt-past ws at (c .if1 .taken), vecAt-past ws (at + 3) (omega arith))
 
-returns-2 : tie.Need-returns-2
-returns-2 c = rw (c .before .before .vec-at .ensures, c .vec-at2 .ensures)
-
 pub box-at-spec : {M : Type 1} → statement M
-box-at-spec = tie.close (tie.spec (λ c κs. search needs) returns (λ c. search needs) (λ c κs. search needs) returns-2)
+box-at-spec =
+    tie.close (tie.spec (λ c κs. search needs) returns (λ c. search needs) (λ c κs. search needs)
+      (λ c. rw (c .before .before .vec-at .ensures, c .vec-at2 .ensures)))

@@ -8,9 +8,12 @@ use Rattle.light_bounds.proofs.record_words.put_record.Tie as tie
 
 returns : tie.Need-returns
 returns c =
-    let args = c .before .before .before .before .before .before .before .before .before .before .before .before .before .before .before .before .before .args in
+    let second = c .before .before .before .before .before .before .before .before .before .before in
+    let args = second .before .before .before .before .before .before .before .args in
     c .before .before .write-rest .ensures
-    ∙ rw (c .before .before .before .before .before .before .write-vec3 .ensures, c .before .before .before .before .before .before .before .before .before .before .write-vec2 .ensures, c .before .before .before .before .before .before .before .before .before .before .before .before .before .before .write-vec .ensures)
+    ∙ rw (c .before .before .before .before .before .before .write-vec3 .ensures,
+        second .write-vec2 .ensures,
+        second .before .before .before .before .write-vec .ensures)
     (put-parts (now (args .words)) (args .at) (args .«record»))
 
 pub put-record-spec : {M : Type 1} → statement M

@@ -7,11 +7,11 @@ use borrow.Author.Needs.{needs}
 use Rattle.light_bounds.proofs.record_words.read_record.Statement.{statement}
 use Rattle.light_bounds.proofs.record_words.read_record.Tie as tie
 
-record-at-requires : tie.Need-record-at-requires
-record-at-requires c κs = leb-true _ _ (sym (c .before .fits2 .ensures) ∙ c .if1 .taken)
-
 returns-2 : tie.Need-returns-2
-returns-2 c n = sym (recordAt-past n (now (c .before .before .before .args .words)) (c .before .before .before .args .at) (sym (c .before .fits2 .ensures) ∙ c .if1 .left))
+returns-2 c n = sym (recordAt-past n (now (c .before .before .before .args .words)) (c .before .before .before .args .at)
+    (sym (c .before .fits2 .ensures) ∙ c .if1 .left))
 
 pub read-record-spec : {M : Type 1} → statement M
-read-record-spec = tie.close (tie.spec (λ c κs. search needs) record-at-requires (λ c. search needs) returns-2)
+read-record-spec =
+    tie.close (tie.spec (λ c κs. search needs) (λ c κs. leb-true _ _ (sym (c .before .fits2 .ensures) ∙ c .if1 .taken)) (λ c. search needs)
+      returns-2)

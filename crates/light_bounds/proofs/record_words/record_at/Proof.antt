@@ -10,9 +10,14 @@ use Rattle.light_bounds.proofs.record_words.record_at.Tie as tie
 returns : tie.Need-returns
 returns c n =
     let args = c .before .before .before .before .before .before .before .before .before .before .before .before .before .before .args in
-    rw (recordAt-found n (now (args .words)) (args .at) (c .before .before .before .before .before .before .before .before .before .before .before .before .before .before .pre) (sym (c .before .before .before .before .before .before .before .before .before .before .before .is-side .ensures) ∙ c .before .before .before .before .before .before .before .before .before .before .if1 .taken))
+    rw (recordAt-found n (now (args .words)) (args .at)
+        (c .before .before .before .before .before .before .before .before .before .before .before .before .before .before .pre)
+        (sym (c .before .before .before .before .before .before .before .before .before .before .before .is-side .ensures) ∙
+        c .before .before .before .before .before .before .before .before .before .before .if1 .taken))
     (ap given (c .new .ensures
-    ∙ rw (c .before .before .before .before .before .before .before .before .before .box-at .ensures, c .before .before .before .before .before .before .before .before .vec-at .ensures, c .before .before .before .before .before .before .f32-of-word .ensures, c .before .before .before .before .f32-of-word2 .ensures,
+    ∙ rw (c .before .before .before .before .before .before .before .before .before .box-at .ensures,
+        c .before .before .before .before .before .before .before .before .vec-at .ensures,
+        c .before .before .before .before .before .before .f32-of-word .ensures, c .before .before .before .before .f32-of-word2 .ensures,
     c .before .before .f32-of-word3 .ensures, c .before .side-of .ensures)))
 
 returns-2 : tie.Need-returns-2

@@ -1,4 +1,4 @@
--- `light_bounds::vecmath::angle_between` meets its contract: its steps are the definition's. Assumes nothing.
+-- `light_bounds::vecmath::angle_between` meets its contract: a branch for each side of a right angle. Assumes nothing.
 use mathlib.Core.Path.{_∙_, ap}
 use lib.Ieee.{Float}
 use Rattle.ieee.specs.Single.{_⊖_, _⊗_, _⊘_, twof, pi}
@@ -10,11 +10,15 @@ use Rattle.light_bounds.proofs.vecmath.angle_between.Tie as tie
 
 returns : tie.Need-returns
 unfolding angleBetween
-returns c = rw (← c .before .before .before .before .dot .ensures, c .before .before .before .if1 .taken) (ap (λ (v : Float). pi ⊖ twof ⊗ v) (c .asin .ensures ∙ ap (λ (l : Float). asin (l ⊘ twof)) (c .before .length .ensures ∙ ap vecLength (c .before .before .add .ensures))))
+returns c = rw (← c .before .before .before .before .dot .ensures, c .before .before .before .if1 .taken)
+    (ap (λ (v : Float). pi ⊖ twof ⊗ v) (c .asin .ensures ∙ ap (λ (l : Float). asin (l ⊘ twof))
+    (c .before .length .ensures ∙ ap vecLength (c .before .before .add .ensures))))
 
 returns-2 : tie.Need-returns-2
 unfolding angleBetween
-returns-2 c = rw (← c .before .before .before .before .dot .ensures, c .before .before .before .if1 .left) (ap (λ (v : Float). twof ⊗ v) (c .asin2 .ensures ∙ ap (λ (l : Float). asin (l ⊘ twof)) (c .before .length2 .ensures ∙ ap vecLength (c .before .before .sub .ensures))))
+returns-2 c = rw (← c .before .before .before .before .dot .ensures, c .before .before .before .if1 .left)
+    (ap (λ (v : Float). twof ⊗ v) (c .asin2 .ensures ∙ ap (λ (l : Float). asin (l ⊘ twof))
+    (c .before .length2 .ensures ∙ ap vecLength (c .before .before .sub .ensures))))
 
 pub angle-between-spec : {M : Type 1} → statement M
 angle-between-spec =

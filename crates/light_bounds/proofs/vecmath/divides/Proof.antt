@@ -8,8 +8,6 @@ returns : tie.Need-returns
 unfolding ofBits ne
 returns c = rw (← c .before .is-finite .ensures, c .if1 .taken)
 
-returns-2 : tie.Need-returns-2
-returns-2 c = rw (← c .before .is-finite .ensures, c .if1 .left)
-
 pub divides-spec : {M : Type 1} → statement M
-divides-spec = tie.close (tie.spec (λ c κs. search needs) returns returns-2)
+divides-spec =
+    tie.close (tie.spec (λ c κs. search needs) returns (λ c. rw (← c .before .is-finite .ensures, c .if1 .left)))

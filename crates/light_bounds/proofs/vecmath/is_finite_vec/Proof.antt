@@ -7,7 +7,8 @@ use Rattle.light_bounds.proofs.vecmath.is_finite_vec.Tie as tie
 returns : tie.Need-returns
 unfolding finiteVec
 returns c =
-    rw (← c .before .before .before .before .is-finite .ensures, c .before .before .before .if1 .taken, ← c .before .before .is-finite2 .ensures, c .before .if2 .taken)
+    rw (← c .before .before .before .before .is-finite .ensures, c .before .before .before .if1 .taken, ← c .before .before .is-finite2 .ensures,
+        c .before .if2 .taken)
     (c .is-finite3 .ensures)
 
 returns-2 : tie.Need-returns-2
@@ -19,4 +20,5 @@ unfolding finiteVec
 returns-3 c = rw (← c .before .is-finite .ensures, c .if1 .left)
 
 pub is-finite-vec-spec : {M : Type 1} → statement M
-is-finite-vec-spec = tie.close (tie.spec (λ c κs. search needs) (λ c κs. search needs) (λ c κs. search needs) returns returns-2 returns-3)
+is-finite-vec-spec =
+    tie.close (tie.spec (λ c κs. search needs) (λ c κs. search needs) (λ c κs. search needs) returns returns-2 returns-3)

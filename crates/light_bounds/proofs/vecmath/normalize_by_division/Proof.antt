@@ -18,4 +18,5 @@ unfolding normalizeByDivision
 returns-2 c = rw (known (c .before), c .if1 .left)
 
 pub normalize-by-division-spec : {M : Type 1} → statement M
-normalize-by-division-spec = tie.close (tie.spec (λ c κs. search needs) (λ c κs. search needs) (λ c κs. search needs) returns returns-2)
+normalize-by-division-spec =
+    tie.close (tie.spec (λ c κs. search needs) (λ c κs. search needs) (λ c κs. search needs) returns returns-2)

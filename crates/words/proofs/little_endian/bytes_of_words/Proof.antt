@@ -1,5 +1,5 @@
--- `words::little_endian::bytes_of_words` meets its contract. The loop's invariant: the bytes before `4 * i` are those of the words, and the others are as they came.
--- Assumes nothing.
+-- `words::little_endian::bytes_of_words` meets its contract. The loop's invariant: the bytes before `4 * i` are those of the words, and the others
+-- are as they came. Assumes nothing.
 use Prim.Native.Nat.{ℕ, _+_, _*_, _/_, _-_, _≤_, _<_}
 use mathlib.Core.Path.{_≡_, refl}
 use mathlib.Core.List.{List}

@@ -1,5 +1,5 @@
--- `words::little_endian::words_of_bytes` meets its contract. The loop's invariant: the words before `i` are those of the bytes, and the others are as they came.
--- Assumes nothing.
+-- `words::little_endian::words_of_bytes` meets its contract. The loop's invariant: the words before `i` are those of the bytes, and the others are as
+-- they came. Assumes nothing.
 use Prim.Native.Nat.{_-_}
 use mathlib.Core.Path.{_≡_, refl, sym}
 use borrow.Author.Needs.{needs}

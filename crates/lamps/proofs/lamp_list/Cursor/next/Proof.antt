@@ -23,7 +23,8 @@ returns-2 c = rw (kind (c .before .before .before), ne-eqb _ _ (c .before .befor
 returns-3 : tie.Need-returns-3
 unfolding lampAt
 returns-3 c =
-    rw (kind (c .before .before .before .before), ne-eqb _ _ (c .before .before .before .if1 .left), ne-eqb _ _ (c .before .before .if2 .left), eq-eqb _ _ (c .before .if3 .taken))
+    rw (kind (c .before .before .before .before), ne-eqb _ _ (c .before .before .before .if1 .left), ne-eqb _ _ (c .before .before .if2 .left),
+        eq-eqb _ _ (c .before .if3 .taken))
     (c .group-at .ensures)
 
 returns-4 : tie.Need-returns-4
