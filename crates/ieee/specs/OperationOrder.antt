@@ -422,16 +422,6 @@ add-right-le f x y F p q = term-le f x y y F q p q (λ (a : T (finite x)) (b : T
 pub add-positive : (f : Format) (x y : Float) → T (fits f x) → T (lt (fin false 0 (pos 0)) x) → T (nonneg y) → T (lt (fin false 0 (pos 0)) (add f x y))
 add-positive f x y F h q = lt-of-lt-of-le (fin false 0 (pos 0)) x (add f x y) h (add-left-le f x y F (le→nonneg x (lt→le (fin false 0 (pos 0)) x h)) q)
 
--- ---- 1 - s for an s up to 1 - 2 ^ -23
-
-pub below-one : (s : Float) → T (nonneg s) → T (le s (ofBits binary32 0x3f7f_fffe))
-    → T (lt (fin false 0 (pos 0)) (sub binary32 (ofBits binary32 0x3f80_0000) s))
-unfolding ofBits
-below-one s p h =
-    let c = ofBits binary32 0x3f7f_fffe in
-    let o = ofBits binary32 0x3f80_0000 in
-    lt-of-lt-of-le (fin false 0 (pos 0)) (sub binary32 o c) (sub binary32 o s) (unfold lt sub in tt) (sub-anti binary32 o s c p tt h (unfold le in tt))
-
 -- ---- a difference is at most what is taken from
 
 sum-zero : (f : Format) (s : Bool) (a c : ℕ) → sum f s a true 0 c ≡ round f s a c
@@ -454,3 +444,13 @@ sub-zero f (fin s m e) F =
 pub sub-le : (f : Format) (u s : Float) → T (fits f u) → T (finite u) → T (nonneg s) → T (le s u) → T (le (sub f u s) u)
 sub-le f u s F a p l =
     subst (λ (z : Float). T (le (sub f u s) z)) (sub-zero f u F) (sub-anti f u (fin false 0 (pos 0)) s tt a (nonneg→le s p) l)
+
+-- ---- 1 - s for an s up to 1 - 2 ^ -23
+
+pub below-one : (s : Float) → T (nonneg s) → T (le s (ofBits binary32 0x3f7f_fffe))
+    → T (lt (fin false 0 (pos 0)) (sub binary32 (ofBits binary32 0x3f80_0000) s))
+unfolding ofBits
+below-one s p h =
+    let c = ofBits binary32 0x3f7f_fffe in
+    let o = ofBits binary32 0x3f80_0000 in
+    lt-of-lt-of-le (fin false 0 (pos 0)) (sub binary32 o c) (sub binary32 o s) (unfold lt sub in tt) (sub-anti binary32 o s c p tt h (unfold le in tt))
