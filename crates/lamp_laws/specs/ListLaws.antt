@@ -19,7 +19,9 @@ use Rattle.words.proofs.AnswerLaws.{then-given, given-injective, not-both, give
 use Rattle.words.proofs.LimitLaws.{few-lamps}
 use Rattle.words.proofs.RowLaws.{row-at, below-true, below-at}
 use Rattle.light_bounds.specs.RecordLaws.{RecordFits, reread}
-use Rattle.light_bounds.specs.RecordWords.{recordWords, vecAt, boxAt, readRecord, recordList, sideKnown, sideOf, sideWord, sidePlace}
+use Rattle.light_bounds.specs.RecordWords.{recordWords, vecAt, boxAt, readRecord, recordList, sidePlace}
+use Rattle.light_bounds.specs.Side.{sideKnown, sideOf}
+use Rattle.light_bounds.specs.SideLaws.{side-known}
 use Rattle.light_bounds.specs.declared.light_bounds.LightBounds.{LightBounds}
 use Rattle.light_bounds.proofs.RecordPlaces.{recordAt-found}
 use Rattle.lamps.specs.Block.{boundsWords, boundsRow, blockWords, packExhaustiveBounds, handlePlace, recordPlace, sideAt, handleAt, blockLayout}
@@ -125,10 +127,6 @@ block-at bs i d h =
 
 -- ---- a block read back
 
-known : (side : Bool) → sideKnown (sideWord side) ≡ true
-known true = refl
-known false = refl
-
 -- the word j places behind row i's handle
 word-at : (bs : List LightBounds) (i j : ℕ) (d : LightBounds) (h : i < length bs)
     → getD (packExhaustiveBounds bs) (handlePlace i + j) 0 ≡ getD (i ∷ recordList (getD bs i d) ++ block-at bs i d h .0) j 0
@@ -148,7 +146,7 @@ unfolding recordList
 side-is bs i h =
     let e : handlePlace i + recordWords ≡ sidePlace (recordPlace i) = omega arith in
     let b = getD bs i noBounds in
-    subst (λ (n : ℕ). sideKnown (getD (packExhaustiveBounds bs) n 0) ≡ true) e (ap sideKnown (word-at bs i recordWords noBounds h) ∙ known (b .«two_sided»))
+    subst (λ (n : ℕ). sideKnown (getD (packExhaustiveBounds bs) n 0) ≡ true) e (ap sideKnown (word-at bs i recordWords noBounds h) ∙ side-known (b .side))
 
 count-is : (bs : List LightBounds) → getD (packExhaustiveBounds bs) 0 0 ≡ length bs
 unfolding packExhaustiveBounds
@@ -217,7 +215,7 @@ read-words ws vs at h =
       phi = value (at + 9) 9 refl j;
       «cos_theta_o» = value (at + 10) 10 refl j;
       «cos_theta_e» = value (at + 11) 11 refl j;
-      «two_sided» = ap sideOf (word (at + 12) 12 refl) j;
+      side = ap sideOf (word (at + 12) 12 refl) j;
     }
 
 behind-record : (b : LightBounds) (rest : List ℕ) → readRecord (recordList b ++ rest) 0 ≡ readRecord (recordList b) 0

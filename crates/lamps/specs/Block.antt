@@ -7,7 +7,8 @@ use lib.ListN.{length, getD}
 use Rattle.words.specs.Answers.{Answer, given, refused, _then_}
 use Rattle.words.specs.Limits.{crowded}
 use Rattle.words.specs.Rows.{rowsFrom, below}
-use Rattle.light_bounds.specs.RecordWords.{recordAt, recordList, recordWords, sideKnown, sidePlace}
+use Rattle.light_bounds.specs.RecordWords.{recordAt, recordList, recordWords, sidePlace}
+use Rattle.light_bounds.specs.Side.{sideKnown}
 use Rattle.light_bounds.specs.declared.light_bounds.LightBounds.{LightBounds}
 
 -- `EXHAUSTIVE_BOUNDS_WORDS`: a handle and a record

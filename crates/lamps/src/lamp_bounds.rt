@@ -22,6 +22,7 @@ use light_bounds::light_bounds::are_cosines;
 use light_bounds::light_bounds::union;
 use light_bounds::light_bounds::validate;
 use light_bounds::record_words::vec_at;
+use light_bounds::side::lamp_side;
 use light_bounds::vecmath::Direction;
 use light_bounds::vecmath::Vec3;
 use light_bounds::vecmath::is_finite;
@@ -144,7 +145,7 @@ fn point_bounds(position: Vec3, intensity_max: f32, scale: f32) -> Bounded
                         point_phi(intensity_max, scale),
                         MINUS_ONE,
                         COS_HALF_PI,
-                        false,
+                        lamp_side(false),
                     ))
                 }
                 Validity::Refused(why) => Bounded::Refused(why),
@@ -217,7 +218,7 @@ fn spot_record(
                 phi,
                 cos_theta_o,
                 falloff(cos_theta_o, cos_falloff_end),
-                false,
+                lamp_side(false),
             )),
             Direction::Refused(why) => Bounded::Refused(why),
         },
@@ -295,7 +296,7 @@ fn faced_record(bounds: Bounds3, normal: Vec3, phi: f32, two_sided: bool) -> Bou
                     phi,
                     1.0,
                     COS_HALF_PI,
-                    two_sided,
+                    lamp_side(two_sided),
                 ));
             }
             Bounded::Refused(Refusal::NoDirection)

@@ -11,7 +11,8 @@ use lib.Seq.{sets}
 use Rattle.words.specs.Answers.{given, refused}
 use Rattle.words.proofs.Stores.{sets-append}
 use Rattle.ieee.specs.Single.{zerof}
-use Rattle.light_bounds.specs.RecordWords.{recordWords, recordAt, readRecord, vecAt, vecWords, restWords, recordList, writtenAt, sideKnown, sidePlace}
+use Rattle.light_bounds.specs.RecordWords.{recordWords, recordAt, readRecord, vecAt, vecWords, restWords, recordList, writtenAt, sidePlace}
+use Rattle.light_bounds.specs.Side.{sideKnown}
 use Rattle.light_bounds.specs.Vecmath.{vec}
 use Rattle.light_bounds.specs.declared.light_bounds.LightBounds.{LightBounds}
 

@@ -16,7 +16,8 @@ use Rattle.words.proofs.AnswerLaws.{Gives, gives, gives-none, gives-cond, gives
 use Rattle.light_bounds.specs.Bounds.{boxCheck, finiteBox, boxUnion, leastOf, greatestOf, inverted}
 use Rattle.light_bounds.specs.Cones.{unionDirectionCones}
 use Rattle.light_bounds.specs.Importance.{finiteQuery, Seen, dark, lit, facing, finish, geometry, checkedImportance, importance}
-use Rattle.light_bounds.specs.LightBounds.{lightBounds, operand, union, validate, coneCheck, join, either}
+use Rattle.light_bounds.specs.LightBounds.{lightBounds, operand, union, validate, coneCheck, join}
+use Rattle.light_bounds.specs.Side.{either}
 use Rattle.light_bounds.specs.Vecmath.{finiteVec}
 use Rattle.light_bounds.specs.declared.bounds.Bounds3.{Bounds3}
 use Rattle.light_bounds.specs.declared.light_bounds.LightBounds.{LightBounds}
@@ -60,7 +61,7 @@ abbrev made : LightBounds → LightBounds → LightBounds
 made a b =
     let c = unionDirectionCones (a .direction) (a .«cos_theta_o») (b .direction) (b .«cos_theta_o») in
     lightBounds (boxUnion (a .bounds) (b .bounds)) (c .direction) (a .phi ⊕ b .phi) (c .«cos_theta») (fmin (a .«cos_theta_e») (b .«cos_theta_e»))
-    (either (a .«two_sided») (b .«two_sided»))
+    (either (a .side) (b .side))
 
 join-made : (a b : LightBounds) → T (lt zerof (a .phi)) → T (lt zerof (b .phi)) → join a b ≡ made a b
 unfolding join

@@ -30,7 +30,7 @@ sine c = safeSqrt (onef ⊖ c ⊗ c)
 
 -- the cosine between the record's direction and the point's, a two-sided lamp's without its sign
 unfoldable pub cosW : LightBounds → Vec3 → Float
-cosW r wi = cond (r .«two_sided») (fabs (dot (r .direction) wi)) (dot (r .direction) wi)
+cosW r wi = cond (r .side .«two_sided») (fabs (dot (r .direction) wi)) (dot (r .direction) wi)
 
 -- the cosine of the smallest angle between the cone's directions and the box's
 unfoldable pub cosP : LightBounds → Vec3 → Float → Float

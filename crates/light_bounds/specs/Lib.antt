@@ -1,8 +1,10 @@
 pub mod Vecmath
 pub mod Bounds
 pub mod Cones
+pub mod Side
 pub mod LightBounds
 pub mod Importance
 pub mod RecordWords
+pub mod SideLaws
 pub mod RecordLaws
 pub mod BoundsLaws

@@ -8,17 +8,19 @@ use Rattle.words.specs.Answers.{Answer, given, refused, _then_}
 use Rattle.words.specs.Refusals.{number}
 use Rattle.light_bounds.specs.Bounds.{boxCheck, boxUnion}
 use Rattle.light_bounds.specs.Cones.{unionDirectionCones}
+use Rattle.light_bounds.specs.Side.{either}
 use Rattle.light_bounds.specs.Vecmath.{finiteVec, dot}
 use Rattle.light_bounds.specs.declared.light_bounds.LightBounds.{LightBounds}
 use Rattle.light_bounds.specs.declared.bounds.Bounds3.{Bounds3}
 use Rattle.light_bounds.specs.declared.light_bounds.Bounded.{Bounded}
 use Rattle.light_bounds.specs.declared.light_bounds.Bounded.the-variants.{Bounds, Refused}
+use Rattle.light_bounds.specs.declared.side.Side.{Side}
 use Rattle.light_bounds.specs.declared.vecmath.Vec3.{Vec3}
 
 -- the one constructor of a record
-abbrev pub lightBounds : Bounds3 → Vec3 → Float → Float → Float → Bool → LightBounds
+abbrev pub lightBounds : Bounds3 → Vec3 → Float → Float → Float → Side → LightBounds
 lightBounds bounds direction phi cosO cosE side =
-    record { bounds = bounds; direction = direction; phi = phi; «cos_theta_o» = cosO; «cos_theta_e» = cosE; «two_sided» = side }
+    record { bounds = bounds; direction = direction; phi = phi; «cos_theta_o» = cosO; «cos_theta_e» = cosE; side = side }
 
 -- a cosine lies from -1 to 1
 unfoldable pub isCosine : Float → Bool
@@ -50,10 +52,6 @@ abbrev pub operand : Answer (Unit {0}) → Answer (Unit {0})
 operand (given u) = given u
 operand (refused n) = refused 10
 
--- the side of a union
-abbrev pub either : Bool → Bool → Bool
-either a b = a || b
-
 -- zero power gives the other record whole, the first operand's tested first; the result is not checked
 unfoldable pub join : LightBounds → LightBounds → LightBounds
 join a b =
@@ -61,7 +59,7 @@ join a b =
     cond (eq (a .phi) zerof) b
     (cond (eq (b .phi) zerof) a
     (lightBounds (boxUnion (a .bounds) (b .bounds)) (c .direction) (a .phi ⊕ b .phi) (c .«cos_theta») (fmin (a .«cos_theta_e») (b .«cos_theta_e»))
-    (either (a .«two_sided») (b .«two_sided»))))
+    (either (a .side) (b .side))))
 
 unfoldable pub union : LightBounds → LightBounds → Answer LightBounds
 union a b = operand (validate a) then λ _. operand (validate b) then λ _. given (join a b)

@@ -18,8 +18,9 @@ use Rattle.words.specs.Answers.{Answer, given, refused}
 use Rattle.words.proofs.AnswerLaws.{Gives, gives, gives-none, gives-cond}
 use Rattle.light_bounds.specs.Bounds.{leastOf, greatestOf, boxUnion}
 use Rattle.light_bounds.specs.Cones.{cone, wholeSphere, joined, axisOr, unionDirectionCones}
-use Rattle.light_bounds.specs.LightBounds.{lightBounds, either, join}
-use Rattle.light_bounds.specs.RecordWords.{readRecord, vecAt, boxAt, recordList, sideOf, sideWord}
+use Rattle.light_bounds.specs.LightBounds.{lightBounds, join}
+use Rattle.light_bounds.specs.RecordWords.{readRecord, vecAt, boxAt, recordList}
+use Rattle.light_bounds.specs.SideLaws.{side-back}
 use Rattle.light_bounds.specs.Vecmath.{vec, dot, cross, plus, scaled, vecLength, dividing, normalize, rotate, angleBetween}
 use Rattle.light_bounds.specs.declared.bounds.Bounds3.{Bounds3}
 use Rattle.light_bounds.specs.declared.cones.Cone.{Cone}
@@ -142,10 +143,6 @@ join-fits a b h k =
 
 -- ---- read back
 
-side-back : (side : Bool) → sideOf (sideWord side) ≡ side
-side-back true = refl
-side-back false = refl
-
 pub reread : (r : LightBounds) → RecordFits r → readRecord (recordList r) 0 ≡ r
 unfolding vecAt recordList
 reread r h =
@@ -158,5 +155,5 @@ reread r h =
       phi = back (r .phi) (h .phi) j;
       «cos_theta_o» = back (r .«cos_theta_o») (h .cos-o) j;
       «cos_theta_e» = back (r .«cos_theta_e») (h .cos-e) j;
-      «two_sided» = side-back (r .«two_sided») j;
+      side = side-back (r .side) j;
     }

@@ -1,15 +1,16 @@
 -- A record as thirteen words: box min 3 and max 3, direction 3, phi, `cos_theta_o`, `cos_theta_e`, side. The layout of a record is said here alone.
 -- Definitions only. Assumes nothing.
 use Prim.Native.Nat.{ℕ, _+_}
-use mathlib.Core.Bool.{Bool, true, false, cond, _&&_}
+use mathlib.Core.Bool.{cond, _&&_}
 use mathlib.Core.List.{List, [], _∷_, _++_}
-use lib.Dec.{leb, eqb}
+use lib.Dec.{leb}
 use lib.Ieee.{binary32, toBits}
 use lib.ListN.{length, getD}
 use lib.Seq.{sets}
 use Rattle.ieee.specs.Single.{single}
 use Rattle.words.specs.Answers.{Answer, given, refused}
 use Rattle.light_bounds.specs.LightBounds.{lightBounds}
+use Rattle.light_bounds.specs.Side.{sideKnown, sideOf, sideWord}
 use Rattle.light_bounds.specs.Vecmath.{vec}
 use Rattle.light_bounds.specs.declared.bounds.Bounds3.{Bounds3}
 use Rattle.light_bounds.specs.declared.light_bounds.LightBounds.{LightBounds}
@@ -21,21 +22,9 @@ use Rattle.light_bounds.specs.declared.vecmath.Vec3.{Vec3}
 abbrev pub recordWords : ℕ
 recordWords = 13
 
--- ---- the side word: 0 one-sided, 1 two-sided
-
--- its place in a record that starts at a place
+-- the place of the side in a record that starts at a place
 abbrev pub sidePlace : ℕ → ℕ
 sidePlace at = at + 12
-
-abbrev pub sideKnown : ℕ → Bool
-sideKnown w = leb w 1
-
-abbrev pub sideOf : ℕ → Bool
-sideOf w = eqb w 1
-
-abbrev pub sideWord : Bool → ℕ
-sideWord true = 1
-sideWord false = 0
 
 -- ---- read, words past the end as 0
 
@@ -68,7 +57,7 @@ vecWords v = toBits binary32 (v .x) ∷ toBits binary32 (v .y) ∷ toBits binary
 
 -- what stands behind the vectors
 abbrev pub restWords : LightBounds → List ℕ
-restWords r = toBits binary32 (r .phi) ∷ toBits binary32 (r .«cos_theta_o») ∷ toBits binary32 (r .«cos_theta_e») ∷ sideWord (r .«two_sided») ∷ []
+restWords r = toBits binary32 (r .phi) ∷ toBits binary32 (r .«cos_theta_o») ∷ toBits binary32 (r .«cos_theta_e») ∷ sideWord (r .side) ∷ []
 
 unfoldable pub recordList : LightBounds → List ℕ
 recordList r = vecWords (r .bounds .min) ++ vecWords (r .bounds .max) ++ vecWords (r .direction) ++ restWords r

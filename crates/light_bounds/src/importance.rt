@@ -126,7 +126,7 @@ fn cos_w(record: LightBounds, wi: Vec3) -> f32
     ensures { λ r. ⌜ r ≡ cosW «record» wi ⌝ }
 {
     let c = dot(record.direction, wi);
-    if record.two_sided { abs(c) } else { c }
+    if record.side.two_sided { abs(c) } else { c }
 }
 
 // The cosine of the smallest angle between the cone's directions and the box's. A sine is taken only where the angle it belongs to is not cut to 0.

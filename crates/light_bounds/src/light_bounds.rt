@@ -2,12 +2,14 @@
 ghost use mathlib.Core.Path.{_≡_};
 ghost use Rattle.light_bounds.specs.Bounds.{validity};
 ghost use Rattle.light_bounds.specs.LightBounds.{lightBounds, validate as validateOf, coneCheck, finiteCone, rangeCheck, isCosine, areCosines};
-ghost use Rattle.light_bounds.specs.LightBounds.{union as unionOf, bounded, join as joinOf, either as eitherOf};
+ghost use Rattle.light_bounds.specs.LightBounds.{union as unionOf, bounded, join as joinOf};
 use super::bounds::Bounds3;
 use super::bounds::Validity;
 use super::bounds::check;
 use super::bounds::union as box_union;
 use super::cones::union_direction_cones;
+use super::side::Side;
+use super::side::either;
 use super::vecmath::Vec3;
 use super::vecmath::dot;
 use super::vecmath::is_finite;
@@ -21,7 +23,7 @@ pub struct LightBounds {
     pub phi: f32,
     pub cos_theta_o: f32,
     pub cos_theta_e: f32,
-    pub two_sided: bool,
+    pub side: Side,
 }
 
 impl LightBounds {
@@ -32,9 +34,9 @@ impl LightBounds {
         phi: f32,
         cos_theta_o: f32,
         cos_theta_e: f32,
-        two_sided: bool,
+        side: Side,
     ) -> Self
-        ensures { λ r. ⌜ r ≡ lightBounds bounds direction phi «cos_theta_o» «cos_theta_e» «two_sided» ⌝ }
+        ensures { λ r. ⌜ r ≡ lightBounds bounds direction phi «cos_theta_o» «cos_theta_e» side ⌝ }
     {
         LightBounds {
             bounds,
@@ -42,7 +44,7 @@ impl LightBounds {
             phi,
             cos_theta_o,
             cos_theta_e,
-            two_sided,
+            side,
         }
     }
 }
@@ -143,13 +145,6 @@ fn join(a: LightBounds, b: LightBounds) -> LightBounds
         a.phi + b.phi,
         cone.cos_theta,
         min(a.cos_theta_e, b.cos_theta_e),
-        either(a.two_sided, b.two_sided),
+        either(a.side, b.side),
     )
-}
-
-// The side of a union.
-fn either(a: bool, b: bool) -> bool
-    ensures { λ r. ⌜ r ≡ eitherOf a b ⌝ }
-{
-    a || b
 }

@@ -1,14 +1,15 @@
-// Records as words (specs/RecordWords.antt): box min and max, direction, phi, the two cosines, side. The side word is judged, read and written here alone, and
-// joined in `either` of light_bounds.
+// Records as words (specs/RecordWords.antt): box min and max, direction, phi, the two cosines, side. The layout of a record is here alone.
 ghost use mathlib.Core.Path.{_≡_};
 ghost use Prim.Native.Nat.{ℕ, _+_, _/_, _≤_};
 ghost use lib.ListN.{length};
 ghost use lib.Seq.{sets};
 ghost use Rattle.words.specs.LittleEndian.{wordsOf};
 ghost use Rattle.light_bounds.specs.RecordWords.{recordWords, recordAt, found, writtenAt, vecAt, boxAt, vecWords, restWords, recordList};
-ghost use Rattle.light_bounds.specs.RecordWords.{sideKnown, sideOf, sideWord};
 use super::bounds::Bounds3;
 use super::light_bounds::LightBounds;
+use super::side::is_side;
+use super::side::side_of;
+use super::side::side_word;
 use super::vecmath::Vec3;
 use words::floats::f32_of_word;
 use words::floats::word_of_f32;
@@ -26,29 +27,6 @@ pub const SIDE_PLACE: usize = 12;
 pub enum Found {
     Record(LightBounds),
     Nothing,
-}
-
-// ---- the side
-
-// Whether a word is a side: 0 or 1.
-pub fn is_side(w: u32) -> bool
-    ensures { λ r. ⌜ r ≡ sideKnown w ⌝ }
-{
-    w <= 1
-}
-
-// Whether it is two-sided.
-fn side_of(w: u32) -> bool
-    ensures { λ r. ⌜ r ≡ sideOf w ⌝ }
-{
-    w == 1
-}
-
-// The side's word.
-pub fn side_word(two_sided: bool) -> u32
-    ensures { λ r. ⌜ r ≡ sideWord «two_sided» ⌝ }
-{
-    if two_sided { 1 } else { 0 }
 }
 
 // ---- reading, words past the end as 0
@@ -171,7 +149,7 @@ fn write_rest(words: &mut [u32], at: usize, record: LightBounds)
     words[at] = word_of_f32(record.phi);
     words[at + 1] = word_of_f32(record.cos_theta_o);
     words[at + 2] = word_of_f32(record.cos_theta_e);
-    words[at + 3] = side_word(record.two_sided);
+    words[at + 3] = side_word(record.side);
 }
 
 fn put_record(words: &mut [u32], at: usize, record: LightBounds)

@@ -4,7 +4,7 @@ use denote.Ref.{now}
 use Rattle.words.specs.Answers.{given}
 use Rattle.words.specs.LittleEndian.{wordsOf}
 use Rattle.words.proofs.LittleEndianLaws.{length-wordsOf}
-use Rattle.light_bounds.specs.RecordWords.{sideKnown}
+use Rattle.light_bounds.specs.Side.{sideKnown}
 use Rattle.light_bounds.proofs.RecordPlaces.{recordAt-unknown, recordAt-found}
 use borrow.Author.Needs.{needs}
 use Rattle.light_bounds.proofs.record_words.record_at_bytes.Statement.{statement}
