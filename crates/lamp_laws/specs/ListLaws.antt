@@ -8,17 +8,15 @@ use mathlib.Core.List.{List, [], _∷_, _++_}
 use native.Mathlib.Omega.{arith}
 use borrow.Author.Tests.{le-leb, lt-leb, le-ltb, leb-true, eq-eqb, eqb-true}
 use lib.Dec.{T, leb, eqb}
-use lib.Ieee.{Float, binary32}
 use lib.ListN.{length, getD, drop}
 use lib.Seq.{getD-drop}
-use Rattle.ieee.specs.Single.{single}
 use Rattle.words.specs.Answers.{Answer, given, refused, _then_}
 use Rattle.words.specs.Limits.{maxLamps, maxWords, crowded}
 use Rattle.words.specs.Rows.{rowsFrom, below}
 use Rattle.words.proofs.AnswerLaws.{then-given, given-injective, not-both, gives-value}
 use Rattle.words.proofs.LimitLaws.{few-lamps}
 use Rattle.words.proofs.RowLaws.{row-at, below-true, below-at}
-use Rattle.light_bounds.specs.RecordLaws.{RecordFits, reread}
+use Rattle.light_bounds.specs.RecordLaws.{RecordFits, reread, read-words, behind-record}
 use Rattle.light_bounds.specs.RecordWords.{recordWords, vecAt, boxAt, readRecord, recordList, sidePlace}
 use Rattle.light_bounds.specs.Side.{sideKnown, sideOf}
 use Rattle.light_bounds.specs.SideLaws.{side-known}
@@ -199,28 +197,6 @@ pub record-found : (ws : List ℕ) (m i : ℕ) → blockLayout ws ≡ given m �
 record-found ws m i e h =
     let (size, sides) = layout-is ws m e in
     recordAt-found 1 ws (recordPlace i) (omega (arith, size)) (below-at (sideAt ws) m i sides h)
-
--- a record is read from its words alone
-read-words : (ws vs : List ℕ) (at : ℕ) → ((k : ℕ) → getD ws (at + k) 0 ≡ getD vs k 0) → readRecord ws at ≡ readRecord vs 0
-unfolding vecAt
-read-words ws vs at h =
-    let word : (n k : ℕ) → n ≡ at + k → getD ws n 0 ≡ getD vs k 0 = λ n k e. ap (λ (m : ℕ). getD ws m 0) e ∙ h k in
-    let value : (n k : ℕ) → n ≡ at + k → single (getD ws n 0) ≡ single (getD vs k 0) = λ n k e. ap single (word n k e) in
-    λ j. record {
-      bounds = record {
-        min = record { x = value at 0 (omega arith) j; y = value (at + 1) 1 refl j; z = value (at + 2) 2 refl j };
-        max = record { x = value (at + 3) 3 refl j; y = value (at + 3 + 1) 4 (omega arith) j; z = value (at + 3 + 2) 5 (omega arith) j };
-      };
-      direction = record { x = value (at + 6) 6 refl j; y = value (at + 6 + 1) 7 (omega arith) j; z = value (at + 6 + 2) 8 (omega arith) j };
-      phi = value (at + 9) 9 refl j;
-      «cos_theta_o» = value (at + 10) 10 refl j;
-      «cos_theta_e» = value (at + 11) 11 refl j;
-      side = ap sideOf (word (at + 12) 12 refl) j;
-    }
-
-behind-record : (b : LightBounds) (rest : List ℕ) → readRecord (recordList b ++ rest) 0 ≡ readRecord (recordList b) 0
-unfolding vecAt recordList
-behind-record b rest = refl
 
 -- a layout that passes gives the block's own count
 layout-count : (ws : List ℕ) (m : ℕ) → blockLayout ws ≡ given m → m ≡ getD ws 0 0

@@ -9,9 +9,8 @@ use Rattle.ieee.specs.Single.{_⊖_, _⊗_, single, zerof, onef, minusOne, pi}
 use Rattle.trig.specs.Trig.{cos, acos}
 use Rattle.words.specs.Answers.{Answer, given, refused, _then_}
 use Rattle.light_bounds.specs.Bounds.{boxCheck, leastOf, greatestOf}
-use Rattle.light_bounds.specs.LightBounds.{lightBounds, areCosines, validate, union}
+use Rattle.light_bounds.specs.LightBounds.{lampRecord, areCosines, validate, union}
 use Rattle.light_bounds.specs.RecordWords.{vecAt}
-use Rattle.light_bounds.specs.Side.{lampSide}
 use Rattle.light_bounds.specs.Vecmath.{vec, finiteVec, normalize}
 use Rattle.light_bounds.specs.declared.bounds.Bounds3.{Bounds3}
 use Rattle.light_bounds.specs.declared.light_bounds.LightBounds.{LightBounds}
@@ -54,7 +53,7 @@ unfoldable pub pointBounds : Vec3 → Float → Float → Answer LightBounds
 pointBounds position intensity scale =
     validateEmission intensity scale then λ _.
     boxCheck (pointBox position) then λ _.
-    checked (lightBounds (pointBox position) (vec zerof zerof onef) (pointPhi intensity scale) minusOne (cos halfPi) (lampSide false))
+    checked (lampRecord (pointBox position) (vec zerof zerof onef) (pointPhi intensity scale) minusOne (cos halfPi) false)
 
 -- the angle's cosine rounds to 1, and yet there is a falloff
 abbrev pub tooNarrow : Float → Float → Float → Bool
@@ -70,7 +69,7 @@ unfoldable pub spotRecord : Vec3 → Vec3 → Float → Float → Float → Answ
 spotRecord position direction phi cosO cosEnd =
     boxCheck (pointBox position) then λ _.
     normalize direction then λ d.
-    checked (lightBounds (pointBox position) d phi cosO (falloff cosO cosEnd) (lampSide false))
+    checked (lampRecord (pointBox position) d phi cosO (falloff cosO cosEnd) false)
 
 unfoldable pub spotBounds : Vec3 → Vec3 → Float → Float → Float → Float → Answer LightBounds
 spotBounds position direction intensity scale cosO cosEnd =
@@ -105,7 +104,7 @@ groupPhi emission scale area = emission ⊗ scale ⊗ area ⊗ pi
 unfoldable pub facedRecord : Bounds3 → Vec3 → Float → Bool → Answer LightBounds
 facedRecord bounds normal phi side =
     normalize normal then λ d.
-    cond (finiteVec d) (checked (lightBounds bounds d phi onef (cos halfPi) (lampSide side))) (refused 7)
+    cond (finiteVec d) (checked (lampRecord bounds d phi onef (cos halfPi) side)) (refused 7)
 
 -- the box, the area, then the rest
 unfoldable pub triangleRecord : Float → Float → Bool → AreaTriangleInput → Answer LightBounds

@@ -22,7 +22,6 @@ use light_bounds::light_bounds::are_cosines;
 use light_bounds::light_bounds::union;
 use light_bounds::light_bounds::validate;
 use light_bounds::record_words::vec_at;
-use light_bounds::side::lamp_side;
 use light_bounds::vecmath::Direction;
 use light_bounds::vecmath::Vec3;
 use light_bounds::vecmath::is_finite;
@@ -139,13 +138,13 @@ fn point_bounds(position: Vec3, intensity_max: f32, scale: f32) -> Bounded
                         y: 0.0,
                         z: 1.0,
                     };
-                    checked(LightBounds::new(
+                    checked(LightBounds::of_lamp(
                         bounds,
                         direction,
                         point_phi(intensity_max, scale),
                         MINUS_ONE,
                         COS_HALF_PI,
-                        lamp_side(false),
+                        false,
                     ))
                 }
                 Validity::Refused(why) => Bounded::Refused(why),
@@ -212,13 +211,13 @@ fn spot_record(
     let bounds = point_box(position);
     match check(bounds) {
         Validity::Valid => match normalize(direction) {
-            Direction::Unit(unit) => checked(LightBounds::new(
+            Direction::Unit(unit) => checked(LightBounds::of_lamp(
                 bounds,
                 unit,
                 phi,
                 cos_theta_o,
                 falloff(cos_theta_o, cos_falloff_end),
-                lamp_side(false),
+                false,
             )),
             Direction::Refused(why) => Bounded::Refused(why),
         },
@@ -290,13 +289,13 @@ fn faced_record(bounds: Bounds3, normal: Vec3, phi: f32, two_sided: bool) -> Bou
     match normalize(normal) {
         Direction::Unit(direction) => {
             if is_finite_vec(direction) {
-                return checked(LightBounds::new(
+                return checked(LightBounds::of_lamp(
                     bounds,
                     direction,
                     phi,
                     1.0,
                     COS_HALF_PI,
-                    lamp_side(two_sided),
+                    two_sided,
                 ));
             }
             Bounded::Refused(Refusal::NoDirection)

@@ -16,7 +16,7 @@ use Rattle.words.proofs.AnswerLaws.{Gives, gives, gives-none, gives-cond, gives
 use Rattle.light_bounds.specs.Bounds.{boxCheck, finiteBox, boxUnion, leastOf, greatestOf, inverted}
 use Rattle.light_bounds.specs.Cones.{unionDirectionCones}
 use Rattle.light_bounds.specs.Importance.{finiteQuery, Seen, dark, lit, facing, finish, geometry, checkedImportance, importance}
-use Rattle.light_bounds.specs.LightBounds.{lightBounds, operand, union, validate, coneCheck, join}
+use Rattle.light_bounds.specs.LightBounds.{joinPowered, operand, union, validate, coneCheck, join}
 use Rattle.light_bounds.specs.Side.{either}
 use Rattle.light_bounds.specs.Vecmath.{finiteVec}
 use Rattle.light_bounds.specs.declared.bounds.Bounds3.{Bounds3}
@@ -56,18 +56,12 @@ union-given a b r e =
     passed (given u) v h = refl
     passed (refused n) v h = absurd (not-both h refl)
 
--- where neither power is zero, the union is this record
-abbrev made : LightBounds → LightBounds → LightBounds
-made a b =
-    let c = unionDirectionCones (a .direction) (a .«cos_theta_o») (b .direction) (b .«cos_theta_o») in
-    lightBounds (boxUnion (a .bounds) (b .bounds)) (c .direction) (a .phi ⊕ b .phi) (c .«cos_theta») (fmin (a .«cos_theta_e») (b .«cos_theta_e»))
-    (either (a .side) (b .side))
-
-join-made : (a b : LightBounds) → T (lt zerof (a .phi)) → T (lt zerof (b .phi)) → join a b ≡ made a b
+-- where neither power is zero, the union is the record around both
+join-made : (a b : LightBounds) → T (lt zerof (a .phi)) → T (lt zerof (b .phi)) → join a b ≡ joinPowered a b
 unfolding join
 join-made a b p q = go (eq (a .phi) zerof) (eq (b .phi) zerof) (not-eq-of-lt zerof (a .phi) p) (not-eq-of-lt zerof (b .phi) q)
   where
-    go : (c d : Bool) → T (not c) → T (not d) → cond c b (cond d a (made a b)) ≡ made a b
+    go : (c d : Bool) → T (not c) → T (not d) → cond c b (cond d a (joinPowered a b)) ≡ joinPowered a b
     go true d m n = absurd m
     go false true m n = absurd n
     go false false m n = refl

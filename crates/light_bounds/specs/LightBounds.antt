@@ -8,7 +8,7 @@ use Rattle.words.specs.Answers.{Answer, given, refused, _then_}
 use Rattle.words.specs.Refusals.{number}
 use Rattle.light_bounds.specs.Bounds.{boxCheck, boxUnion}
 use Rattle.light_bounds.specs.Cones.{unionDirectionCones}
-use Rattle.light_bounds.specs.Side.{either}
+use Rattle.light_bounds.specs.Side.{lampSide, either}
 use Rattle.light_bounds.specs.Vecmath.{finiteVec, dot}
 use Rattle.light_bounds.specs.declared.light_bounds.LightBounds.{LightBounds}
 use Rattle.light_bounds.specs.declared.bounds.Bounds3.{Bounds3}
@@ -21,6 +21,10 @@ use Rattle.light_bounds.specs.declared.vecmath.Vec3.{Vec3}
 abbrev pub lightBounds : Bounds3 → Vec3 → Float → Float → Float → Side → LightBounds
 lightBounds bounds direction phi cosO cosE side =
     record { bounds = bounds; direction = direction; phi = phi; «cos_theta_o» = cosO; «cos_theta_e» = cosE; side = side }
+
+-- of a lamp in a list
+abbrev pub lampRecord : Bounds3 → Vec3 → Float → Float → Float → Bool → LightBounds
+lampRecord bounds direction phi cosO cosE side = lightBounds bounds direction phi cosO cosE (lampSide side)
 
 -- a cosine lies from -1 to 1
 unfoldable pub isCosine : Float → Bool
@@ -52,14 +56,16 @@ abbrev pub operand : Answer (Unit {0}) → Answer (Unit {0})
 operand (given u) = given u
 operand (refused n) = refused 10
 
+-- the record around two that have power
+abbrev pub joinPowered : LightBounds → LightBounds → LightBounds
+joinPowered a b =
+    let c = unionDirectionCones (a .direction) (a .«cos_theta_o») (b .direction) (b .«cos_theta_o») in
+    lightBounds (boxUnion (a .bounds) (b .bounds)) (c .direction) (a .phi ⊕ b .phi) (c .«cos_theta») (fmin (a .«cos_theta_e») (b .«cos_theta_e»))
+    (either (a .side) (b .side))
+
 -- zero power gives the other record whole, the first operand's tested first; the result is not checked
 unfoldable pub join : LightBounds → LightBounds → LightBounds
-join a b =
-    let c = unionDirectionCones (a .direction) (a .«cos_theta_o») (b .direction) (b .«cos_theta_o») in
-    cond (eq (a .phi) zerof) b
-    (cond (eq (b .phi) zerof) a
-    (lightBounds (boxUnion (a .bounds) (b .bounds)) (c .direction) (a .phi ⊕ b .phi) (c .«cos_theta») (fmin (a .«cos_theta_e») (b .«cos_theta_e»))
-    (either (a .side) (b .side))))
+join a b = cond (eq (a .phi) zerof) b (cond (eq (b .phi) zerof) a (joinPowered a b))
 
 unfoldable pub union : LightBounds → LightBounds → Answer LightBounds
 union a b = operand (validate a) then λ _. operand (validate b) then λ _. given (join a b)

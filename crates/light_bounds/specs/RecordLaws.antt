@@ -1,9 +1,10 @@
 -- Records of floats of the format: what is read from words is of them, and so is a union of such records; and such a record is read back from its words as it
 -- is. Assumes nothing.
 use Prim.Native.Nat.{ℕ, _+_}
-use mathlib.Core.Path.{_≡_, refl}
+use mathlib.Core.Path.{_≡_, refl, ap, _∙_}
 use mathlib.Core.Bool.{Bool, true, false, cond, _||_}
-use mathlib.Core.List.{List}
+use mathlib.Core.List.{List, _++_}
+use native.Mathlib.Omega.{arith}
 use lib.Dec.{T}
 use lib.Ieee.{Float, binary32, toBits, fits, ofBits, le, eq}
 use lib.Ieee.Bits.{ofBits-toBits}
@@ -20,6 +21,7 @@ use Rattle.light_bounds.specs.Bounds.{leastOf, greatestOf, boxUnion}
 use Rattle.light_bounds.specs.Cones.{cone, wholeSphere, joined, axisOr, unionDirectionCones}
 use Rattle.light_bounds.specs.LightBounds.{lightBounds, join}
 use Rattle.light_bounds.specs.RecordWords.{readRecord, vecAt, boxAt, recordList}
+use Rattle.light_bounds.specs.Side.{sideOf}
 use Rattle.light_bounds.specs.SideLaws.{side-back}
 use Rattle.light_bounds.specs.Vecmath.{vec, dot, cross, plus, scaled, vecLength, dividing, normalize, rotate, angleBetween}
 use Rattle.light_bounds.specs.declared.bounds.Bounds3.{Bounds3}
@@ -157,3 +159,26 @@ reread r h =
       «cos_theta_e» = back (r .«cos_theta_e») (h .cos-e) j;
       side = side-back (r .side) j;
     }
+
+-- a record is read from its words alone
+pub read-words : (ws vs : List ℕ) (at : ℕ) → ((k : ℕ) → getD ws (at + k) 0 ≡ getD vs k 0) → readRecord ws at ≡ readRecord vs 0
+unfolding vecAt
+read-words ws vs at h =
+    let word : (n k : ℕ) → n ≡ at + k → getD ws n 0 ≡ getD vs k 0 = λ n k e. ap (λ (m : ℕ). getD ws m 0) e ∙ h k in
+    let value : (n k : ℕ) → n ≡ at + k → single (getD ws n 0) ≡ single (getD vs k 0) = λ n k e. ap single (word n k e) in
+    λ j. record {
+      bounds = record {
+        min = record { x = value at 0 (omega arith) j; y = value (at + 1) 1 refl j; z = value (at + 2) 2 refl j };
+        max = record { x = value (at + 3) 3 refl j; y = value (at + 3 + 1) 4 (omega arith) j; z = value (at + 3 + 2) 5 (omega arith) j };
+      };
+      direction = record { x = value (at + 6) 6 refl j; y = value (at + 6 + 1) 7 (omega arith) j; z = value (at + 6 + 2) 8 (omega arith) j };
+      phi = value (at + 9) 9 refl j;
+      «cos_theta_o» = value (at + 10) 10 refl j;
+      «cos_theta_e» = value (at + 11) 11 refl j;
+      side = ap sideOf (word (at + 12) 12 refl) j;
+    }
+
+-- and of none behind them
+pub behind-record : (b : LightBounds) (rest : List ℕ) → readRecord (recordList b ++ rest) 0 ≡ readRecord (recordList b) 0
+unfolding vecAt recordList
+behind-record b rest = refl

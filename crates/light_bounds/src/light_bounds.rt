@@ -1,7 +1,7 @@
 // Bounds records (specs/LightBounds.antt): the check and the union of pbrt-r4's LightBounds, refusals in its order.
 ghost use mathlib.Core.Path.{_≡_};
 ghost use Rattle.light_bounds.specs.Bounds.{validity};
-ghost use Rattle.light_bounds.specs.LightBounds.{lightBounds, validate as validateOf, coneCheck, finiteCone, rangeCheck, isCosine, areCosines};
+ghost use Rattle.light_bounds.specs.LightBounds.{lightBounds, lampRecord, validate as validateOf, coneCheck, finiteCone, rangeCheck, isCosine, areCosines};
 ghost use Rattle.light_bounds.specs.LightBounds.{union as unionOf, bounded, join as joinOf};
 use super::bounds::Bounds3;
 use super::bounds::Validity;
@@ -10,6 +10,7 @@ use super::bounds::union as box_union;
 use super::cones::union_direction_cones;
 use super::side::Side;
 use super::side::either;
+use super::side::lamp_side;
 use super::vecmath::Vec3;
 use super::vecmath::dot;
 use super::vecmath::is_finite;
@@ -46,6 +47,27 @@ impl LightBounds {
             cos_theta_e,
             side,
         }
+    }
+
+    // The record of a lamp in a list.
+    pub fn of_lamp(
+        bounds: Bounds3,
+        direction: Vec3,
+        phi: f32,
+        cos_theta_o: f32,
+        cos_theta_e: f32,
+        two_sided: bool,
+    ) -> Self
+        ensures { λ r. ⌜ r ≡ lampRecord bounds direction phi «cos_theta_o» «cos_theta_e» «two_sided» ⌝ }
+    {
+        LightBounds::new(
+            bounds,
+            direction,
+            phi,
+            cos_theta_o,
+            cos_theta_e,
+            lamp_side(two_sided),
+        )
     }
 }
 

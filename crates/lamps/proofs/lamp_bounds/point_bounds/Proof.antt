@@ -9,9 +9,9 @@ use Rattle.lamps.proofs.lamp_bounds.point_bounds.Tie as tie
 returns : tie.Need-returns
 unfolding pointBounds _then_
 returns c =
-    rw (← c .before .before .before .before .before .before .before .before .before .before .validate-emission .ensures, c .before .before .before .before .before .before .before .before .enum-told .given .1,
-    ← c .before .before .before .before .before .before .before .point-box .ensures, ← c .before .before .before .before .before .before .check .ensures, c .before .before .before .before .enum-told2 .given .1, cos-half-pi,
-    ← c .before .before .before .point-phi .ensures, ← c .before .before .lamp-side .ensures, ← c .before .new .ensures)
+    rw (← c .before .before .before .before .before .before .before .before .before .validate-emission .ensures, c .before .before .before .before .before .before .before .enum-told .given .1,
+    ← c .before .before .before .before .before .before .point-box .ensures, ← c .before .before .before .before .before .check .ensures, c .before .before .before .enum-told2 .given .1, cos-half-pi,
+    ← c .before .before .point-phi .ensures, ← c .before .of-lamp .ensures)
     (c .checked .ensures)
 
 returns-2 : tie.Need-returns-2
@@ -26,5 +26,5 @@ returns-3 c = rw (← c .before .before .before .validate-emission .ensures, c .
 pub point-bounds-spec : {M : Type 1} → statement M
 point-bounds-spec =
     tie.close (tie.spec (λ c κs. search needs) (λ c. search needs) (λ c κs. search needs) (λ c κs. search needs) (λ c. search needs)
-      (λ c κs. search needs) (λ c κs. search needs) (λ c κs. search needs) (λ c κs. search needs) (λ c. search needs) (λ c. search needs)
-      returns returns-2 returns-3)
+      (λ c κs. search needs) (λ c κs. search needs) (λ c κs. search needs) (λ c. search needs) (λ c. search needs) returns returns-2
+      returns-3)
