@@ -10,7 +10,7 @@ use lib.Ieee.{Float, binary32, toBits, fits, ofBits, le, eq}
 use lib.Ieee.Bits.{ofBits-toBits}
 use lib.Ieee.Fits.{add-fits, mul-fits}
 use lib.ListN.{getD}
-use Rattle.ieee.specs.Choose.{fmin, clamp}
+use Rattle.ieee.specs.Choose.{fmin, fmax, clamp}
 use Rattle.ieee.specs.FormatLaws.{single-fits, fmin-fits, fmax-fits}
 use Rattle.ieee.specs.Single.{_⊕_, _⊗_, single, zerof, half, onef, minusOne, pi}
 use Rattle.trig.specs.Trig.{acos, cos}
@@ -71,23 +71,23 @@ plus-fits : (a b : Vec3) → VecFits (plus a b)
 unfolding plus
 plus-fits a b = record { x = add-fits binary32 (a .x) (b .x); y = add-fits binary32 (a .y) (b .y); z = add-fits binary32 (a .z) (b .z) }
 
+-- a choice between two, axis by axis
+choice-fits : (choose : Float → Float → Float) → ((x y : Float) → T (fits binary32 x) → T (fits binary32 y) → T (fits binary32 (choose x y)))
+    → (a b : Vec3) → VecFits a → VecFits b → VecFits (vec (choose (a .x) (b .x)) (choose (a .y) (b .y)) (choose (a .z) (b .z)))
+choice-fits choose each a b h k =
+    record {
+      x = each (a .x) (b .x) (h .x) (k .x);
+      y = each (a .y) (b .y) (h .y) (k .y);
+      z = each (a .z) (b .z) (h .z) (k .z);
+    }
+
 pub least-fits : (a b : Vec3) → VecFits a → VecFits b → VecFits (leastOf a b)
 unfolding leastOf
-least-fits a b h k =
-    record {
-      x = fmin-fits binary32 (a .x) (b .x) (h .x) (k .x);
-      y = fmin-fits binary32 (a .y) (b .y) (h .y) (k .y);
-      z = fmin-fits binary32 (a .z) (b .z) (h .z) (k .z);
-    }
+least-fits = choice-fits fmin (fmin-fits binary32)
 
 pub greatest-fits : (a b : Vec3) → VecFits a → VecFits b → VecFits (greatestOf a b)
 unfolding greatestOf
-greatest-fits a b h k =
-    record {
-      x = fmax-fits binary32 (a .x) (b .x) (h .x) (k .x);
-      y = fmax-fits binary32 (a .y) (b .y) (h .y) (k .y);
-      z = fmax-fits binary32 (a .z) (b .z) (h .z) (k .z);
-    }
+greatest-fits = choice-fits fmax (fmax-fits binary32)
 
 pub normalize-fits : (v : Vec3) → Gives VecFits (normalize v)
 unfolding normalize

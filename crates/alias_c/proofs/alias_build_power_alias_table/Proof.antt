@@ -10,5 +10,4 @@ returns c =
     (rw (c .counted-code .ensures, told .0, code-count), told .1)
 
 pub alias-build-power-alias-table-spec : {M : Type 1} → statement M
-alias-build-power-alias-table-spec =
-    tie.close (tie.spec (λ c κs. search needs) (λ c κs. search needs) (λ c. search needs) (λ c. search needs) returns)
+alias-build-power-alias-table-spec = tie.close (tie.spec (λ c κs. search needs) (λ c κs. search needs) (λ c. search needs) (λ c. search needs) returns)

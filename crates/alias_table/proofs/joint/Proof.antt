@@ -9,5 +9,4 @@ unfolding ofBits
 returns c = rw (← c .before .f32-of-word .ensures, ← c .f32-of-word2 .ensures)
 
 pub joint-spec : {M : Type 1} → statement M
-joint-spec =
-    tie.close (tie.spec (λ c κs. search needs) (λ c κs. search needs) returns)
+joint-spec = tie.close (tie.spec (λ c κs. search needs) (λ c κs. search needs) returns)

@@ -34,5 +34,4 @@ returns c =
     rw e at (c .before .loop .inv)
 
 pub ones-spec : {M : Type 1} → statement M
-ones-spec =
-    tie.close (tie.spec Inv-loop μ-loop loop-holds (λ c. omega arith) (λ c. omega arith) loop-again returns)
+ones-spec = tie.close (tie.spec Inv-loop μ-loop loop-holds (λ c. omega arith) (λ c. omega arith) loop-again returns)

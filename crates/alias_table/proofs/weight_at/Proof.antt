@@ -20,5 +20,4 @@ returns-2 c =
     rw (c .before .before .if1 .left, c .f32-of-word .ensures) (sym (List·getD-map single (now (args .weights)) (args .i) 0))
 
 pub weight-at-spec : {M : Type 1} → statement M
-weight-at-spec =
-    tie.close (tie.spec (λ c. search needs) (λ c. search needs) (λ c κs. search needs) returns returns-2)
+weight-at-spec = tie.close (tie.spec (λ c. search needs) (λ c. search needs) (λ c κs. search needs) returns returns-2)

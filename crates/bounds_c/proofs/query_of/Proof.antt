@@ -9,5 +9,4 @@ unfolding queryOf
 returns c = rw (← c .before .vec-at .ensures, ← c .vec-at2 .ensures)
 
 pub query-of-spec : {M : Type 1} → statement M
-query-of-spec =
-    tie.close (tie.spec (λ c κs. search needs) (λ c κs. search needs) returns)
+query-of-spec = tie.close (tie.spec (λ c κs. search needs) (λ c κs. search needs) returns)

@@ -9,5 +9,4 @@ returns : tie.Need-returns
 returns c = (c .counted-code .ensures ∙ ap code (c .before .before .before .bytes-of-words .ensures .0), c .before .before .before .bytes-of-words .ensures .1)
 
 pub words-bytes-of-words-spec : {M : Type 1} → statement M
-words-bytes-of-words-spec =
-    tie.close (tie.spec (λ c κs. search needs) (λ c κs. search needs) (λ c. search needs) returns)
+words-bytes-of-words-spec = tie.close (tie.spec (λ c κs. search needs) (λ c κs. search needs) (λ c. search needs) returns)

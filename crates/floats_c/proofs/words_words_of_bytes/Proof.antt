@@ -9,5 +9,4 @@ returns : tie.Need-returns
 returns c = (c .counted-code .ensures ∙ ap code (c .before .before .before .words-of-bytes .ensures .0), c .before .before .before .words-of-bytes .ensures .1)
 
 pub words-words-of-bytes-spec : {M : Type 1} → statement M
-words-words-of-bytes-spec =
-    tie.close (tie.spec (λ c κs. search needs) (λ c κs. search needs) (λ c. search needs) returns)
+words-words-of-bytes-spec = tie.close (tie.spec (λ c κs. search needs) (λ c κs. search needs) (λ c. search needs) returns)

@@ -10,5 +10,4 @@ returns c =
     (rw (c .counted-code .ensures, told .0, code-count), told .1)
 
 pub lamps-build-light-bounds-spec : {M : Type 1} → statement M
-lamps-build-light-bounds-spec =
-    tie.close (tie.spec (λ c κs. search needs) (λ c κs. search needs) (λ c. search needs) returns)
+lamps-build-light-bounds-spec = tie.close (tie.spec (λ c κs. search needs) (λ c κs. search needs) (λ c. search needs) returns)

@@ -6,14 +6,9 @@ use Rattle.stored.specs.Replay.{turns}
 use Rattle.replay_lamps.proofs.replay.Statement.{statement}
 use Rattle.replay_lamps.proofs.replay.Tie as tie
 
-abbrev Inv-loop : tie.InvT-loop
-Inv-loop case₀ tally₀ turn₀ case tally turn = turn ≤ turns
-
-abbrev μ-loop : tie.MeasureT-loop
-μ-loop case₀ tally₀ turn₀ case tally turn = turns - turn
-
 pub replay-spec : {M : Type 1} → statement M
 replay-spec =
-    tie.close (tie.spec Inv-loop μ-loop (λ c κs. tt) (λ c. omega arith) (λ c κs. tt) (λ c. search needs) (λ c κs. tt) (λ c κs. tt)
+    tie.close (tie.spec (λ case₀ tally₀ turn₀ case tally turn. turn ≤ turns) (λ case₀ tally₀ turn₀ case tally turn. turns - turn)
+      (λ c κs. tt) (λ c. omega arith) (λ c κs. tt) (λ c. search needs) (λ c κs. tt) (λ c κs. tt)
       (λ c. search needs) (λ c κs. tt) (λ c. tt) (λ c. search needs) (λ c. tt) (λ c. omega arith) (λ c. omega arith) (λ c. omega arith)
       (λ c. tt))

@@ -14,5 +14,4 @@ returns c =
     (call .kept .1 .0 ∙ mid-len 0 (start .args .size) (start .args .case .now) (start .pre))
 
 pub decode-spec : {M : Type 1} → statement M
-decode-spec =
-    tie.close (tie.spec (λ c. search needs) (λ c. search needs) (λ c. search needs) (λ c κs. search needs) (λ c. search needs) returns)
+decode-spec = tie.close (tie.spec (λ c. search needs) (λ c. search needs) (λ c. search needs) (λ c κs. search needs) (λ c. search needs) returns)

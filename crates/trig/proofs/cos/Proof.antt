@@ -21,5 +21,4 @@ unfolding cos div ofBits
 returns-2 c = beyond (c .before .before .args .x) eight (c .before .abs .ensures) _ (c .if1 .left)
 
 pub cos-spec : {M : Type 1} → statement M
-cos-spec =
-    tie.close (tie.spec (λ c κs. search needs) (λ c κs. search needs) (λ c κs. search needs) (λ c κs. search needs) returns returns-2)
+cos-spec = tie.close (tie.spec (λ c κs. search needs) (λ c κs. search needs) (λ c κs. search needs) (λ c κs. search needs) returns returns-2)

@@ -22,5 +22,4 @@ unfolding sin div ofBits
 returns-2 c = beyond (c .before .before .args .x) eight (c .before .abs .ensures) _ (c .if1 .left)
 
 pub sin-spec : {M : Type 1} → statement M
-sin-spec =
-    tie.close (tie.spec (λ c κs. search needs) (λ c κs. search needs) (λ c κs. search needs) (λ c κs. search needs) returns returns-2)
+sin-spec = tie.close (tie.spec (λ c κs. search needs) (λ c κs. search needs) (λ c κs. search needs) (λ c κs. search needs) returns returns-2)

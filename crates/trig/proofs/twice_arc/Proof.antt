@@ -12,5 +12,4 @@ unfolding twiceArc
 returns c = ap (mul binary64 two64) (c .arc .ensures ∙ ap arc (c .before .sqrt64 .ensures))
 
 pub twice-arc-spec : {M : Type 1} → statement M
-twice-arc-spec =
-    tie.close (tie.spec (λ c κs. search needs) (λ c κs. search needs) returns)
+twice-arc-spec = tie.close (tie.spec (λ c κs. search needs) (λ c κs. search needs) returns)

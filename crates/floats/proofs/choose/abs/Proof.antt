@@ -17,5 +17,4 @@ unfolding ofBits
 returns-3 c = abs-other (c .before .before .args .x) (c .before .if1 .left) (c .if2 .left)
 
 pub abs-spec : {M : Type 1} → statement M
-abs-spec =
-    tie.close (tie.spec returns returns-2 returns-3)
+abs-spec = tie.close (tie.spec returns returns-2 returns-3)

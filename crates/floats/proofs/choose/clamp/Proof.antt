@@ -20,5 +20,4 @@ unfolding clamp
 returns-2 c = rw (← raised (c .before), c .if2 .left)
 
 pub clamp-spec : {M : Type 1} → statement M
-clamp-spec =
-    tie.close (tie.spec returns returns-2)
+clamp-spec = tie.close (tie.spec returns returns-2)

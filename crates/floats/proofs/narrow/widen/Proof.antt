@@ -19,5 +19,4 @@ unfolding div ofBits
 returns c = sym (a-nan (c .before .args .x) (c .if1 .taken))
 
 pub widen-spec : {M : Type 1} → statement M
-widen-spec =
-    tie.close (tie.spec float-to-float-result returns (λ c. search needs))
+widen-spec = tie.close (tie.spec float-to-float-result returns (λ c. search needs))

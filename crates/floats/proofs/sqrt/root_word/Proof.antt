@@ -11,5 +11,4 @@ unfolding sqrt ofBits toBits
 one-root = refl
 
 pub root-word-spec : {M : Type 1} → statement M
-root-word-spec =
-    tie.close (tie.spec (λ c κs. search needs) (λ c. rw (c .if1 .taken) one-root) (λ c. search needs))
+root-word-spec = tie.close (tie.spec (λ c κs. search needs) (λ c. rw (c .if1 .taken) one-root) (λ c. search needs))

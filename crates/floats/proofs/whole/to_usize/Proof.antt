@@ -17,5 +17,4 @@ returns c =
     ∙ ap toUsize (ofBits-toBits binary32 (start .args .x) (subst T (sym (start .good .0 .1)) tt))
 
 pub to-usize-spec : {M : Type 1} → statement M
-to-usize-spec =
-    tie.close (tie.spec (λ c κs. search needs) (λ c κs. search needs) returns)
+to-usize-spec = tie.close (tie.spec (λ c κs. search needs) (λ c κs. search needs) returns)

@@ -14,5 +14,4 @@ unfolding blockCheck _then_
 returns-2 c = rw (← c .before .before .before .check-layout .ensures, c .before .why .given .1)
 
 pub check-block-spec : {M : Type 1} → statement M
-check-block-spec =
-    tie.close (tie.spec (λ c κs. search needs) (λ c. search needs) (λ c κs. search needs) (λ c. search needs) returns returns-2)
+check-block-spec = tie.close (tie.spec (λ c κs. search needs) (λ c. search needs) (λ c κs. search needs) (λ c. search needs) returns returns-2)

@@ -14,5 +14,4 @@ unfolding checked _then_
 returns-2 c = rw (← c .before .before .before .validate .ensures, c .before .why .given .1)
 
 pub checked-spec : {M : Type 1} → statement M
-checked-spec =
-    tie.close (tie.spec (λ c κs. search needs) (λ c. search needs) (λ c. search needs) returns returns-2)
+checked-spec = tie.close (tie.spec (λ c κs. search needs) (λ c. search needs) (λ c. search needs) returns returns-2)

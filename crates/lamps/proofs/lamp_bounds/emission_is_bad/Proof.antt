@@ -17,5 +17,4 @@ returns-4 c =
     not-false (c .before .before .is-finite2 .result) (c .before .if2 .left), c .if3 .left)
 
 pub emission-is-bad-spec : {M : Type 1} → statement M
-emission-is-bad-spec =
-    tie.close (tie.spec (λ c κs. search needs) (λ c κs. search needs) (λ c. search needs) (λ c. search needs) returns-3 returns-4)
+emission-is-bad-spec = tie.close (tie.spec (λ c κs. search needs) (λ c κs. search needs) (λ c. search needs) (λ c. search needs) returns-3 returns-4)

@@ -15,5 +15,4 @@ returns-2 c = rw (← c .before .before .before .before .acos .ensures, ← c .b
     ← c .before .too-narrow .ensures, c .if1 .left)
 
 pub falloff-spec : {M : Type 1} → statement M
-falloff-spec =
-    tie.close (tie.spec (λ c κs. search needs) (λ c κs. search needs) (λ c κs. search needs) (λ c κs. search needs) returns returns-2)
+falloff-spec = tie.close (tie.spec (λ c κs. search needs) (λ c κs. search needs) (λ c κs. search needs) (λ c κs. search needs) returns returns-2)

@@ -9,5 +9,4 @@ unfolding groupPhi
 returns c = refl
 
 pub group-phi-spec : {M : Type 1} → statement M
-group-phi-spec =
-    tie.close (tie.spec returns)
+group-phi-spec = tie.close (tie.spec returns)

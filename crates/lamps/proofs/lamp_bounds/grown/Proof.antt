@@ -13,5 +13,4 @@ unfolding _then_
 returns-2 c = rw (← c .before .before .before .triangle-record .ensures, c .before .why .given .1)
 
 pub grown-spec : {M : Type 1} → statement M
-grown-spec =
-    tie.close (tie.spec (λ c κs. search needs) (λ c. search needs) (λ c κs. search needs) (λ c. search needs) returns returns-2)
+grown-spec = tie.close (tie.spec (λ c κs. search needs) (λ c. search needs) (λ c κs. search needs) (λ c. search needs) returns returns-2)

@@ -10,5 +10,4 @@ unfolding ofBits
 returns-2 c = rw (← c .before .is-finite .ensures, not-false (c .before .is-finite .result) (c .if1 .left))
 
 pub has-no-area-spec : {M : Type 1} → statement M
-has-no-area-spec =
-    tie.close (tie.spec (λ c κs. search needs) (λ c. search needs) returns-2)
+has-no-area-spec = tie.close (tie.spec (λ c κs. search needs) (λ c. search needs) returns-2)

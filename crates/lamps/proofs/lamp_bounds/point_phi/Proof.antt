@@ -9,5 +9,4 @@ unfolding pointPhi
 returns c = refl
 
 pub point-phi-spec : {M : Type 1} → statement M
-point-phi-spec =
-    tie.close (tie.spec returns)
+point-phi-spec = tie.close (tie.spec returns)

@@ -12,5 +12,4 @@ unfolding ofBits
 returns-2 c = rw (c .if1 .left)
 
 pub too-narrow-spec : {M : Type 1} → statement M
-too-narrow-spec =
-    tie.close (tie.spec returns returns-2)
+too-narrow-spec = tie.close (tie.spec returns returns-2)

@@ -9,5 +9,4 @@ unfolding triangleBounds
 returns c = rw (← c .before .before .before .lesser .ensures, ← c .before .before .lesser2 .ensures, ← c .before .greater .ensures, ← c .greater2 .ensures)
 
 pub triangle-bounds-spec : {M : Type 1} → statement M
-triangle-bounds-spec =
-    tie.close (tie.spec (λ c κs. search needs) (λ c κs. search needs) (λ c κs. search needs) (λ c κs. search needs) returns)
+triangle-bounds-spec = tie.close (tie.spec (λ c κs. search needs) (λ c κs. search needs) (λ c κs. search needs) (λ c κs. search needs) returns)

@@ -13,5 +13,4 @@ unfolding validateEmission
 returns-2 c = rw (← c .before .emission-is-bad .ensures, c .if1 .left)
 
 pub validate-emission-spec : {M : Type 1} → statement M
-validate-emission-spec =
-    tie.close (tie.spec (λ c κs. search needs) returns returns-2)
+validate-emission-spec = tie.close (tie.spec (λ c κs. search needs) returns returns-2)

@@ -13,5 +13,4 @@ unfolding lampList
 returns-2 c = rw (← c .before .before .crowded .ensures, c .before .if1 .left) (c .check-lamps .ensures)
 
 pub check-list-spec : {M : Type 1} → statement M
-check-list-spec =
-    tie.close (tie.spec (λ c κs. search needs) returns (λ c κs. search needs) returns-2)
+check-list-spec = tie.close (tie.spec (λ c κs. search needs) returns (λ c κs. search needs) returns-2)

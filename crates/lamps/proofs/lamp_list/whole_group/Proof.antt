@@ -23,5 +23,4 @@ returns : tie.Need-returns
 returns c = rw (← c .before .before .group-fits .ensures, c .before .if1 .taken) (ap given (c .read-group .ensures))
 
 pub whole-group-spec : {M : Type 1} → statement M
-whole-group-spec =
-    tie.close (tie.spec (λ c κs. search needs) read-group-requires returns (λ c. rw (← c .before .group-fits .ensures, c .if1 .left)))
+whole-group-spec = tie.close (tie.spec (λ c κs. search needs) read-group-requires returns (λ c. rw (← c .before .group-fits .ensures, c .if1 .left)))

@@ -9,5 +9,4 @@ unfolding centroid
 returns c = refl
 
 pub centroid-spec : {M : Type 1} → statement M
-centroid-spec =
-    tie.close (tie.spec returns)
+centroid-spec = tie.close (tie.spec returns)

@@ -22,5 +22,4 @@ returns-3 c =
     ← c .before .is-inverted .ensures, c .if2 .left)
 
 pub check-spec : {M : Type 1} → statement M
-check-spec =
-    tie.close (tie.spec (λ c κs. search needs) returns (λ c κs. search needs) returns-2 returns-3)
+check-spec = tie.close (tie.spec (λ c κs. search needs) returns (λ c κs. search needs) returns-2 returns-3)

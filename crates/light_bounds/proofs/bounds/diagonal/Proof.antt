@@ -9,5 +9,4 @@ unfolding diagonal
 returns c = refl
 
 pub diagonal-spec : {M : Type 1} → statement M
-diagonal-spec =
-    tie.close (tie.spec returns)
+diagonal-spec = tie.close (tie.spec returns)

@@ -9,5 +9,4 @@ unfolding greatestOf
 returns c = λ i. record { x = c .before .before .max .ensures i; y = c .before .max2 .ensures i; z = c .max3 .ensures i }
 
 pub greater-spec : {M : Type 1} → statement M
-greater-spec =
-    tie.close (tie.spec (λ c κs. search needs) (λ c κs. search needs) (λ c κs. search needs) returns)
+greater-spec = tie.close (tie.spec (λ c κs. search needs) (λ c κs. search needs) (λ c κs. search needs) returns)

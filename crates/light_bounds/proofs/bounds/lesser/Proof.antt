@@ -9,5 +9,4 @@ unfolding leastOf
 returns c = λ i. record { x = c .before .before .min .ensures i; y = c .before .min2 .ensures i; z = c .min3 .ensures i }
 
 pub lesser-spec : {M : Type 1} → statement M
-lesser-spec =
-    tie.close (tie.spec (λ c κs. search needs) (λ c κs. search needs) (λ c κs. search needs) returns)
+lesser-spec = tie.close (tie.spec (λ c κs. search needs) (λ c κs. search needs) (λ c κs. search needs) returns)

@@ -12,5 +12,4 @@ unfolding surfaceArea
 returns c = ap (λ (d : Vec3). twof ⊗ (d .x ⊗ d .y ⊕ d .y ⊗ d .z ⊕ d .z ⊗ d .x)) (c .before .before .before .diagonal .ensures)
 
 pub surface-area-spec : {M : Type 1} → statement M
-surface-area-spec =
-    tie.close (tie.spec (λ c κs. search needs) returns)
+surface-area-spec = tie.close (tie.spec (λ c κs. search needs) returns)

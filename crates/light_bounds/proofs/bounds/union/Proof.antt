@@ -9,5 +9,4 @@ unfolding boxUnion
 returns c = λ i. record { min = c .before .lesser .ensures i; max = c .greater .ensures i }
 
 pub union-spec : {M : Type 1} → statement M
-union-spec =
-    tie.close (tie.spec (λ c κs. search needs) (λ c κs. search needs) returns)
+union-spec = tie.close (tie.spec (λ c κs. search needs) (λ c κs. search needs) returns)

@@ -9,5 +9,4 @@ unfolding neg ofBits
 returns c = refl
 
 pub everywhere-spec : {M : Type 1} → statement M
-everywhere-spec =
-    tie.close (tie.spec returns)
+everywhere-spec = tie.close (tie.spec returns)

@@ -12,5 +12,4 @@ unfolding safeSqrt
 returns c = c .sqrt .ensures ∙ ap (sqrt binary32) (c .before .max .ensures)
 
 pub safe-sqrt-spec : {M : Type 1} → statement M
-safe-sqrt-spec =
-    tie.close (tie.spec (λ c κs. search needs) (λ c κs. search needs) returns)
+safe-sqrt-spec = tie.close (tie.spec (λ c κs. search needs) (λ c κs. search needs) returns)

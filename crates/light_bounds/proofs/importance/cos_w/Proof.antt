@@ -15,5 +15,4 @@ unfolding cosW
 returns-2 c = rw (c .if1 .left) (c .before .dot .ensures)
 
 pub cos-w-spec : {M : Type 1} → statement M
-cos-w-spec =
-    tie.close (tie.spec (λ c κs. search needs) (λ c κs. search needs) returns returns-2)
+cos-w-spec = tie.close (tie.spec (λ c κs. search needs) (λ c κs. search needs) returns returns-2)

@@ -15,5 +15,4 @@ unfolding checkedImportance
 returns-2 c = rw (← c .before .is-finite-query .ensures, c .if1 .left)
 
 pub finite-importance-spec : {M : Type 1} → statement M
-finite-importance-spec =
-    tie.close (tie.spec (λ c κs. search needs) (λ c κs. search needs) (λ c κs. search needs) returns returns-2)
+finite-importance-spec = tie.close (tie.spec (λ c κs. search needs) (λ c κs. search needs) (λ c κs. search needs) returns returns-2)

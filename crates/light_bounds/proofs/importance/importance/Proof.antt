@@ -14,5 +14,4 @@ unfolding importance _then_
 returns-2 c = rw (← c .before .before .before .validate .ensures, c .before .why .given .1)
 
 pub importance-spec : {M : Type 1} → statement M
-importance-spec =
-    tie.close (tie.spec (λ c κs. search needs) (λ c. search needs) (λ c κs. search needs) (λ c. search needs) returns returns-2)
+importance-spec = tie.close (tie.spec (λ c κs. search needs) (λ c. search needs) (λ c κs. search needs) (λ c. search needs) returns returns-2)

@@ -18,5 +18,4 @@ returns-2 c =
     rw (c .before .if1 .left) (ap (λ (s : Float). a .cos-x ⊗ a .cos-b ⊕ a .sin-x ⊗ s) (c .sine .ensures))
 
 pub less-the-box-spec : {M : Type 1} → statement M
-less-the-box-spec =
-    tie.close (tie.spec (λ c κs. search needs) returns returns-2)
+less-the-box-spec = tie.close (tie.spec (λ c κs. search needs) returns returns-2)

@@ -9,5 +9,4 @@ unfolding sine
 returns c = c .safe-sqrt .ensures
 
 pub sine-spec : {M : Type 1} → statement M
-sine-spec =
-    tie.close (tie.spec (λ c κs. search needs) returns)
+sine-spec = tie.close (tie.spec (λ c κs. search needs) returns)

@@ -14,5 +14,4 @@ returns-2 c = rw (← c .before .before .before .before .subtended .ensures, ←
     c .before .if1 .left) (c .with-normal .ensures)
 
 pub toward-spec : {M : Type 1} → statement M
-toward-spec =
-    tie.close (tie.spec (λ c κs. search needs) (λ c κs. search needs) returns (λ c κs. search needs) returns-2)
+toward-spec = tie.close (tie.spec (λ c κs. search needs) (λ c κs. search needs) returns (λ c κs. search needs) returns-2)

@@ -9,5 +9,4 @@ unfolding weigh
 returns c = c .importance .ensures
 
 pub weigh-spec : {M : Type 1} → statement M
-weigh-spec =
-    tie.close (tie.spec (λ c κs. search needs) returns)
+weigh-spec = tie.close (tie.spec (λ c κs. search needs) returns)

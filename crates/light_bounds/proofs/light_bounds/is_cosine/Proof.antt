@@ -13,5 +13,4 @@ unfolding isCosine neg ofBits
 returns-2 c = rw (c .if1 .left)
 
 pub is-cosine-spec : {M : Type 1} → statement M
-is-cosine-spec =
-    tie.close (tie.spec returns returns-2)
+is-cosine-spec = tie.close (tie.spec returns returns-2)

@@ -14,5 +14,4 @@ unfolding validate _then_
 returns-2 c = rw (← c .before .before .before .check .ensures, c .before .enum-told .given .1) (c .validate-cone .ensures)
 
 pub validate-spec : {M : Type 1} → statement M
-validate-spec =
-    tie.close (tie.spec (λ c κs. search needs) (λ c. search needs) (λ c. search needs) returns (λ c κs. search needs) returns-2)
+validate-spec = tie.close (tie.spec (λ c κs. search needs) (λ c. search needs) (λ c. search needs) returns (λ c κs. search needs) returns-2)

@@ -13,5 +13,4 @@ unfolding coneCheck
 returns-2 c = rw (← c .before .is-finite-cone .ensures, c .if1 .left)
 
 pub validate-cone-spec : {M : Type 1} → statement M
-validate-cone-spec =
-    tie.close (tie.spec (λ c κs. search needs) (λ c κs. search needs) returns returns-2)
+validate-cone-spec = tie.close (tie.spec (λ c κs. search needs) (λ c κs. search needs) returns returns-2)

@@ -25,5 +25,4 @@ returns-4 c =
     ← c .before .are-cosines .ensures, c .if3 .left)
 
 pub validate-range-spec : {M : Type 1} → statement M
-validate-range-spec =
-    tie.close (tie.spec (λ c κs. search needs) returns returns-2 (λ c κs. search needs) returns-3 returns-4)
+validate-range-spec = tie.close (tie.spec (λ c κs. search needs) returns returns-2 (λ c κs. search needs) returns-3 returns-4)

@@ -9,5 +9,4 @@ unfolding plus
 returns c = refl
 
 pub add-spec : {M : Type 1} → statement M
-add-spec =
-    tie.close (tie.spec returns)
+add-spec = tie.close (tie.spec returns)

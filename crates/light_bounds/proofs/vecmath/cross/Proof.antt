@@ -9,5 +9,4 @@ unfolding cross
 returns c = refl
 
 pub cross-spec : {M : Type 1} → statement M
-cross-spec =
-    tie.close (tie.spec returns)
+cross-spec = tie.close (tie.spec returns)

@@ -9,5 +9,4 @@ unfolding divided
 returns c = refl
 
 pub divide-vector-spec : {M : Type 1} → statement M
-divide-vector-spec =
-    tie.close (tie.spec returns)
+divide-vector-spec = tie.close (tie.spec returns)

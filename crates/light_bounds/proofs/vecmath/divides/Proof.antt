@@ -9,5 +9,4 @@ unfolding ofBits ne
 returns c = rw (← c .before .is-finite .ensures, c .if1 .taken)
 
 pub divides-spec : {M : Type 1} → statement M
-divides-spec =
-    tie.close (tie.spec (λ c κs. search needs) returns (λ c. rw (← c .before .is-finite .ensures, c .if1 .left)))
+divides-spec = tie.close (tie.spec (λ c κs. search needs) returns (λ c. rw (← c .before .is-finite .ensures, c .if1 .left)))

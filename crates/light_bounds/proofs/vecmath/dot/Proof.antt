@@ -9,5 +9,4 @@ unfolding dot
 returns c = refl
 
 pub dot-spec : {M : Type 1} → statement M
-dot-spec =
-    tie.close (tie.spec returns)
+dot-spec = tie.close (tie.spec returns)

@@ -29,5 +29,4 @@ unfolding div ofBits lt
 returns-2 c = not-below (c .before .args .x) (c .if1 .left)
 
 pub is-finite-spec : {M : Type 1} → statement M
-is-finite-spec =
-    tie.close (tie.spec returns returns-2)
+is-finite-spec = tie.close (tie.spec returns returns-2)

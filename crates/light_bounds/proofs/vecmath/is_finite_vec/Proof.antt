@@ -20,5 +20,4 @@ unfolding finiteVec
 returns-3 c = rw (← c .before .is-finite .ensures, c .if1 .left)
 
 pub is-finite-vec-spec : {M : Type 1} → statement M
-is-finite-vec-spec =
-    tie.close (tie.spec (λ c κs. search needs) (λ c κs. search needs) (λ c κs. search needs) returns returns-2 returns-3)
+is-finite-vec-spec = tie.close (tie.spec (λ c κs. search needs) (λ c κs. search needs) (λ c κs. search needs) returns returns-2 returns-3)

@@ -12,5 +12,4 @@ unfolding vecLength
 returns c = c .sqrt .ensures ∙ ap (sqrt binary32) (c .before .dot .ensures)
 
 pub length-spec : {M : Type 1} → statement M
-length-spec =
-    tie.close (tie.spec (λ c κs. search needs) (λ c κs. search needs) returns)
+length-spec = tie.close (tie.spec (λ c κs. search needs) (λ c κs. search needs) returns)

@@ -9,5 +9,4 @@ unfolding scaled
 returns c = refl
 
 pub scale-vector-spec : {M : Type 1} → statement M
-scale-vector-spec =
-    tie.close (tie.spec returns)
+scale-vector-spec = tie.close (tie.spec returns)

@@ -9,5 +9,4 @@ unfolding minus
 returns c = refl
 
 pub sub-spec : {M : Type 1} → statement M
-sub-spec =
-    tie.close (tie.spec returns)
+sub-spec = tie.close (tie.spec returns)

@@ -11,5 +11,4 @@ unfolding div ofBits
 returns c = sym (nan-bits binary32 (c .before .args .w) (c .if1 .taken))
 
 pub f32-of-word-spec : {M : Type 1} → statement M
-f32-of-word-spec =
-    tie.close (tie.spec (λ c. no-nan-bits binary32 (c .before .args .w) (c .if1 .left)) returns (λ c. search needs))
+f32-of-word-spec = tie.close (tie.spec (λ c. no-nan-bits binary32 (c .before .args .w) (c .if1 .left)) returns (λ c. search needs))

@@ -11,5 +11,4 @@ unfolding toBits
 returns c = sym (ap (toBits binary64) (a-nan (c .before .args .x) (c .if1 .taken)))
 
 pub word-of-f64-spec : {M : Type 1} → statement M
-word-of-f64-spec =
-    tie.close (tie.spec (λ c. no-nan (c .before .args .x) (c .if1 .left)) returns (λ c. search needs))
+word-of-f64-spec = tie.close (tie.spec (λ c. no-nan (c .before .args .x) (c .if1 .left)) returns (λ c. search needs))

@@ -14,5 +14,4 @@ unfolding crowded
 returns-2 c = rw (← c .before .word-or-zero .ensures, le-ltb _ _ (c .if1 .left))
 
 pub crowded-spec : {M : Type 1} → statement M
-crowded-spec =
-    tie.close (tie.spec (λ c κs. search needs) (λ c. search needs) returns returns-2)
+crowded-spec = tie.close (tie.spec (λ c κs. search needs) (λ c. search needs) returns returns-2)

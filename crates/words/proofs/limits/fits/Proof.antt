@@ -20,5 +20,4 @@ returns-2 : tie.Need-returns-2
 returns-2 c = let a = c .before .args in lt-leb (a .n) (a .len) (c .if1 .left) ∙ sym (lt-leb (a .at + a .n) (a .len) (omega arith))
 
 pub fits-spec : {M : Type 1} → statement M
-fits-spec =
-    tie.close (tie.spec (λ c. moved _ _ _ (c .if1 .taken)) returns-2)
+fits-spec = tie.close (tie.spec (λ c. moved _ _ _ (c .if1 .taken)) returns-2)

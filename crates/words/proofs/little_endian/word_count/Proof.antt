@@ -13,5 +13,4 @@ unfolding wordCount
 returns-2 c = simp (ne-eqb _ _ (c .if1 .left))
 
 pub word-count-spec : {M : Type 1} → statement M
-word-count-spec =
-    tie.close (tie.spec returns returns-2)
+word-count-spec = tie.close (tie.spec returns returns-2)
