@@ -118,10 +118,11 @@ pub block-at : (bs : List LightBounds) (i : ℕ) (d : LightBounds) → i < lengt
 unfolding packExhaustiveBounds
 block-at bs i d h =
     let e : 0 + i ≡ i = omega arith in
-    let e′ : handlePlace i ≡ suc (boundsWords * i) = omega arith in
-    (rowsFrom boundsRow (suc (0 + i)) (drop (suc i) bs),
-    rw e′ (row-at boundsRow boundsWords row-width 0 i bs d h ∙ ap
-        (λ (j : ℕ). boundsRow j (getD bs i d) ++ rowsFrom boundsRow (suc (0 + i)) (drop (suc i) bs)) e))
+    let e′ : handlePlace i ≡ suc (boundsWords * i) = omega arith in (
+      rowsFrom boundsRow (suc (0 + i)) (drop (suc i) bs),
+      rw e′ (row-at boundsRow boundsWords row-width 0 i bs d h ∙ ap
+          (λ (j : ℕ). boundsRow j (getD bs i d) ++ rowsFrom boundsRow (suc (0 + i)) (drop (suc i) bs)) e),
+    )
 
 -- ---- a block read back
 
@@ -227,4 +228,4 @@ block-read ws room bs i d e h =
     let count : m ≡ length bs = layout-count block m layout ∙ count-is bs in
     record-found block m i layout (omega (arith, count, h))
     ∙ ap given (read-words block stored at words ∙ behind-record (getD bs i d) (block-at bs i d h .0) ∙ reread (getD bs i d)
-        (fit-at bs i d (built-fits ws room bs e) h))
+    (fit-at bs i d (built-fits ws room bs e) h))

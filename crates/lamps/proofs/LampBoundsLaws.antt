@@ -43,10 +43,10 @@ module _ (emission scale : Float) (side : Bool) (ts : List ℕ) where
   -- a later one in a union
   pub unionFrom-next : (i n : ℕ) (r : LightBounds) → 0 < n → unionFrom emission scale side ts i n (given r)
       ≡ (triangleRecord emission scale side (triangleAt ts i) then joinNext (given r)) then λ s. unionFrom emission scale side ts (i + triangleWords)
-          (n - 1) (given s)
+      (n - 1) (given s)
   unfolding unionFrom
   unionFrom-next i zero r h = absurd (omega arith)
   unionFrom-next i (suc k) r h =
       let e : suc k - 1 ≡ k = omega arith in
       rw e (sym (then-assoc (triangleRecord emission scale side (triangleAt ts i)) (joinNext (given r))
-          (λ s. unionFrom emission scale side ts (i + triangleWords) k (given s))))
+      (λ s. unionFrom emission scale side ts (i + triangleWords) k (given s))))

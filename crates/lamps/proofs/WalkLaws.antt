@@ -101,7 +101,7 @@ boundsWalk-all (suc m) ws at rs e =
   where
     each : (r : Reading) (ys : List Reading) → gathered (boundsWalk ws) m (r .next .at) ≡ allBounds ws ys → (z : Answer LightBounds) →
         (z then λ b. given (record { bounds = b; next = r .next })) then
-            (λ (p : Passed). gathered (boundsWalk ws) m (p .next .at) then λ bs. given (p .bounds ∷ bs))
+        (λ (p : Passed). gathered (boundsWalk ws) m (p .next .at) then λ bs. given (p .bounds ∷ bs))
         ≡ z then λ b. allBounds ws ys then λ bs. given (b ∷ bs)
     each r ys h (given b) = ap (λ (x : Answer (List LightBounds)). x then λ bs. given (b ∷ bs)) h
     each r ys h (refused n) = refl

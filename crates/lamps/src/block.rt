@@ -9,8 +9,8 @@ ghost use Rattle.lamps.specs.Block.{blockLayout, blockHandles, blockChec
 use light_bounds::record_words::Found;
 use light_bounds::record_words::RECORD_WORDS;
 use light_bounds::record_words::SIDE_PLACE;
-use light_bounds::side::is_side;
 use light_bounds::record_words::read_record;
+use light_bounds::side::is_side;
 use words::answers::Counted;
 use words::limits::crowded;
 use words::places::wide;

@@ -1,7 +1,8 @@
 // Bounds records (specs/LightBounds.antt): the check and the union of pbrt-r4's LightBounds, refusals in its order.
 ghost use mathlib.Core.Path.{_≡_};
 ghost use Rattle.light_bounds.specs.Bounds.{validity};
-ghost use Rattle.light_bounds.specs.LightBounds.{lightBounds, lampRecord, validate as validateOf, coneCheck, finiteCone, rangeCheck, isCosine, areCosines};
+ghost use Rattle.light_bounds.specs.LightBounds.{lightBounds, lampRecord, validate as validateOf, coneCheck, finiteCone, rangeCheck, isCosine};
+ghost use Rattle.light_bounds.specs.LightBounds.{areCosines};
 ghost use Rattle.light_bounds.specs.LightBounds.{union as unionOf, bounded, join as joinOf};
 use super::bounds::Bounds3;
 use super::bounds::Validity;

@@ -114,7 +114,7 @@ module _ {A : Type 0} (row : ℕ → A → List ℕ) where
         let z : 0 + length head ≡ length head = omega arith in
         let behind : drop n (sets d 0 head) ≡ drop n d =
         rw (sets-eq head d 0 (omega arith), e, z) (drop-append-add head (drop (length head) d) (n - length head) ∙ drop-drop (n - length head)
-            (length head) d) in
+        (length head) d) in
         record { same = w .same ∙ length-sets d 0 head; is = w .is ∙ rw behind }
 
     -- what lies behind the rows stays

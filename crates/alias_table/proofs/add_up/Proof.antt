@@ -33,9 +33,9 @@ loop-again c =
     let read = c .before .before .before in
     rw (c .widen .ensures)
     (sums-next (read .before .before .before .loop .inv) (omega arith) (read .f32-of-word .ensures)
-      (not-false _ (c .before .before .if1 .left)) (c .before .if2 .left))
+    (not-false _ (c .before .before .if1 .left)) (c .before .if2 .left))
 
 pub add-up-spec : {M : Type 1} → statement M
 add-up-spec =
     tie.close (tie.spec Inv-loop μ-loop loop-holds (λ c. search needs) (λ c. search needs) (λ c κs. search needs) returns
-      (λ c κs. search needs) (λ c. omega arith) (λ c. omega arith) loop-again (λ c. sums-all (c .before .loop .inv) (omega arith)))
+    (λ c κs. search needs) (λ c. omega arith) (λ c. omega arith) loop-again (λ c. sums-all (c .before .loop .inv) (omega arith)))

@@ -45,5 +45,5 @@ returns c =
 pub build-spec : {M : Type 1} → statement M
 build-spec =
     tie.close (tie.spec (λ c κs. search needs) (λ c κs. (_, _, _, c .before .before .before .before .before .before .start .ensures))
-      make-whole-requires (λ c. search needs) make-whole-requires-2 mul-zero-words (λ c κs. search needs) (λ c. search needs)
-      (λ c. search needs) returns)
+    make-whole-requires (λ c. search needs) make-whole-requires-2 mul-zero-words (λ c κs. search needs) (λ c. search needs)
+    (λ c. search needs) returns)

@@ -73,5 +73,5 @@ returns-4 c =
 pub build-power-alias-table-spec : {M : Type 1} → statement M
 build-power-alias-table-spec =
     tie.close (tie.spec returns (λ c. search needs) (λ c. search needs) returns-2 (λ c κs. search needs) (λ c. search needs)
-      (λ c κs. search needs) build-requires (λ c. search needs) (λ c. search needs) (λ c κs. search needs) (λ c. search needs)
-      (λ c κs. search needs) (λ c. search needs) (λ c. search needs) returns-3 (λ c. search needs) (λ c. search needs) returns-4)
+    (λ c κs. search needs) build-requires (λ c. search needs) (λ c. search needs) (λ c κs. search needs) (λ c. search needs)
+    (λ c κs. search needs) (λ c. search needs) (λ c. search needs) returns-3 (λ c. search needs) (λ c. search needs) returns-4)

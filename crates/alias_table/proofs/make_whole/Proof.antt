@@ -49,5 +49,5 @@ returns c =
 pub make-whole-spec : {M : Type 1} → statement M
 make-whole-spec =
     tie.close (tie.spec Inv-loop μ-loop loop-holds (λ c. omega arith) (λ c. omega arith) (λ c. omega arith) (λ c. omega arith)
-      (λ c. omega arith) (λ c. omega (arith, in-bins c)) (λ c. omega (arith, in-bins c)) (λ c. omega (arith, in-bins c))
-      (λ c. omega (arith, in-bins c)) (λ c. omega arith) (λ c. omega arith) loop-again (λ c. omega arith) returns)
+    (λ c. omega arith) (λ c. omega (arith, in-bins c)) (λ c. omega (arith, in-bins c)) (λ c. omega (arith, in-bins c))
+    (λ c. omega (arith, in-bins c)) (λ c. omega arith) (λ c. omega arith) loop-again (λ c. omega arith) returns)

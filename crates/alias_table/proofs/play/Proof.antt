@@ -37,9 +37,9 @@ loop-again-2 c =
 pub play-spec : {M : Type 1} → statement M
 play-spec =
     tie.close (tie.spec Inv-loop μ-loop (λ c. going-none (c .before .before .pre)) (λ c. omega arith) (λ c. omega arith) (λ c. omega arith)
-      (λ c. omega (arith, ltb-true)) (λ c. omega arith) (λ c. omega arith) (λ c. omega arith) (λ c. omega arith) (λ c. omega arith)
-      (λ c. omega arith) (λ c. omega arith) (λ c. omega arith) (λ c. omega arith) (λ c κs. omega arith) (λ c. omega arith)
-      (λ c. omega arith) (λ c. omega arith) settle-requires (λ c. omega arith) (λ c. omega (arith, ltb-true)) (λ c κs. omega arith)
-      (λ c. omega (arith, ltb-true)) (λ c. omega (arith, ltb-true)) loop-again (λ c. omega arith) (λ c. omega arith) loop-again-2
-      (λ c. omega arith) (λ c. omega arith) (λ c. going-last (c .before .before .loop .inv) (inr (omega (arith, ltb-false))))
-      (λ c. omega arith) (λ c. omega arith) (λ c. going-last (c .before .loop .inv) (inl (omega arith))))
+    (λ c. omega (arith, ltb-true)) (λ c. omega arith) (λ c. omega arith) (λ c. omega arith) (λ c. omega arith) (λ c. omega arith)
+    (λ c. omega arith) (λ c. omega arith) (λ c. omega arith) (λ c. omega arith) (λ c κs. omega arith) (λ c. omega arith)
+    (λ c. omega arith) (λ c. omega arith) settle-requires (λ c. omega arith) (λ c. omega (arith, ltb-true)) (λ c κs. omega arith)
+    (λ c. omega (arith, ltb-true)) (λ c. omega (arith, ltb-true)) loop-again (λ c. omega arith) (λ c. omega arith) loop-again-2
+    (λ c. omega arith) (λ c. omega arith) (λ c. going-last (c .before .before .loop .inv) (inr (omega (arith, ltb-false))))
+    (λ c. omega arith) (λ c. omega arith) (λ c. going-last (c .before .loop .inv) (inl (omega arith))))

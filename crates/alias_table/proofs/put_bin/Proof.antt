@@ -16,4 +16,4 @@ returns c =
 pub put-bin-spec : {M : Type 1} → statement M
 put-bin-spec =
     tie.close (tie.spec (λ c. search needs) (λ c. search needs) (λ c κs. search needs) (λ c. search needs) (λ c. search needs)
-      (λ c. simp length-set (omega arith)) (λ c. search needs) (λ c. search needs) (λ c. search needs) (λ c. search needs) returns)
+    (λ c. simp length-set (omega arith)) (λ c. search needs) (λ c. search needs) (λ c. search needs) (λ c. search needs) returns)

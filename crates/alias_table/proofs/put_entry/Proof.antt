@@ -6,4 +6,4 @@ use Rattle.alias_table.proofs.put_entry.Tie as tie
 pub put-entry-spec : {M : Type 1} → statement M
 put-entry-spec =
     tie.close (tie.spec (λ c κs. search needs) (λ c. search needs) (λ c. search needs) (λ c. search needs) (λ c. search needs)
-      (λ c. search needs) (λ c. search needs) (λ c. rw (c .word-of-f32 .ensures)))
+    (λ c. search needs) (λ c. search needs) (λ c. rw (c .word-of-f32 .ensures)))

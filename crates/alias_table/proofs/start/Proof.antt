@@ -50,5 +50,5 @@ returns c = starting-all (c .before .loop .inv) (omega arith) (c .before .before
 pub start-spec : {M : Type 1} → statement M
 start-spec =
     tie.close (tie.spec Inv-loop μ-loop int-to-float-count loop-holds (λ c κs. omega arith) (λ c. omega arith) (λ c κs. omega arith)
-      (λ c. omega arith) (λ c κs. omega arith) (λ c. omega arith) (λ c. omega arith) (λ c. omega arith) loop-again (λ c. omega arith)
-      (λ c. omega arith) loop-again-2 (λ c. omega arith) (λ c. omega arith) returns)
+    (λ c. omega arith) (λ c κs. omega arith) (λ c. omega arith) (λ c. omega arith) (λ c. omega arith) loop-again (λ c. omega arith)
+    (λ c. omega arith) loop-again-2 (λ c. omega arith) (λ c. omega arith) returns)

@@ -17,17 +17,16 @@ returns c = rw (lt-leb 6 (length (now (c .before .before .before .args .query)))
 returns-2 : tie.Need-returns-2
 unfolding importanceWords _then_
 returns-2 c =
-    rw (le-leb 6 (length (now (c .before .before .before .before .before .before .before .before .before .before .args .query))) (omega arith),
-        ← c .before .before .before .before .before .before .read-record .ensures 1, c .before .before .before .before .whole .given .1,
-        ← c .before .before .query-of .ensures)
-    (c .weight-code .ensures ∙ ap valueCode (c .before .weigh .ensures))
+    rw (le-leb 6 (length (now (c .before .before .before .before .before .before .before .before .before .before .args .query))) (omega arith))
+    (rw (← c .before .before .before .before .before .before .read-record .ensures 1, c .before .before .before .before .whole .given .1)
+    (rw (← c .before .before .query-of .ensures) (c .weight-code .ensures ∙ ap valueCode (c .before .weigh .ensures))))
 
 returns-3 : tie.Need-returns-3
 unfolding importanceWords _then_
-returns-3 c = rw (le-leb 6 (length (now (c .before .before .before .before .before .before .args .query))) (omega arith),
-    ← c .before .before .read-record .ensures 1, c .enum-told .given .1)
+returns-3 c = rw (le-leb 6 (length (now (c .before .before .before .before .before .before .args .query))) (omega arith))
+    (rw (← c .before .before .read-record .ensures 1, c .enum-told .given .1))
 
 pub bounds-importance-spec : {M : Type 1} → statement M
 bounds-importance-spec =
     tie.close (tie.spec returns (λ c κs. search needs) (λ c. search needs) (λ c κs. search needs) (λ c κs. search needs)
-      (λ c κs. search needs) (λ c. search needs) returns-2 returns-3)
+    (λ c κs. search needs) (λ c. search needs) returns-2 returns-3)

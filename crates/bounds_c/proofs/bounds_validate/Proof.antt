@@ -10,7 +10,7 @@ returns : tie.Need-returns
 unfolding validateWords _then_
 returns c =
     rw (← c .before .before .before .before .before .read-record .ensures 1, c .before .before .before .whole .given .1)
-        (c .validity-code .ensures ∙ ap code (c .before .validate .ensures))
+    (c .validity-code .ensures ∙ ap code (c .before .validate .ensures))
 
 returns-2 : tie.Need-returns-2
 unfolding validateWords _then_
@@ -19,4 +19,4 @@ returns-2 c = rw (← c .before .before .read-record .ensures 1, c .enum-told .g
 pub bounds-validate-spec : {M : Type 1} → statement M
 bounds-validate-spec =
     tie.close (tie.spec (λ c κs. search needs) (λ c. search needs) (λ c κs. search needs) (λ c κs. search needs) (λ c. search needs) returns
-      returns-2)
+    returns-2)

@@ -11,4 +11,4 @@ returns-2 c = rw (c .before .before .answer2 .given .1) (ap (λ (n : ℕ). 0x1_0
 pub weight-code-spec : {M : Type 1} → statement M
 weight-code-spec =
     tie.close (tie.spec (λ c. search needs) (λ c κs. search needs) (λ c. search needs) (λ c. search needs) (λ c κs. search needs)
-      (λ c. search needs) (λ c. search needs) (λ c. rw (c .before .before .answer .given .1) (c .word-of-f32 .ensures)) returns-2)
+    (λ c. search needs) (λ c. search needs) (λ c. rw (c .before .before .answer .given .1) (c .word-of-f32 .ensures)) returns-2)

@@ -22,21 +22,26 @@ returns c =
     let out = now (c .before .before .before .before .before .before .before .before .before .args .out) in
     let r = c .before .before .before .before .before .«record» .given .0 .0 in
     rw (sym (c .before .before .before .before .before .before .before .union .ensures) ∙ ap bounded
-        (c .before .before .before .before .before .«record» .given .1))
-    (refl, c .before .before .write-record .ensures ∙ writtenAt-sets out 0 r
-        (c .before .before .before .before .before .before .before .before .before .pre) ∙ stored [] out (recordList r) 0 refl
-        (c .before .before .before .before .before .before .before .before .before .pre)
-    ∙ sym (tray-full recordList recordWords out r refl))
+    (c .before .before .before .before .before .«record» .given .1)) (
+      refl,
+      c .before .before .write-record .ensures ∙ writtenAt-sets out 0 r
+          (c .before .before .before .before .before .before .before .before .before .pre) ∙ stored [] out (recordList r) 0 refl
+          (c .before .before .before .before .before .before .before .before .before .pre)
+          ∙ sym (tray-full recordList recordWords out r refl),
+    )
 
 returns-2 : tie.Need-returns-2
 returns-2 c =
     let out = now (c .before .before .before .before .before .before .before .before .before .before .args .out) in
     let told = sym (c .before .before .before .before .before .before .before .before .union .ensures) ∙ ap bounded
-        (c .before .before .before .before .before .before .why .given .1) in
-    rw told (c .refusal-number .ensures, c .before .before .before .zero-words .ensures ∙ tray-zeroed recordList recordWords out out _
-        (c .before .before .before .before .before .before .before .before .before .before .pre) refl (only-number (late-union _ _) told))
+    (c .before .before .before .before .before .before .why .given .1) in
+    rw told (
+      c .refusal-number .ensures,
+      c .before .before .before .zero-words .ensures ∙ tray-zeroed recordList recordWords out out _
+          (c .before .before .before .before .before .before .before .before .before .before .pre) refl (only-number (late-union _ _) told),
+    )
 
 pub write-union-spec : {M : Type 1} → statement M
 write-union-spec =
     tie.close (tie.spec (λ c κs. search needs) (λ c. search needs) (λ c κs. search needs) (λ c. search needs) (λ c κs. search needs)
-      (λ c κs. search needs) (λ c. search needs) returns (λ c. search needs) returns-2)
+    (λ c κs. search needs) (λ c. search needs) returns (λ c. search needs) returns-2)

@@ -8,4 +8,4 @@ use Rattle.floats_c.proofs.words_word_count.Tie as tie
 pub words-word-count-spec : {M : Type 1} → statement M
 words-word-count-spec =
     tie.close (tie.spec (λ c κs. search needs) (λ c κs. search needs)
-      (λ c. c .count-of .ensures ∙ ap countCode (c .before .word-count .ensures)))
+    (λ c. c .count-of .ensures ∙ ap countCode (c .before .word-count .ensures)))

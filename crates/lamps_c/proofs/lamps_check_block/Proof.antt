@@ -8,4 +8,4 @@ use Rattle.lamps_c.proofs.lamps_check_block.Tie as tie
 pub lamps-check-block-spec : {M : Type 1} → statement M
 lamps-check-block-spec =
     tie.close (tie.spec (λ c κs. search needs) (λ c κs. search needs)
-      (λ c. c .counted-code .ensures ∙ ap code (c .before .check-block .ensures)))
+    (λ c. c .counted-code .ensures ∙ ap code (c .before .check-block .ensures)))

@@ -17,6 +17,6 @@ abbrev μ-loop : tie.MeasureT-loop
 pub write-words-spec : {M : Type 1} → statement M
 write-words-spec =
     tie.close (tie.spec Inv-loop μ-loop (λ c. (refl, search needs, search needs)) (λ c. search needs) (λ c. search needs)
-      (λ c. search needs) (λ c. search needs) (λ c. search needs) (λ c. search needs) (λ c κs. search needs) (λ c. search needs)
-      (λ c. search needs) (λ c. search needs) (λ c. (search needs, search needs, search needs)) (λ c. search needs) (λ c. search needs)
-      (λ c. search needs) (λ c. search needs) (λ c κs. search needs) (λ c. search needs) (λ c. search needs))
+    (λ c. search needs) (λ c. search needs) (λ c. search needs) (λ c. search needs) (λ c κs. search needs) (λ c. search needs)
+    (λ c. search needs) (λ c. search needs) (λ c. (search needs, search needs, search needs)) (λ c. search needs) (λ c. search needs)
+    (λ c. search needs) (λ c. search needs) (λ c κs. search needs) (λ c. search needs) (λ c. search needs))

@@ -9,6 +9,6 @@ use Rattle.replay_floats.proofs.replay.Tie as tie
 pub replay-spec : {M : Type 1} → statement M
 replay-spec =
     tie.close (tie.spec (λ case₀ tally₀ turn₀ case tally turn. turn ≤ turns) (λ case₀ tally₀ turn₀ case tally turn. turns - turn)
-      (λ c κs. tt) (λ c. omega arith) (λ c κs. tt) (λ c. search needs) (λ c κs. tt) (λ c κs. tt)
-      (λ c. search needs) (λ c κs. tt) (λ c. tt) (λ c. search needs) (λ c. tt) (λ c. omega arith) (λ c. omega arith) (λ c. omega arith)
-      (λ c. tt))
+    (λ c κs. tt) (λ c. omega arith) (λ c κs. tt) (λ c. search needs) (λ c κs. tt) (λ c κs. tt)
+    (λ c. search needs) (λ c κs. tt) (λ c. tt) (λ c. search needs) (λ c. tt) (λ c. omega arith) (λ c. omega arith) (λ c. omega arith)
+    (λ c. tt))

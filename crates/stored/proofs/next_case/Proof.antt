@@ -11,4 +11,4 @@ returns-3 c =
 pub next-case-spec : {M : Type 1} → statement M
 next-case-spec =
     tie.close (tie.spec (λ c. search needs) (λ c. search needs) (λ c κs. search needs) (λ c. search needs) (λ c. search needs)
-      (λ c κs. search needs) (λ c. search needs) returns-3 (λ c. search needs))
+    (λ c κs. search needs) (λ c. search needs) returns-3 (λ c. search needs))

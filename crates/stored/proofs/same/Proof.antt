@@ -51,6 +51,6 @@ returns-3 c =
 pub same-spec : {M : Type 1} → statement M
 same-spec =
     tie.close (tie.spec Inv-loop μ-loop (λ c. (omega arith, refl))
-      (λ c. sym (c .before .before .loop .inv .1 ∙ past _ _ _ _ (c .before .loop-test .taken) (c .if1 .taken))) (λ c. search needs)
-      (λ c. search needs) (λ c. search needs) (λ c. search needs) returns-2 (λ c. search needs) (λ c. search needs) (λ c. search needs)
-      loop-again returns-3)
+    (λ c. sym (c .before .before .loop .inv .1 ∙ past _ _ _ _ (c .before .loop-test .taken) (c .if1 .taken))) (λ c. search needs)
+    (λ c. search needs) (λ c. search needs) (λ c. search needs) returns-2 (λ c. search needs) (λ c. search needs) (λ c. search needs)
+    loop-again returns-3)

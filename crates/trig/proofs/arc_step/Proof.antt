@@ -26,4 +26,4 @@ returns c = refl
 pub arc-step-spec : {M : Type 1} → statement M
 arc-step-spec =
     tie.close (tie.spec (λ c. search needs) (λ c. search needs) (λ c. search needs) (λ c. search needs) mul-odd-3 (λ c. search needs)
-      (λ c. search needs) (λ c. search needs) (λ c. search needs) mul-divisor-3 (λ c. search needs) returns)
+    (λ c. search needs) (λ c. search needs) (λ c. search needs) mul-divisor-3 (λ c. search needs) returns)

@@ -14,5 +14,5 @@ abbrev μ-loop : tie.MeasureT-loop
 pub series-spec : {M : Type 1} → statement M
 series-spec =
     tie.close (tie.spec Inv-loop μ-loop (λ c. turning-start _ _ _) (λ c κs. omega arith) (λ c. omega arith) (λ c. omega arith)
-      (λ c. turning-next (c .before .before .loop .inv) (omega arith) (c .series-step .ensures))
-      (λ c. unfold series in turning-end (c .before .loop .inv) (omega arith)))
+    (λ c. turning-next (c .before .before .loop .inv) (omega arith) (c .series-step .ensures))
+    (λ c. unfold series in turning-end (c .before .loop .inv) (omega arith)))

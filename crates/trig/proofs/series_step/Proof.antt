@@ -21,4 +21,4 @@ returns c = refl
 pub series-step-spec : {M : Type 1} → statement M
 series-step-spec =
     tie.close (tie.spec (λ c. search needs) (λ c. search needs) (λ c. search needs) (λ c. search needs) (λ c. search needs) mul-divisor-3
-      (λ c. search needs) returns)
+    (λ c. search needs) returns)

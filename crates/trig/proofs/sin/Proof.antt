@@ -13,7 +13,7 @@ returns : tie.Need-returns
 unfolding sin ofBits
 returns c =
     let t = c .before .before .before in
-    within (t .before .before .args .x) eight (t .before .abs .ensures) (t .if1 .taken) (c .narrow .ensures ∙ ap narrow 
+    within (t .before .before .args .x) eight (t .before .abs .ensures) (t .if1 .taken) (c .narrow .ensures ∙ ap narrow
     (ap (mul binary64 (c .before .before .widen .result)) (c .before .series .ensures)
     ∙ ap (λ (w : Float). mul binary64 w (series 0 (mul binary64 w w))) (c .before .before .widen .ensures)))
 

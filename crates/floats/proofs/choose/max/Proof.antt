@@ -13,4 +13,4 @@ test c = ⊎-elim (λ w. rw (w .1, w .0 .taken)) (λ w. rw (w .1, w .0 .left)) (
 pub max-spec : {M : Type 1} → statement M
 max-spec =
     tie.close (tie.spec (λ c. rw (fmax-tests (c .before .before .args .x) (c .before .before .args .y), ← test (c .before), c .if2 .taken))
-      (λ c. rw (fmax-tests (c .before .before .args .x) (c .before .before .args .y), ← test (c .before), c .if2 .left)))
+    (λ c. rw (fmax-tests (c .before .before .args .x) (c .before .before .args .y), ← test (c .before), c .if2 .left)))

@@ -13,4 +13,4 @@ test c = ⊎-elim (λ w. rw (w .1, w .0 .taken)) (λ w. rw (w .1, w .0 .left)) (
 pub min-spec : {M : Type 1} → statement M
 min-spec =
     tie.close (tie.spec (λ c. rw (fmin-tests (c .before .before .args .x) (c .before .before .args .y), ← test (c .before), c .if2 .taken))
-      (λ c. rw (fmin-tests (c .before .before .args .x) (c .before .before .args .y), ← test (c .before), c .if2 .left)))
+    (λ c. rw (fmin-tests (c .before .before .args .x) (c .before .before .args .y), ← test (c .before), c .if2 .left)))

@@ -35,7 +35,7 @@ returns-5 c =
 pub narrow-word-spec : {M : Type 1} → statement M
 narrow-word-spec =
     tie.close (tie.spec returns (λ c. search needs) (λ c. search needs) (λ c. search needs)
-      (λ c. narrow-large (c .before .before .args .w) (omega arith) (c .if2 .taken) (c .before .if1 .left)) (λ c. search needs)
-      (λ c κs. search needs) (λ c. omega (arith, normal-kept c)) (λ c. omega (arith, normal-kept c)) returns-3
-      (λ c. narrow-small (c .before .before .before .before .args .w) (omega arith) (c .if4 .taken)) (λ c. search needs) (λ c. search needs)
-      (λ c κs. search needs) (λ c. omega (arith, subnormal-kept c)) (λ c. omega (arith, subnormal-kept c)) returns-5)
+    (λ c. narrow-large (c .before .before .args .w) (omega arith) (c .if2 .taken) (c .before .if1 .left)) (λ c. search needs)
+    (λ c κs. search needs) (λ c. omega (arith, normal-kept c)) (λ c. omega (arith, normal-kept c)) returns-3
+    (λ c. narrow-small (c .before .before .before .before .args .w) (omega arith) (c .if4 .taken)) (λ c. search needs) (λ c. search needs)
+    (λ c κs. search needs) (λ c. omega (arith, subnormal-kept c)) (λ c. omega (arith, subnormal-kept c)) returns-5)

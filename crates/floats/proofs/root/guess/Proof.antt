@@ -14,4 +14,4 @@ int-to-float-half c = le→leb (c .before .args .n / 2) (2 ^ 53) (omega arith)
 pub guess-spec : {M : Type 1} → statement M
 guess-spec =
     tie.close (tie.spec int-to-float-half (λ c κs. search needs) (λ c. search needs) (λ c κs. search needs) (λ c κs. search needs)
-      (λ c. search needs))
+    (λ c. search needs))

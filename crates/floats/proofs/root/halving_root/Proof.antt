@@ -37,6 +37,6 @@ returns c =
 pub halving-root-spec : {M : Type 1} → statement M
 halving-root-spec =
     tie.close (tie.spec Inv-loop μ-loop (λ c. omega arith) (λ c. omega arith)
-      (λ c. record { fits = square-fits (c .before .loop .low + c .before .loop .range / 2) (omega arith) }) (λ c. omega arith)
-      (λ c. omega arith) loop-again (λ c. omega arith) (λ c. (c .before .before .loop .inv .0, c .if1 .left, omega arith, omega arith))
-      returns)
+    (λ c. record { fits = square-fits (c .before .loop .low + c .before .loop .range / 2) (omega arith) }) (λ c. omega arith)
+    (λ c. omega arith) loop-again (λ c. omega arith) (λ c. (c .before .before .loop .inv .0, c .if1 .left, omega arith, omega arith))
+    returns)

@@ -36,6 +36,6 @@ returns-2 c =
 pub root-spec : {M : Type 1} → statement M
 root-spec =
     tie.close (tie.spec (λ c κs. search needs) (λ c. omega (arith, square-fits (c .guess .result) (c .guess .ensures))) (λ c. search needs) returns
-      (λ c. above c) (λ c. above c)
-      (λ c. omega (arith, square-fits (c .before .before .guess .result - 1) (omega (arith, c .before .before .guess .ensures)))) (λ c. above (c .before))
-      returns-2 (λ c κs. search needs) (λ c. search needs))
+    (λ c. above c) (λ c. above c)
+    (λ c. omega (arith, square-fits (c .before .before .guess .result - 1) (omega (arith, c .before .before .guess .ensures)))) (λ c. above (c .before))
+    returns-2 (λ c κs. search needs) (λ c. search needs))

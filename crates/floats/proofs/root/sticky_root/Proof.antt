@@ -19,5 +19,5 @@ returns-2 c = sticky-rest (c .before .before .args .n) (c .before .root .result)
 pub sticky-root-spec : {M : Type 1} → statement M
 sticky-root-spec =
     tie.close (tie.spec (λ c κs. search needs) (λ c. omega (arith, found c .at-most)) (λ c. omega (arith, short (c .before)))
-      (λ c. omega (arith, short (c .before))) (λ c. omega (arith, short (c .before)))
-      (λ c. sticky-exact (c .before .before .args .n) (c .before .root .result) (c .if1 .taken)) returns-2)
+    (λ c. omega (arith, short (c .before))) (λ c. omega (arith, short (c .before)))
+    (λ c. sticky-exact (c .before .before .args .n) (c .before .root .result) (c .if1 .taken)) returns-2)

@@ -19,5 +19,5 @@ half-lt c = pow-lt {i = c .args .gone - 1} {j = 62} (omega arith)
 pub shifted-to-even-spec : {M : Type 1} → statement M
 shifted-to-even-spec =
     tie.close (tie.spec (λ c. search needs) (λ c. search needs) (λ c. rw (half c) (pow-pos (c .args .gone - 1)))
-      (λ c. rw (half c) (omega (arith, half-lt c))) (λ c. search needs) (λ c. rw (half c) (omega (arith, half-lt c))) (λ c. search needs)
-      (λ c. rw (half c) (closest-gone (c .args .a) (c .args .gone) (omega arith))))
+    (λ c. rw (half c) (omega (arith, half-lt c))) (λ c. search needs) (λ c. rw (half c) (omega (arith, half-lt c))) (λ c. search needs)
+    (λ c. rw (half c) (closest-gone (c .args .a) (c .args .gone) (omega arith))))

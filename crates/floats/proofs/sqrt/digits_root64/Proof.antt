@@ -53,4 +53,4 @@ returns c =
 pub digits-root64-spec : {M : Type 1} → statement M
 digits-root64-spec =
     tie.close (tie.spec (λ c κs. search needs) (λ c κs. search needs) shifted-to-even-requires (λ c. search needs) (λ c. search needs)
-      (λ c. omega (arith, kept-le c)) returns)
+    (λ c. omega (arith, kept-le c)) returns)

@@ -53,4 +53,4 @@ returns c =
 pub normalised-spec : {M : Type 1} → statement M
 normalised-spec =
     tie.close (tie.spec (λ c. found c .enough) (λ c. omega (arith, found c .few)) (λ c. omega (arith, found c .few))
-      (λ c. omega (arith, found c .few)) (λ c. search needs) returns)
+    (λ c. omega (arith, found c .few)) (λ c. search needs) returns)

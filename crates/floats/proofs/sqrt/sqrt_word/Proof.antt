@@ -13,8 +13,8 @@ use Rattle.floats.proofs.sqrt.sqrt_word.Tie as tie
 pub sqrt-word-spec : {M : Type 1} → statement M
 sqrt-word-spec =
     tie.close (tie.spec (λ c. sqrt-own binary32 _ (omega arith) (⊎-map (λ z. z .taken) (λ z. eqb-true (c .before .args .w) _ (z .1 .taken)) (c .if1 .came)))
-      (λ c. unfold toBits in sqrt-none binary32 _ (omega arith) (c .before .before .if1 .left) (c .if3 .taken)) (λ c κs. search needs)
-      (λ c. c .digits-root .ensures ∙ sqrt-subnormal binary32 _ (c .before .before .before .before .if1 .left) (omega arith) (c .before .if4 .taken))
-      (λ c. search needs) (λ c. search needs) (λ c. search needs) (λ c. search needs) (λ c κs. omega (arith, eqb-false))
-      (λ c. c .digits-root2 .ensures ∙ sqrt-normal binary32 _ (c .before .before .before .before .if1 .left) (omega (arith, eqb-false))
-        (c .before .if4 .left)))
+    (λ c. unfold toBits in sqrt-none binary32 _ (omega arith) (c .before .before .if1 .left) (c .if3 .taken)) (λ c κs. search needs)
+    (λ c. c .digits-root .ensures ∙ sqrt-subnormal binary32 _ (c .before .before .before .before .if1 .left) (omega arith) (c .before .if4 .taken))
+    (λ c. search needs) (λ c. search needs) (λ c. search needs) (λ c. search needs) (λ c κs. omega (arith, eqb-false))
+    (λ c. c .digits-root2 .ensures ∙ sqrt-normal binary32 _ (c .before .before .before .before .if1 .left) (omega (arith, eqb-false))
+    (c .before .if4 .left)))

@@ -11,5 +11,5 @@ use Rattle.floats.proofs.whole.ceil.Tie as tie
 pub ceil-spec : {M : Type 1} → statement M
 ceil-spec =
     tie.close (tie.spec (λ c κs. search needs) (λ c κs. search needs) (λ c κs. search needs) (λ c. let s = c .before .before .before in
-      through-words binary32 binary32 (ceil binary32) (s .args .x) _ _ _ (s .good .0 .1) (λ _. ceil-fits binary32 (s .args .x))
-      (c .before .before .word-of-f32 .ensures) (c .before .next-whole-word .ensures ∙ ap (toBits binary32) (ceil-word binary32 _)) (c .f32-of-word .ensures)))
+    through-words binary32 binary32 (ceil binary32) (s .args .x) _ _ _ (s .good .0 .1) (λ _. ceil-fits binary32 (s .args .x))
+    (c .before .before .word-of-f32 .ensures) (c .before .next-whole-word .ensures ∙ ap (toBits binary32) (ceil-word binary32 _)) (c .f32-of-word .ensures)))

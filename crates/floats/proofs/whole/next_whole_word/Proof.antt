@@ -53,6 +53,6 @@ returns-6 c =
 pub next-whole-word-spec : {M : Type 1} → statement M
 next-whole-word-spec =
     tie.close (tie.spec returns returns-2 (λ c. search needs) returns-3 (λ c. search needs) returns-4 (λ c. search needs)
-      (λ c κs. search needs) (λ c. part (c .before) .0) (λ c. omega (arith, part (c .before))) (λ c. part (c .before) .0) sub-result
-      (λ c. omega (arith, part (c .before))) returns-5 (λ c. part (c .before) .0)
-      (λ c. mod-le (c .before .before .before .before .before .args .w % 2 ^ 31) (c .before .power .result)) (λ c. search needs) returns-6)
+    (λ c κs. search needs) (λ c. part (c .before) .0) (λ c. omega (arith, part (c .before))) (λ c. part (c .before) .0) sub-result
+    (λ c. omega (arith, part (c .before))) returns-5 (λ c. part (c .before) .0)
+    (λ c. mod-le (c .before .before .before .before .before .args .w % 2 ^ 31) (c .before .power .result)) (λ c. search needs) returns-6)

@@ -10,5 +10,5 @@ use Rattle.floats.proofs.whole.round.Tie as tie
 pub round-spec : {M : Type 1} → statement M
 round-spec =
     tie.close (tie.spec (λ c κs. search needs) (λ c κs. search needs) (λ c κs. search needs) (λ c. let s = c .before .before .before in
-      through-words binary32 binary32 (roundAway binary32) (s .args .x) _ _ _ (s .good .0 .1) (λ _. roundAway-fits binary32 (s .args .x))
-      (c .before .before .word-of-f32 .ensures) (c .before .round-word .ensures) (c .f32-of-word .ensures)))
+    through-words binary32 binary32 (roundAway binary32) (s .args .x) _ _ _ (s .good .0 .1) (λ _. roundAway-fits binary32 (s .args .x))
+    (c .before .before .word-of-f32 .ensures) (c .before .round-word .ensures) (c .f32-of-word .ensures)))

@@ -38,5 +38,5 @@ returns-5 c =
 pub round-word-spec : {M : Type 1} → statement M
 round-word-spec =
     tie.close (tie.spec returns (λ c. roundAway-whole (c .before .before .args .w) (omega arith) (c .if2 .taken) (c .before .if1 .left))
-      (λ c. search needs) returns-3 (λ c. search needs) returns-4 (λ c. search needs) (λ c κs. search needs) (λ c. search needs)
-      (λ c. part c .0) sub-result (λ c. omega (arith, part c)) returns-5)
+    (λ c. search needs) returns-3 (λ c. search needs) returns-4 (λ c. search needs) (λ c κs. search needs) (λ c. search needs)
+    (λ c. part c .0) sub-result (λ c. omega (arith, part c)) returns-5)

@@ -9,5 +9,5 @@ use Rattle.floats.proofs.whole.to_u16.Tie as tie
 pub to-u16-spec : {M : Type 1} → statement M
 to-u16-spec =
     tie.close (tie.spec (λ c κs. search needs) (λ c. search needs)
-      (λ c. unfold toU16 toUsize in cast-most 16 64 (lit≤ tt) (c .before .before .args .x) _ (c .before .to-usize .ensures) (c .if1 .taken))
-      (λ c. unfold toU16 toUsize in cast-kept 16 64 (lit≤ tt) (c .before .before .args .x) _ (c .before .to-usize .ensures) (c .if1 .left)))
+    (λ c. unfold toU16 toUsize in cast-most 16 64 (lit≤ tt) (c .before .before .args .x) _ (c .before .to-usize .ensures) (c .if1 .taken))
+    (λ c. unfold toU16 toUsize in cast-kept 16 64 (lit≤ tt) (c .before .before .args .x) _ (c .before .to-usize .ensures) (c .if1 .left)))

@@ -32,4 +32,4 @@ returns-4 c = cast-shift (c .before .before .before .before .args .w) 64 (lit≤
 pub to-usize-word-spec : {M : Type 1} → statement M
 to-usize-word-spec =
     tie.close (tie.spec returns returns-2 (λ c. search needs) (λ c. search needs) (λ c. search needs) (λ c. search needs)
-      (λ c. search needs) (λ c. search needs) returns-3 returns-4)
+    (λ c. search needs) (λ c. search needs) returns-3 returns-4)

@@ -49,4 +49,4 @@ returns-2 c =
 pub check-handles-spec : {M : Type 1} → statement M
 check-handles-spec =
     tie.close (tie.spec Inv-loop μ-loop (λ c κs. search needs) (λ c κs. search needs) loop-holds (λ c. search needs) (λ c. search needs)
-      (λ c κs. search needs) (λ c κs. search needs) (λ c. search needs) (λ c. search needs) loop-again returns returns-2)
+    (λ c κs. search needs) (λ c κs. search needs) (λ c. search needs) (λ c. search needs) loop-again returns returns-2)

@@ -18,18 +18,18 @@ unfolding blockLayout
 returns-2 c =
     let block = now (c .before .before .before .before .before .before .before .args .block) in
     let m = c .before .before .wide .ensures ∙ c .before .before .before .word-or-zero .ensures in
-    rw (← c .before .before .before .before .before .crowded .ensures, c .before .before .before .before .if1 .left, eq-eqb (length block)
-        (blockWords (getD block 0 0)) (omega (arith, m, c .before .if2 .taken)), ← m) (c .check-sides .ensures)
+    rw (← c .before .before .before .before .before .crowded .ensures, c .before .before .before .before .if1 .left)
+    (rw (eq-eqb (length block) (blockWords (getD block 0 0)) (omega (arith, m, c .before .if2 .taken)), ← m) (c .check-sides .ensures))
 
 returns-3 : tie.Need-returns-3
 unfolding blockLayout
 returns-3 c =
     let block = now (c .before .before .before .before .before .before .args .block) in
     let m = c .before .wide .ensures ∙ c .before .before .word-or-zero .ensures in
-    rw (← c .before .before .before .before .crowded .ensures, c .before .before .before .if1 .left, ne-eqb (length block)
-        (blockWords (getD block 0 0)) (λ e. c .if2 .left (omega (arith, e, m))))
+    rw (← c .before .before .before .before .crowded .ensures, c .before .before .before .if1 .left)
+    (rw (ne-eqb (length block) (blockWords (getD block 0 0)) (λ e. c .if2 .left (omega (arith, e, m)))))
 
 pub check-layout-spec : {M : Type 1} → statement M
 check-layout-spec =
     tie.close (tie.spec (λ c κs. search needs) returns (λ c κs. search needs) (λ c κs. search needs) (λ c. search needs) (λ c. search needs)
-      (λ c κs. search needs) returns-2 returns-3)
+    (λ c κs. search needs) returns-2 returns-3)

@@ -24,16 +24,18 @@ loop-holds c = (c .before .pre, omega arith, refl)
 
 loop-again : tie.Need-loop-again Inv-loop μ-loop
 loop-again c =
-    let loop = c .before .before .before .before .loop in
-    (loop .inv .0, omega arith,
-    rw (below-next (sideAt (now (c .before .before .before .before .before .before .args .block))) (loop .i), loop .inv .2,
-        ← c .before .is-side .ensures) (c .if1 .taken))
+    let loop = c .before .before .before .before .loop in (
+      loop .inv .0,
+      omega arith,
+      rw (below-next (sideAt (now (c .before .before .before .before .before .before .args .block))) (loop .i), loop .inv .2)
+          (rw (← c .before .is-side .ensures) (c .if1 .taken)),
+    )
 
 returns : tie.Need-returns Inv-loop μ-loop
 returns c =
     let args = c .before .before .before .before .before .before .args in
     rw (below-false (sideAt (now (args .block))) (args .m) (c .before .before .before .before .loop .i) (omega arith)
-        (sym (c .before .is-side .ensures) ∙ c .if1 .left))
+    (sym (c .before .is-side .ensures) ∙ c .if1 .left))
 
 returns-2 : tie.Need-returns-2 Inv-loop μ-loop
 returns-2 c =
@@ -45,4 +47,4 @@ returns-2 c =
 pub check-sides-spec : {M : Type 1} → statement M
 check-sides-spec =
     tie.close (tie.spec Inv-loop μ-loop loop-holds (λ c. search needs) (λ c. search needs) (λ c. search needs) (λ c. search needs)
-      (λ c. search needs) (λ c κs. search needs) (λ c. search needs) (λ c. search needs) loop-again returns returns-2)
+    (λ c. search needs) (λ c κs. search needs) (λ c. search needs) (λ c. search needs) loop-again returns returns-2)

@@ -35,11 +35,13 @@ returns-3 c =
     let args = c .before .before .before .before .before .before .args in
     let n = number (c .before .why .given .0 .0) in
     let unread = count-refused (lampList (now (args .list))) n (sym (c .before .before .before .check-list .ensures) ∙ ap counted (c .before .why .given .1)) in
-    rw (build-unread (now (args .list)) (length (now (args .block))) n unread)
-    (refl, sym (tray-early packExhaustiveBounds (blockWords (getD (now (args .list)) 0 0)) (now (args .block)) n
-        (only-number (early-list (now (args .list))) unread)))
+    rw (build-unread (now (args .list)) (length (now (args .block))) n unread) (
+      refl,
+      sym (tray-early packExhaustiveBounds (blockWords (getD (now (args .list)) 0 0)) (now (args .block)) n
+          (only-number (early-list (now (args .list))) unread)),
+    )
 
 pub build-light-bounds-spec : {M : Type 1} → statement M
 build-light-bounds-spec =
     tie.close (tie.spec (λ c κs. search needs) (λ c. search needs) (λ c. omega (arith, few c)) (λ c. omega (arith, few c)) returns
-      (λ c κs. (read (c .before .before), omega arith)) (λ c. search needs) (λ c. search needs) (λ c. search needs) returns-3)
+    (λ c κs. (read (c .before .before), omega arith)) (λ c. search needs) (λ c. search needs) (λ c. search needs) returns-3)

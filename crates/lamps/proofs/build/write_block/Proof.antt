@@ -21,7 +21,7 @@ abbrev μ-loop : tie.MeasureT-loop
 cast-block : tie.Need-cast-block Inv-loop μ-loop
 cast-block c =
     let (rs, read, n, is, few) = list-counted (now (c .before .before .args .list)) (c .before .before .args .m) (c .before .before .pre .0) in omega
-        (arith, few)
+    (arith, few)
 
 loop-holds : tie.Need-loop-holds Inv-loop μ-loop
 loop-holds c =
@@ -38,24 +38,27 @@ same-length c = c .before .before .zero-words .kept .0 ∙
 returns : tie.Need-returns Inv-loop μ-loop
 returns c =
     let told = sym (c .before .before .before .before .before .before .before .next-bounds .ensures) ∙ ap passed
-        (c .before .before .before .before .before .why .given .1) in
+    (c .before .before .before .before .before .why .given .1) in
     let (answer, block) =
     taking-refused (now (c .before .before .before .before .before .before .before .before .before .before .before .before .before .args .block))
-        (c .before .before .before .before .before .before .before .before .before .loop .inv)
-        (c .before .before .before .before .before .before .before .before .before .before .before .before .before .pre .0)
-        (c .before .before .before .before .before .before .before .before .before .before .before .before .before .pre .1)
-        (number (c .before .before .before .before .before .why .given .0 .0))
+    (c .before .before .before .before .before .before .before .before .before .loop .inv)
+    (c .before .before .before .before .before .before .before .before .before .before .before .before .before .pre .0)
+    (c .before .before .before .before .before .before .before .before .before .before .before .before .before .pre .1)
+    (number (c .before .before .before .before .before .why .given .0 .0))
     (omega arith) told in
     (answer, c .before .before .zero-words .ensures ∙ block)
 
 loop-again : tie.Need-loop-again Inv-loop μ-loop
 loop-again c =
     let told = sym (c .before .before .before .before .before .before .before .next-bounds .ensures) ∙ ap passed
-        (c .before .before .before .before .before .«record» .given .1) in
+    (c .before .before .before .before .before .«record» .given .1) in
     rw (c .before .before .write-record .ensures)
-        (taking-next (c .before .before .before .before .before .before .before .before .before .loop .inv)
-        (record { bounds = c .before .before .before .before .before .«record» .given .0 .0; next =
-        c .before .before .before .before .before .«record» .given .0 .1 .0 }) (omega arith) told)
+    (taking-next (c .before .before .before .before .before .before .before .before .before .loop .inv)
+    (record {
+      bounds = c .before .before .before .before .before .«record» .given .0 .0;
+      next =
+          c .before .before .before .before .before .«record» .given .0 .1 .0;
+    }) (omega arith) told)
 
 same-length-2 : tie.Need-same-length-2 Inv-loop μ-loop
 same-length-2 c = c .before .loop .inv .written .same ∙ length-set (now (c .before .before .before .before .before .args .block)) 0
@@ -68,6 +71,6 @@ returns-2 c = taking-all (now (c .before .before .before .before .before .args .
 pub write-block-spec : {M : Type 1} → statement M
 write-block-spec =
     tie.close (tie.spec Inv-loop μ-loop cast-block (λ c. omega (arith, c .before .before .pre .1)) (λ c κs. search needs) loop-holds
-      (λ c κs. search needs) (λ c. search needs) (λ c. omega arith) (λ c. omega arith) (λ c. omega arith) (λ c. omega arith)
-      (λ c. omega arith) (λ c. omega arith) (λ c. omega arith) (λ c κs. search needs) (λ c. search needs) (λ c. omega arith)
-      (λ c. omega arith) (λ c κs. search needs) same-length returns (λ c. omega arith) (λ c. omega arith) loop-again same-length-2 returns-2)
+    (λ c κs. search needs) (λ c. search needs) (λ c. omega arith) (λ c. omega arith) (λ c. omega arith) (λ c. omega arith)
+    (λ c. omega arith) (λ c. omega arith) (λ c. omega arith) (λ c κs. search needs) (λ c. search needs) (λ c. omega arith)
+    (λ c. omega arith) (λ c κs. search needs) same-length returns (λ c. omega arith) (λ c. omega arith) loop-again same-length-2 returns-2)

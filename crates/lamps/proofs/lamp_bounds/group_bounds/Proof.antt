@@ -25,27 +25,20 @@ returns-2 : tie.Need-returns-2
 unfolding groupBounds _then_
 returns-2 c =
     let args = c .before .before .before .before .before .before .before .before .before .before .before .args in
-    rw (
-      ← c .before .before .before .before .before .before .before .before .before .validate-emission .ensures,
-      c .before .before .before .before .before .before .before .enum-told .given .1,
-      unionFrom-first (args .emission-max) (args .scale) (args .two-sided) (now (args .triangles)) (length (now (args .triangles)) / 13) (omega arith),
-      ← c .before .before .before .before .before .triangle-at .ensures,
-      ← c .before .before .before .before .triangle-record .ensures,
-      c .before .before .first .given .1,
-    ) (c .union-rest .ensures)
+    rw (← c .before .before .before .before .before .before .before .before .before .validate-emission .ensures)
+    (rw (c .before .before .before .before .before .before .before .enum-told .given .1)
+    (rw (unionFrom-first (args .emission-max) (args .scale) (args .two-sided) (now (args .triangles)) (length (now (args .triangles)) / 13) (omega arith))
+    (rw (← c .before .before .before .before .before .triangle-at .ensures, ← c .before .before .before .before .triangle-record .ensures)
+    (rw (c .before .before .first .given .1) (c .union-rest .ensures)))))
 
 returns-3 : tie.Need-returns-3
 unfolding groupBounds _then_
 returns-3 c =
     let args = c .before .before .before .before .before .before .before .before .before .before .args in
-    rw (
-      ← c .before .before .before .before .before .before .before .before .validate-emission .ensures,
-      c .before .before .before .before .before .before .enum-told .given .1,
-      unionFrom-first (args .emission-max) (args .scale) (args .two-sided) (now (args .triangles)) (length (now (args .triangles)) / 13) (omega arith),
-      ← c .before .before .before .before .triangle-at .ensures,
-      ← c .before .before .before .triangle-record .ensures,
-      c .before .why .given .1,
-    )
+    rw (← c .before .before .before .before .before .before .before .before .validate-emission .ensures)
+    (rw (c .before .before .before .before .before .before .enum-told .given .1)
+    (rw (unionFrom-first (args .emission-max) (args .scale) (args .two-sided) (now (args .triangles)) (length (now (args .triangles)) / 13) (omega arith))
+    (rw (← c .before .before .before .before .triangle-at .ensures, ← c .before .before .before .triangle-record .ensures, c .before .why .given .1))))
 
 returns-4 : tie.Need-returns-4
 unfolding groupBounds _then_
@@ -54,4 +47,4 @@ returns-4 c = rw (← c .before .before .before .validate-emission .ensures, c .
 pub group-bounds-spec : {M : Type 1} → statement M
 group-bounds-spec =
     tie.close (tie.spec (λ c κs. search needs) (λ c. search needs) returns (λ c κs. search needs) (λ c κs. search needs) (λ c. search needs)
-      (λ c κs. search needs) (λ c. search needs) (λ c. search needs) returns-2 returns-3 returns-4)
+    (λ c κs. search needs) (λ c. search needs) (λ c. search needs) returns-2 returns-3 returns-4)

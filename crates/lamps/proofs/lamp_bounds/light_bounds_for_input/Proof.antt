@@ -19,4 +19,4 @@ returns-3 c = rw (c .before .before .lamp3 .given .1) (c .group-bounds .ensures)
 pub light-bounds-for-input-spec : {M : Type 1} → statement M
 light-bounds-for-input-spec =
     tie.close (tie.spec (λ c. search needs) (λ c κs. search needs) (λ c. search needs) (λ c κs. search needs) (λ c. search needs)
-      (λ c κs. search needs) returns returns-2 returns-3)
+    (λ c κs. search needs) returns returns-2 returns-3)

@@ -8,16 +8,18 @@ use Rattle.lamps.proofs.lamp_bounds.spot_record.Tie as tie
 returns : tie.Need-returns
 unfolding spotRecord _then_
 returns c =
-    rw (← c .before .before .before .before .before .before .before .before .before .before .point-box .ensures, ← c .before .before .before .before .before .before .before .before .before .check .ensures,
-    c .before .before .before .before .before .before .before .enum-told .given .1, ← c .before .before .before .before .before .before .normalize .ensures,
-    c .before .before .before .before .unit .given .1, ← c .before .before .falloff .ensures, ← c .before .of-lamp .ensures)
-    (c .checked .ensures)
+    rw (← c .before .before .before .before .before .before .before .before .before .before .point-box .ensures)
+    (rw (← c .before .before .before .before .before .before .before .before .before .check .ensures)
+    (rw (c .before .before .before .before .before .before .before .enum-told .given .1)
+    (rw (← c .before .before .before .before .before .before .normalize .ensures, c .before .before .before .before .unit .given .1)
+    (rw (← c .before .before .falloff .ensures, ← c .before .of-lamp .ensures) (c .checked .ensures)))))
 
 returns-2 : tie.Need-returns-2
 unfolding spotRecord _then_
 returns-2 c =
-    rw (← c .before .before .before .before .before .before .before .point-box .ensures, ← c .before .before .before .before .before .before .check .ensures, c .before .before .before .before .enum-told .given .1,
-    ← c .before .before .before .normalize .ensures, c .before .why .given .1)
+    rw (← c .before .before .before .before .before .before .before .point-box .ensures)
+    (rw (← c .before .before .before .before .before .before .check .ensures, c .before .before .before .before .enum-told .given .1)
+    (rw (← c .before .before .before .normalize .ensures, c .before .why .given .1)))
 
 returns-3 : tie.Need-returns-3
 unfolding spotRecord _then_
@@ -26,5 +28,5 @@ returns-3 c = rw (← c .before .before .before .before .point-box .ensures, ←
 pub spot-record-spec : {M : Type 1} → statement M
 spot-record-spec =
     tie.close (tie.spec (λ c κs. search needs) (λ c κs. search needs) (λ c. search needs) (λ c κs. search needs) (λ c. search needs)
-      (λ c κs. search needs) (λ c κs. search needs) (λ c κs. search needs) (λ c. search needs) (λ c. search needs) returns returns-2
-      returns-3)
+    (λ c κs. search needs) (λ c κs. search needs) (λ c κs. search needs) (λ c. search needs) (λ c. search needs) returns returns-2
+    returns-3)

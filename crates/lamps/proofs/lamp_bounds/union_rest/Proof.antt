@@ -57,9 +57,9 @@ returns-2 c =
     let loop = c .before .loop in
     let args = c .before .before .before .args in
     sym (loop .inv .2 ∙ unionFrom-end (args .emission-max) (args .scale) (args .two-sided) (now (args .triangles)) (13 * loop .k) (args .n - loop .k)
-        (given (loop .result)) (omega arith))
+    (given (loop .result)) (omega arith))
 
 pub union-rest-spec : {M : Type 1} → statement M
 union-rest-spec =
     tie.close (tie.spec Inv-loop μ-loop (λ c. (omega arith, omega arith, refl)) (λ c. omega arith) (λ c κs. search needs)
-      (λ c κs. search needs) (λ c. search needs) (λ c. search needs) returns (λ c. search needs) (λ c. omega arith) loop-again returns-2)
+    (λ c κs. search needs) (λ c. search needs) (λ c. search needs) returns (λ c. search needs) (λ c. omega arith) loop-again returns-2)

@@ -28,5 +28,5 @@ returns c =
 pub group-fits-spec : {M : Type 1} → statement M
 group-fits-spec =
     tie.close (tie.spec (λ c. search needs) (λ c. search needs) (λ c. search needs) (λ c κs. search needs) (λ c. search needs)
-      (λ c. search needs) (λ c. search needs) (λ c κs. search needs) (λ c. search needs) (λ c. search needs) returns
-      (λ c. rw (← c .before .is-list-side .ensures, c .if1 .left)))
+    (λ c. search needs) (λ c. search needs) (λ c κs. search needs) (λ c. search needs) (λ c. search needs) returns
+    (λ c. rw (← c .before .is-list-side .ensures, c .if1 .left)))

@@ -9,5 +9,5 @@ use Rattle.lamps.proofs.lamp_list.point_at.Tie as tie
 pub point-at-spec : {M : Type 1} → statement M
 point-at-spec =
     tie.close (tie.spec (λ c κs. search needs) (λ c κs. leb-true _ _ (sym (c .before .fits2 .ensures) ∙ c .if1 .taken))
-      (λ c. rw (← c .before .before .fits2 .ensures, c .before .if1 .taken) (ap given (c .read-point .ensures)))
-      (λ c. rw (← c .before .fits2 .ensures, c .if1 .left)))
+    (λ c. rw (← c .before .before .fits2 .ensures, c .before .if1 .taken) (ap given (c .read-point .ensures)))
+    (λ c. rw (← c .before .fits2 .ensures, c .if1 .left)))

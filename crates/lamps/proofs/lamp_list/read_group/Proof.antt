@@ -6,12 +6,12 @@ use Rattle.lamps.proofs.lamp_list.read_group.Tie as tie
 
 returns : tie.Need-returns
 returns c =
-    rw (c .before .before .before .before .before .before .before .handle-of .ensures,
-        c .before .before .before .before .before .f32-of-word .ensures, c .before .before .before .f32-of-word2 .ensures, c .wide .ensures)
+    rw (c .before .before .before .before .before .before .before .handle-of .ensures)
+    (rw (c .before .before .before .before .before .f32-of-word .ensures, c .before .before .before .f32-of-word2 .ensures, c .wide .ensures))
 
 pub read-group-spec : {M : Type 1} → statement M
 read-group-spec =
     tie.close (tie.spec (λ c. search needs) (λ c. search needs) (λ c. search needs) (λ c κs. search needs) (λ c. search needs)
-      (λ c. search needs) (λ c. search needs) (λ c κs. search needs) (λ c. search needs) (λ c. search needs) (λ c. search needs)
-      (λ c κs. search needs) (λ c. search needs) (λ c. search needs) (λ c. search needs) (λ c. search needs) (λ c. search needs)
-      (λ c. search needs) (λ c κs. search needs) (λ c. omega (arith, c .wide .ensures)) (λ c. omega (arith, c .wide .ensures)) returns)
+    (λ c. search needs) (λ c. search needs) (λ c κs. search needs) (λ c. search needs) (λ c. search needs) (λ c. search needs)
+    (λ c κs. search needs) (λ c. search needs) (λ c. search needs) (λ c. search needs) (λ c. search needs) (λ c. search needs)
+    (λ c. search needs) (λ c κs. search needs) (λ c. omega (arith, c .wide .ensures)) (λ c. omega (arith, c .wide .ensures)) returns)

@@ -14,10 +14,11 @@ use Rattle.lamps.proofs.lamp_list.whole_group.Tie as tie
 
 read-group-requires : tie.Need-read-group-requires
 read-group-requires c κs =
-    let args = c .before .before .before .args in
-    (c .before .before .before .pre,
-    leb-true _ _ (both (listSideKnown (getD (now (args .list)) (args .at + 3) 0)) (leb (groupEnd (now (args .list)) (args .at)) (length (now (args .list))))
-    (sym (c .before .group-fits .ensures) ∙ c .if1 .taken)))
+    let args = c .before .before .before .args in (
+      c .before .before .before .pre,
+      leb-true _ _ (both (listSideKnown (getD (now (args .list)) (args .at + 3) 0)) (leb (groupEnd (now (args .list)) (args .at)) (length (now (args .list))))
+          (sym (c .before .group-fits .ensures) ∙ c .if1 .taken)),
+    )
 
 returns : tie.Need-returns
 returns c = rw (← c .before .before .group-fits .ensures, c .before .if1 .taken) (ap given (c .read-group .ensures))

@@ -12,14 +12,15 @@ returns c = rw (← c .before .is-finite-box .ensures, not-true (c .before .is-f
 returns-2 : tie.Need-returns-2
 unfolding boxCheck
 returns-2 c =
-    rw (← c .before .before .before .is-finite-box .ensures, not-false (c .before .before .before .is-finite-box .result) (c .before .before .if1 .left),
-    ← c .before .is-inverted .ensures, c .if2 .taken)
+    rw (← c .before .before .before .is-finite-box .ensures)
+    (rw (not-false (c .before .before .before .is-finite-box .result) (c .before .before .if1 .left), ← c .before .is-inverted .ensures)
+    (rw (c .if2 .taken)))
 
 returns-3 : tie.Need-returns-3
 unfolding boxCheck
 returns-3 c =
-    rw (← c .before .before .before .is-finite-box .ensures, not-false (c .before .before .before .is-finite-box .result) (c .before .before .if1 .left),
-    ← c .before .is-inverted .ensures, c .if2 .left)
+    rw (← c .before .before .before .is-finite-box .ensures)
+    (rw (not-false (c .before .before .before .is-finite-box .result) (c .before .before .if1 .left), ← c .before .is-inverted .ensures, c .if2 .left))
 
 pub check-spec : {M : Type 1} → statement M
 check-spec = tie.close (tie.spec (λ c κs. search needs) returns (λ c κs. search needs) returns-2 returns-3)

@@ -24,12 +24,12 @@ unfolding joined
 returns-3 c =
     let a = c .before .before .before .before .before .before .before .before .args in
     let turned = c .before .rotate .ensures ∙ ap (λ (v : Vec3). rotate (a .a) v (a .theta-o ⊖ a .theta-a))
-        (c .before .before .unit-or-z .ensures ∙ ap axisOr
-        (c .before .before .before .normalize .ensures ∙ ap normalize (c .before .before .before .before .before .before .cross .ensures))) in
-    rw (c .before .before .before .before .before .before .before .if1 .left, parallel (c .before .before .before .before .before),
-        c .before .before .before .before .if2 .left) (λ i. record { direction = turned i; «cos_theta» = c .cos .ensures i })
+    (c .before .before .unit-or-z .ensures ∙ ap axisOr
+    (c .before .before .before .normalize .ensures ∙ ap normalize (c .before .before .before .before .before .before .cross .ensures))) in
+    rw (c .before .before .before .before .before .before .before .if1 .left, parallel (c .before .before .before .before .before))
+    (rw (c .before .before .before .before .if2 .left) (λ i. record { direction = turned i; «cos_theta» = c .cos .ensures i }))
 
 pub join-spec : {M : Type 1} → statement M
 join-spec =
     tie.close (tie.spec (λ c κs. search needs) returns (λ c κs. search needs) (λ c κs. search needs) (λ c κs. search needs) returns-2
-      (λ c κs. search needs) (λ c κs. search needs) (λ c κs. search needs) (λ c κs. search needs) returns-3)
+    (λ c κs. search needs) (λ c κs. search needs) (λ c κs. search needs) (λ c κs. search needs) returns-3)

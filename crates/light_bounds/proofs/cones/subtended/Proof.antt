@@ -29,10 +29,10 @@ returns-2 c = rw (size (c .before .before .before .before .before), distance (c 
 
 returns-3 : tie.Need-returns-3
 unfolding boundSubtendedDirections
-returns-3 c = rw (size (c .before .before .before .before .before .before), distance (c .before .before .before), c .before .before .if1 .left,
-    c .before .if2 .left) (c .safe-sqrt .ensures)
+returns-3 c = rw (size (c .before .before .before .before .before .before), distance (c .before .before .before), c .before .before .if1 .left)
+    (rw (c .before .if2 .left) (c .safe-sqrt .ensures))
 
 pub subtended-spec : {M : Type 1} → statement M
 subtended-spec =
     tie.close (tie.spec (λ c κs. search needs) (λ c κs. search needs) (λ c κs. search needs) returns returns-2 (λ c κs. search needs)
-      returns-3)
+    returns-3)

@@ -32,21 +32,24 @@ second c = sym (c .min2 .ensures)
 
 returns : tie.Need-returns
 unfolding unionDirectionCones
-returns c = rw (theta-a (c .before .before .before .before .before), theta-b (c .before .before .before), theta-d (c .before .before), first
-    (c .before), c .if1 .taken)
+returns c =
+    rw (theta-a (c .before .before .before .before .before), theta-b (c .before .before .before), theta-d (c .before .before), first (c .before))
+    (rw (c .if1 .taken))
 
 returns-2 : tie.Need-returns-2
 unfolding unionDirectionCones
-returns-2 c = rw (theta-a (c .before .before .before .before .before .before .before), theta-b (c .before .before .before .before .before), theta-d
-    (c .before .before .before .before), first (c .before .before .before), c .before .before .if1 .left, second (c .before), c .if2 .taken)
+returns-2 c = rw (theta-a (c .before .before .before .before .before .before .before), theta-b (c .before .before .before .before .before))
+    (rw (theta-d (c .before .before .before .before), first (c .before .before .before), c .before .before .if1 .left, second (c .before))
+    (rw (c .if2 .taken)))
 
 returns-3 : tie.Need-returns-3
 unfolding unionDirectionCones
-returns-3 c = rw (theta-a (c .before .before .before .before .before .before .before .before), theta-b
-    (c .before .before .before .before .before .before), theta-d (c .before .before .before .before .before), first
-    (c .before .before .before .before), c .before .before .before .if1 .left, second (c .before .before), c .before .if2 .left) (c .join .ensures)
+returns-3 c =
+    rw (theta-a (c .before .before .before .before .before .before .before .before), theta-b (c .before .before .before .before .before .before))
+    (rw (theta-d (c .before .before .before .before .before), first (c .before .before .before .before), c .before .before .before .if1 .left)
+    (rw (second (c .before .before), c .before .if2 .left) (c .join .ensures)))
 
 pub union-direction-cones-spec : {M : Type 1} → statement M
 union-direction-cones-spec =
     tie.close (tie.spec (λ c κs. search needs) (λ c κs. search needs) (λ c κs. search needs) (λ c κs. search needs) (λ c κs. search needs)
-      (λ c κs. search needs) returns (λ c κs. search needs) returns-2 (λ c κs. search needs) returns-3)
+    (λ c κs. search needs) returns (λ c κs. search needs) returns-2 (λ c κs. search needs) returns-3)

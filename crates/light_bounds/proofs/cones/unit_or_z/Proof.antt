@@ -10,4 +10,4 @@ use Rattle.light_bounds.proofs.cones.unit_or_z.Tie as tie
 pub unit-or-z-spec : {M : Type 1} → statement M
 unit-or-z-spec =
     tie.close (tie.spec (λ c. search needs) (λ c. search needs) (λ c. search needs)
-      (λ c. sym (ap (λ (d : Direction). axisOr (normalized d)) (c .enum-told .given .1))))
+    (λ c. sym (ap (λ (d : Direction). axisOr (normalized d)) (c .enum-told .given .1))))

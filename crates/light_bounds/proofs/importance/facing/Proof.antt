@@ -18,7 +18,7 @@ returns-2 c =
     let i = c .before .before .before .abs .result in
     let k = c .before .before .before .before .args .cos-b in
     rw (← c .before .before .before .abs .ensures, c .before .before .if1 .left)
-        (ap₂ (λ (s t : Float). i ⊗ k ⊕ s ⊗ t) (c .before .sine .ensures) (c .sine2 .ensures))
+    (ap₂ (λ (s t : Float). i ⊗ k ⊕ s ⊗ t) (c .before .sine .ensures) (c .sine2 .ensures))
 
 pub facing-spec : {M : Type 1} → statement M
 facing-spec = tie.close (tie.spec (λ c κs. search needs) (λ c κs. search needs) (λ c κs. search needs) returns returns-2)

@@ -25,4 +25,4 @@ returns-4 c = rw (c .before .view3 .given .1)
 pub finished-spec : {M : Type 1} → statement M
 finished-spec =
     tie.close (tie.spec (λ c. search needs) (λ c. search needs) (λ c κs. search needs) (λ c. search needs) (λ c κs. search needs)
-      (λ c. search needs) returns returns-2 returns-3 returns-4)
+    (λ c. search needs) returns returns-2 returns-3 returns-4)

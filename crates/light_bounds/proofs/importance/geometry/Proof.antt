@@ -18,25 +18,26 @@ size c = sym (c .length .ensures ∙ ap vecLength (c .before .diagonal .ensures)
 
 returns : tie.Need-returns
 unfolding geometry distance2
-returns c = rw (delta (c .before .before .before .before .before), size (c .before .before .before), ← c .before .before .dot .ensures,
-    ← c .before .max .ensures, c .if1 .taken)
+returns c = rw (delta (c .before .before .before .before .before), size (c .before .before .before), ← c .before .before .dot .ensures)
+    (rw (← c .before .max .ensures, c .if1 .taken))
 
 returns-2 : tie.Need-returns-2
 unfolding geometry distance2 _then_
-returns-2 c = rw (delta (c .before .before .before .before .before .before .before .before .before .before), size
-    (c .before .before .before .before .before .before .before .before), ← c .before .before .before .before .before .before .before .dot .ensures,
-    ← c .before .before .before .before .before .before .max .ensures, c .before .before .before .before .before .if1 .left,
-    ← c .before .before .before .before .normalize .ensures, c .before .before .wi .given .1) (c .toward .ensures)
+returns-2 c = rw (delta (c .before .before .before .before .before .before .before .before .before .before))
+    (rw (size (c .before .before .before .before .before .before .before .before))
+    (rw (← c .before .before .before .before .before .before .before .dot .ensures, ← c .before .before .before .before .before .before .max .ensures)
+    (rw (c .before .before .before .before .before .if1 .left, ← c .before .before .before .before .normalize .ensures)
+    (rw (c .before .before .wi .given .1) (c .toward .ensures)))))
 
 returns-3 : tie.Need-returns-3
 unfolding geometry distance2 _then_
-returns-3 c = rw (delta (c .before .before .before .before .before .before .before .before .before), size
-    (c .before .before .before .before .before .before .before), ← c .before .before .before .before .before .before .dot .ensures,
-    ← c .before .before .before .before .before .max .ensures, c .before .before .before .before .if1 .left,
-    ← c .before .before .before .normalize .ensures, c .before .why .given .1)
+returns-3 c = rw (delta (c .before .before .before .before .before .before .before .before .before))
+    (rw (size (c .before .before .before .before .before .before .before), ← c .before .before .before .before .before .before .dot .ensures)
+    (rw (← c .before .before .before .before .before .max .ensures, c .before .before .before .before .if1 .left)
+    (rw (← c .before .before .before .normalize .ensures, c .before .why .given .1))))
 
 pub geometry-spec : {M : Type 1} → statement M
 geometry-spec =
     tie.close (tie.spec (λ c κs. search needs) (λ c κs. search needs) (λ c κs. search needs) (λ c κs. search needs) (λ c κs. search needs)
-      (λ c κs. search needs) returns (λ c κs. search needs) (λ c. search needs)
-      (λ c κs. sym (size (c .before .before .before .before .before .before .before))) (λ c. search needs) returns-2 returns-3)
+    (λ c κs. search needs) returns (λ c κs. search needs) (λ c. search needs)
+    (λ c κs. sym (size (c .before .before .before .before .before .before .before))) (λ c. search needs) returns-2 returns-3)

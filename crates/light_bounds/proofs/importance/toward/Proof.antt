@@ -10,8 +10,8 @@ returns c = rw (← c .before .before .before .subtended .ensures, ← c .before
 
 returns-2 : tie.Need-returns-2
 unfolding toward
-returns-2 c = rw (← c .before .before .before .before .subtended .ensures, ← c .before .before .before .smallest-angle .ensures,
-    c .before .if1 .left) (c .with-normal .ensures)
+returns-2 c = rw (← c .before .before .before .before .subtended .ensures, ← c .before .before .before .smallest-angle .ensures, c .before .if1 .left)
+    (c .with-normal .ensures)
 
 pub toward-spec : {M : Type 1} → statement M
 toward-spec = tie.close (tie.spec (λ c κs. search needs) (λ c κs. search needs) returns (λ c κs. search needs) returns-2)

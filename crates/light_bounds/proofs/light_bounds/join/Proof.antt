@@ -17,12 +17,12 @@ returns-3 : tie.Need-returns-3
 unfolding join
 returns-3 c =
     c .new .ensures
-    ∙ rw (c .before .before .before .before .before .before .before .before .before .before .if1 .left,
-        c .before .before .before .before .before .before .before .before .if2 .left,
-    ← c .before .before .before .before .before .before .before .union-direction-cones .ensures,
-        ← c .before .before .before .before .before .union .ensures, ← c .before .before .min .ensures, ← c .before .either .ensures)
+    ∙ rw (c .before .before .before .before .before .before .before .before .before .before .if1 .left)
+    (rw (c .before .before .before .before .before .before .before .before .if2 .left)
+    (rw (← c .before .before .before .before .before .before .before .union-direction-cones .ensures)
+    (rw (← c .before .before .before .before .before .union .ensures, ← c .before .before .min .ensures, ← c .before .either .ensures))))
 
 pub join-spec : {M : Type 1} → statement M
 join-spec =
     tie.close (tie.spec returns returns-2 (λ c κs. search needs) (λ c κs. search needs) (λ c κs. search needs) (λ c κs. search needs)
-      (λ c κs. search needs) returns-3)
+    (λ c κs. search needs) returns-3)

@@ -12,15 +12,15 @@ returns c = rw (← c .before .before .validate .ensures, c .enum-told2 .given .
 
 returns-2 : tie.Need-returns-2
 unfolding union _then_
-returns-2 c = rw (← c .before .before .before .before .before .validate .ensures, c .before .before .before .enum-told .given .1,
-    ← c .before .before .validate2 .ensures, c .enum-told4 .given .1)
+returns-2 c = rw (← c .before .before .before .before .before .validate .ensures, c .before .before .before .enum-told .given .1)
+    (rw (← c .before .before .validate2 .ensures, c .enum-told4 .given .1))
 
 returns-3 : tie.Need-returns-3
 unfolding union _then_
-returns-3 c = rw (← c .before .before .before .before .before .before .validate .ensures, c .before .before .before .before .enum-told .given .1,
-    ← c .before .before .before .validate2 .ensures, c .before .enum-told3 .given .1) (ap given (c .join .ensures))
+returns-3 c = rw (← c .before .before .before .before .before .before .validate .ensures, c .before .before .before .before .enum-told .given .1)
+    (rw (← c .before .before .before .validate2 .ensures, c .before .enum-told3 .given .1) (ap given (c .join .ensures)))
 
 pub union-spec : {M : Type 1} → statement M
 union-spec =
     tie.close (tie.spec (λ c κs. search needs) (λ c. search needs) (λ c. search needs) returns (λ c κs. search needs) (λ c. search needs)
-      (λ c. search needs) returns-2 (λ c κs. search needs) returns-3)
+    (λ c. search needs) returns-2 (λ c κs. search needs) returns-3)

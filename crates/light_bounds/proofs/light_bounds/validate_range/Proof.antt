@@ -15,14 +15,14 @@ returns-2 c = rw (← c .before .before .before .dot .ensures, c .before .before
 returns-3 : tie.Need-returns-3
 unfolding rangeCheck
 returns-3 c =
-    rw (← c .before .before .before .before .before .dot .ensures, c .before .before .before .before .if1 .left, c .before .before .if2 .left,
-    ← c .before .are-cosines .ensures, c .if3 .taken)
+    rw (← c .before .before .before .before .before .dot .ensures, c .before .before .before .before .if1 .left, c .before .before .if2 .left)
+    (rw (← c .before .are-cosines .ensures, c .if3 .taken))
 
 returns-4 : tie.Need-returns-4
 unfolding rangeCheck
 returns-4 c =
-    rw (← c .before .before .before .before .before .dot .ensures, c .before .before .before .before .if1 .left, c .before .before .if2 .left,
-    ← c .before .are-cosines .ensures, c .if3 .left)
+    rw (← c .before .before .before .before .before .dot .ensures, c .before .before .before .before .if1 .left, c .before .before .if2 .left)
+    (rw (← c .before .are-cosines .ensures, c .if3 .left))
 
 pub validate-range-spec : {M : Type 1} → statement M
 validate-range-spec = tie.close (tie.spec (λ c κs. search needs) returns returns-2 (λ c κs. search needs) returns-3 returns-4)

@@ -16,4 +16,4 @@ returns c =
 pub box-at-spec : {M : Type 1} → statement M
 box-at-spec =
     tie.close (tie.spec (λ c κs. search needs) returns (λ c. search needs) (λ c κs. search needs)
-      (λ c. rw (c .before .before .vec-at .ensures, c .vec-at2 .ensures)))
+    (λ c. rw (c .before .before .vec-at .ensures, c .vec-at2 .ensures)))

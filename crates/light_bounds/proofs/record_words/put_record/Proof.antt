@@ -11,12 +11,10 @@ returns c =
     let second = c .before .before .before .before .before .before .before .before .before .before in
     let args = second .before .before .before .before .before .before .before .args in
     c .before .before .write-rest .ensures
-    ∙ rw (c .before .before .before .before .before .before .write-vec3 .ensures,
-        second .write-vec2 .ensures,
-        second .before .before .before .before .write-vec .ensures)
-    (put-parts (now (args .words)) (args .at) (args .«record»))
+    ∙ rw (c .before .before .before .before .before .before .write-vec3 .ensures, second .write-vec2 .ensures)
+    (rw (second .before .before .before .before .write-vec .ensures) (put-parts (now (args .words)) (args .at) (args .«record»)))
 
 pub put-record-spec : {M : Type 1} → statement M
 put-record-spec =
     tie.close (tie.spec (λ c κs. search needs) (λ c. search needs) (λ c κs. search needs) (λ c. search needs) (λ c κs. search needs)
-      (λ c. search needs) (λ c κs. search needs) (λ c. search needs) returns)
+    (λ c. search needs) (λ c κs. search needs) (λ c. search needs) returns)

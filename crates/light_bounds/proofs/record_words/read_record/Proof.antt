@@ -14,4 +14,4 @@ returns-2 c n = sym (recordAt-past n (now (c .before .before .before .args .word
 pub read-record-spec : {M : Type 1} → statement M
 read-record-spec =
     tie.close (tie.spec (λ c κs. search needs) (λ c κs. leb-true _ _ (sym (c .before .fits2 .ensures) ∙ c .if1 .taken)) (λ c. search needs)
-      returns-2)
+    returns-2)

@@ -12,9 +12,9 @@ use Rattle.light_bounds.proofs.record_words.read_record_bytes.Tie as ti
 returns-2 : tie.Need-returns-2
 returns-2 c n =
     sym (recordAt-past n (wordsOf (now (c .before .before .before .args .bytes))) (c .before .before .before .args .at)
-        (rw length-wordsOf (sym (c .before .fits2 .ensures) ∙ c .if1 .left)))
+    (rw length-wordsOf (sym (c .before .fits2 .ensures) ∙ c .if1 .left)))
 
 pub read-record-bytes-spec : {M : Type 1} → statement M
 read-record-bytes-spec =
     tie.close (tie.spec (λ c κs. search needs) (λ c κs. leb-true _ _ (sym (c .before .fits2 .ensures) ∙ c .if1 .taken)) (λ c. search needs)
-      returns-2)
+    returns-2)

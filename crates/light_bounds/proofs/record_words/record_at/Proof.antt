@@ -11,14 +11,18 @@ returns : tie.Need-returns
 returns c n =
     let args = c .before .before .before .before .before .before .before .before .before .before .before .before .before .before .args in
     rw (recordAt-found n (now (args .words)) (args .at)
-        (c .before .before .before .before .before .before .before .before .before .before .before .before .before .before .pre)
-        (sym (c .before .before .before .before .before .before .before .before .before .before .before .is-side .ensures) ∙
-        c .before .before .before .before .before .before .before .before .before .before .if1 .taken))
+    (c .before .before .before .before .before .before .before .before .before .before .before .before .before .before .pre)
+    (sym (c .before .before .before .before .before .before .before .before .before .before .before .is-side .ensures) ∙
+    c .before .before .before .before .before .before .before .before .before .before .if1 .taken))
     (ap given (c .new .ensures
-    ∙ rw (c .before .before .before .before .before .before .before .before .before .box-at .ensures,
-        c .before .before .before .before .before .before .before .before .vec-at .ensures,
-        c .before .before .before .before .before .before .f32-of-word .ensures, c .before .before .before .before .f32-of-word2 .ensures,
-    c .before .before .f32-of-word3 .ensures, c .before .side-of .ensures)))
+    ∙ rw (
+      c .before .before .before .before .before .before .before .before .before .box-at .ensures,
+      c .before .before .before .before .before .before .before .before .vec-at .ensures,
+      c .before .before .before .before .before .before .f32-of-word .ensures,
+      c .before .before .before .before .f32-of-word2 .ensures,
+      c .before .before .f32-of-word3 .ensures,
+      c .before .side-of .ensures,
+    )))
 
 returns-2 : tie.Need-returns-2
 returns-2 c n =
@@ -28,6 +32,6 @@ returns-2 c n =
 pub record-at-spec : {M : Type 1} → statement M
 record-at-spec =
     tie.close (tie.spec (λ c. search needs) (λ c. search needs) (λ c. search needs) (λ c κs. search needs) (λ c κs. search needs)
-      (λ c. search needs) (λ c κs. search needs) (λ c. search needs) (λ c. search needs) (λ c. search needs) (λ c κs. search needs)
-      (λ c. search needs) (λ c. search needs) (λ c. search needs) (λ c κs. search needs) (λ c. search needs) (λ c. search needs)
-      (λ c. search needs) (λ c κs. search needs) (λ c κs. search needs) (λ c κs. search needs) returns returns-2)
+    (λ c. search needs) (λ c κs. search needs) (λ c. search needs) (λ c. search needs) (λ c. search needs) (λ c κs. search needs)
+    (λ c. search needs) (λ c. search needs) (λ c. search needs) (λ c κs. search needs) (λ c. search needs) (λ c. search needs)
+    (λ c. search needs) (λ c κs. search needs) (λ c κs. search needs) (λ c κs. search needs) returns returns-2)

@@ -14,19 +14,24 @@ returns : tie.Need-returns
 returns c n =
     let args = c .before .before .before .before .before .before .before .before .before .before .before .before .before .before .before .args in
     rw (recordAt-found n (wordsOf (now (args .bytes))) (args .at)
-        (rw length-wordsOf (c .before .before .before .before .before .before .before .before .before .before .before .before .before .before .before .pre))
+    (rw length-wordsOf (c .before .before .before .before .before .before .before .before .before .before .before .before .before .before .before .pre))
     (ap sideKnown (sym (c .before .before .before .before .before .before .before .before .before .before .before .before .before .word-at .ensures))
-        ∙ sym (c .before .before .before .before .before .before .before .before .before .before .before .before .is-side .ensures) ∙
-        c .before .before .before .before .before .before .before .before .before .before .before .if1 .taken))
+    ∙ sym (c .before .before .before .before .before .before .before .before .before .before .before .before .is-side .ensures) ∙
+    c .before .before .before .before .before .before .before .before .before .before .before .if1 .taken))
     (ap given (c .new .ensures
-    ∙ rw (c .before .before .before .before .before .before .before .before .before .before .vec-at-bytes .ensures,
-        c .before .before .before .before .before .before .before .before .before .vec-at-bytes2 .ensures,
-        c .before .before .before .before .before .before .before .before .vec-at-bytes3 .ensures,
-        c .before .before .before .before .before .before .f32-of-word .ensures,
-        c .before .before .before .before .before .before .before .word-at2 .ensures,
-    c .before .before .before .before .f32-of-word2 .ensures, c .before .before .before .before .before .word-at3 .ensures,
-        c .before .before .f32-of-word3 .ensures, c .before .before .before .word-at4 .ensures, c .before .side-of .ensures,
-        c .before .before .before .before .before .before .before .before .before .before .before .before .before .word-at .ensures)))
+    ∙ rw (
+      c .before .before .before .before .before .before .before .before .before .before .vec-at-bytes .ensures,
+      c .before .before .before .before .before .before .before .before .before .vec-at-bytes2 .ensures,
+      c .before .before .before .before .before .before .before .before .vec-at-bytes3 .ensures,
+      c .before .before .before .before .before .before .f32-of-word .ensures,
+      c .before .before .before .before .before .before .before .word-at2 .ensures,
+      c .before .before .before .before .f32-of-word2 .ensures,
+      c .before .before .before .before .before .word-at3 .ensures,
+      c .before .before .f32-of-word3 .ensures,
+      c .before .before .before .word-at4 .ensures,
+      c .before .side-of .ensures,
+      c .before .before .before .before .before .before .before .before .before .before .before .before .before .word-at .ensures,
+    )))
 
 returns-2 : tie.Need-returns-2
 returns-2 c n =
@@ -37,6 +42,6 @@ returns-2 c n =
 pub record-at-bytes-spec : {M : Type 1} → statement M
 record-at-bytes-spec =
     tie.close (tie.spec (λ c. search needs) (λ c κs. search needs) (λ c κs. search needs) (λ c κs. search needs) (λ c. search needs)
-      (λ c κs. search needs) (λ c. search needs) (λ c κs. search needs) (λ c. search needs) (λ c κs. search needs) (λ c κs. search needs)
-      (λ c. search needs) (λ c κs. search needs) (λ c κs. search needs) (λ c. search needs) (λ c κs. search needs) (λ c κs. search needs)
-      (λ c κs. search needs) (λ c κs. search needs) returns returns-2)
+    (λ c κs. search needs) (λ c. search needs) (λ c κs. search needs) (λ c. search needs) (λ c κs. search needs) (λ c κs. search needs)
+    (λ c. search needs) (λ c κs. search needs) (λ c κs. search needs) (λ c. search needs) (λ c κs. search needs) (λ c κs. search needs)
+    (λ c κs. search needs) (λ c κs. search needs) returns returns-2)

@@ -13,15 +13,10 @@ returns c = sym (vecAt-past (now (c .before .before .args .words)) (c .before .b
 returns-2 : tie.Need-returns-2
 unfolding vecAt
 returns-2 c =
-    rw (
-      ← c .before .before .before .word-or-zero .ensures,
-      ← c .before .word-or-zero2 .ensures,
-      ← c .before .before .before .before .f32-of-word .ensures,
-      ← c .before .before .f32-of-word2 .ensures,
-      ← c .f32-of-word3 .ensures,
-    )
+    rw (← c .before .before .before .word-or-zero .ensures, ← c .before .word-or-zero2 .ensures)
+    (rw (← c .before .before .before .before .f32-of-word .ensures, ← c .before .before .f32-of-word2 .ensures, ← c .f32-of-word3 .ensures))
 
 pub vec-at-spec : {M : Type 1} → statement M
 vec-at-spec =
     tie.close (tie.spec returns (λ c. search needs) (λ c. search needs) (λ c κs. search needs) (λ c. search needs) (λ c κs. search needs)
-      (λ c κs. search needs) (λ c. search needs) (λ c κs. search needs) (λ c κs. search needs) returns-2)
+    (λ c κs. search needs) (λ c. search needs) (λ c κs. search needs) (λ c κs. search needs) returns-2)

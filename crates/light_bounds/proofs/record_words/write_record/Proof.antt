@@ -19,4 +19,4 @@ returns-2 c = rw (← c .before .fits2 .ensures, c .if1 .left)
 pub write-record-spec : {M : Type 1} → statement M
 write-record-spec =
     tie.close (tie.spec (λ c κs. search needs) (λ c κs. leb-true _ _ (sym (c .before .before .fits2 .ensures) ∙ c .before .if1 .taken))
-      (λ c. search needs) returns returns-2)
+    (λ c. search needs) returns returns-2)

@@ -17,5 +17,5 @@ returns c =
 pub write-vec-spec : {M : Type 1} → statement M
 write-vec-spec =
     tie.close (tie.spec (λ c κs. search needs) (λ c. search needs) (λ c. search needs) (λ c κs. search needs) (λ c. search needs)
-      (λ c. search needs) (λ c. simp length-set (omega arith)) (λ c κs. search needs) (λ c. search needs) (λ c. search needs)
-      (λ c. simp length-set (omega arith)) (λ c. search needs) returns)
+    (λ c. search needs) (λ c. simp length-set (omega arith)) (λ c κs. search needs) (λ c. search needs) (λ c. search needs)
+    (λ c. simp length-set (omega arith)) (λ c. search needs) returns)

@@ -23,4 +23,4 @@ returns-2 c = rw (← c .before .before .before .before .dot .ensures, c .before
 pub angle-between-spec : {M : Type 1} → statement M
 angle-between-spec =
     tie.close (tie.spec (λ c κs. search needs) (λ c κs. search needs) (λ c κs. search needs) (λ c κs. search needs) (λ c κs. search needs)
-      (λ c κs. search needs) (λ c κs. search needs) returns returns-2)
+    (λ c κs. search needs) (λ c κs. search needs) returns returns-2)

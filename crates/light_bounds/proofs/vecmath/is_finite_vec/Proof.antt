@@ -7,9 +7,8 @@ use Rattle.light_bounds.proofs.vecmath.is_finite_vec.Tie as tie
 returns : tie.Need-returns
 unfolding finiteVec
 returns c =
-    rw (← c .before .before .before .before .is-finite .ensures, c .before .before .before .if1 .taken, ← c .before .before .is-finite2 .ensures,
-        c .before .if2 .taken)
-    (c .is-finite3 .ensures)
+    rw (← c .before .before .before .before .is-finite .ensures, c .before .before .before .if1 .taken, ← c .before .before .is-finite2 .ensures)
+    (rw (c .before .if2 .taken) (c .is-finite3 .ensures))
 
 returns-2 : tie.Need-returns-2
 unfolding finiteVec

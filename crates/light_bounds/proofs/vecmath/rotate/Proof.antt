@@ -22,10 +22,10 @@ returns c =
     c .add2 .ensures
     ∙ ap₂ plus
     (c6 .add .ensures ∙ ap₂ plus (c3 .scale-vector .ensures ∙ ap (scaled (a .v)) (c2 .cos .ensures))
-        (c5 .scale-vector2 .ensures ∙ ap₂ scaled (c4 .cross .ensures) (c1 .sin .ensures)))
+    (c5 .scale-vector2 .ensures ∙ ap₂ scaled (c4 .cross .ensures) (c1 .sin .ensures)))
     (c8 .scale-vector3 .ensures ∙ ap (scaled (a .axis)) (ap₂ (λ (d k : Float). d ⊗ (onef ⊖ k)) (c7 .dot .ensures) (c2 .cos .ensures)))
 
 pub rotate-spec : {M : Type 1} → statement M
 rotate-spec =
     tie.close (tie.spec (λ c κs. search needs) (λ c κs. search needs) (λ c κs. search needs) (λ c κs. search needs) (λ c κs. search needs)
-      (λ c κs. search needs) (λ c κs. search needs) (λ c κs. search needs) (λ c κs. search needs) returns)
+    (λ c κs. search needs) (λ c κs. search needs) (λ c κs. search needs) (λ c κs. search needs) returns)

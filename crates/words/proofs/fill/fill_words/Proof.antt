@@ -26,5 +26,5 @@ loop-holds c = (
 pub fill-words-spec : {M : Type 1} → statement M
 fill-words-spec =
     tie.close (tie.spec Inv-loop μ-loop loop-holds (λ c. omega arith) (λ c. omega arith) (λ c. omega arith) (λ c. omega arith)
-      (λ c. (omega arith, omega arith, omega arith, filling-one (c .before .before .loop .inv .3) (omega arith))) (λ c. omega arith)
-      (λ c. filling-all _ _ (c .before .loop .inv .3) (omega arith) (omega arith)))
+    (λ c. (omega arith, omega arith, omega arith, filling-one (c .before .before .loop .inv .3) (omega arith))) (λ c. omega arith)
+    (λ c. filling-all _ _ (c .before .loop .inv .3) (omega arith) (omega arith)))

@@ -52,4 +52,4 @@ returns-2 c =
 pub bytes-of-words-spec : {M : Type 1} → statement M
 bytes-of-words-spec =
     tie.close (tie.spec Inv-loop μ-loop returns (λ c. (omega arith, copied-none)) (λ c. omega arith) (λ c. omega arith)
-      (λ c κs. search needs) (λ c. omega arith) (λ c. omega arith) loop-again (λ c. omega arith) returns-2)
+    (λ c κs. search needs) (λ c. omega arith) (λ c. omega arith) loop-again (λ c. omega arith) returns-2)

@@ -19,5 +19,5 @@ returns-2 c = simp (le-ltb _ _ (c .if1 .left))
 pub set-word-spec : {M : Type 1} → statement M
 set-word-spec =
     tie.close (tie.spec (λ c. search needs) (λ c. search needs) (λ c. search needs) (λ c. search needs) (λ c. search needs)
-      (λ c. simp length-set (omega arith)) (λ c. search needs) (λ c. search needs) (λ c. simp length-set (omega arith)) (λ c. search needs)
-      (λ c. search needs) (λ c. simp length-set (omega arith)) (λ c. search needs) returns returns-2)
+    (λ c. simp length-set (omega arith)) (λ c. search needs) (λ c. search needs) (λ c. simp length-set (omega arith)) (λ c. search needs)
+    (λ c. search needs) (λ c. simp length-set (omega arith)) (λ c. search needs) returns returns-2)

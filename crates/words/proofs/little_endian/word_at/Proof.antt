@@ -28,8 +28,8 @@ returns-2 c = sym (List·getD-eq-default (wordsOf (c .before .args .bytes .now))
 pub word-at-spec : {M : Type 1} → statement M
 word-at-spec =
     tie.close (tie.spec (λ c. search needs) (λ c. search needs) (λ c. fits-widen tt (c .shared-slice-known .given _)) (λ c. search needs)
-      (λ c. search needs) (λ c. fits-widen tt (c .shared-slice-known2 .given _)) (λ c. search needs) (λ c. search needs)
-      (λ c. fits-widen tt (c .shared-slice-known3 .given _)) (λ c. search needs) (λ c. search needs)
-      (λ c. fits-widen tt (c .shared-slice-known4 .given _)) (λ c. omega (arith, small c)) (λ c. omega (arith, small c))
-      (λ c. omega (arith, small c)) (λ c. omega (arith, small c)) (λ c. omega (arith, small c)) (λ c. omega (arith, small c))
-      (λ c. sym (wordsOf-at _ _ (c .before .before .before .before .if1 .taken))) returns-2)
+    (λ c. search needs) (λ c. fits-widen tt (c .shared-slice-known2 .given _)) (λ c. search needs) (λ c. search needs)
+    (λ c. fits-widen tt (c .shared-slice-known3 .given _)) (λ c. search needs) (λ c. search needs)
+    (λ c. fits-widen tt (c .shared-slice-known4 .given _)) (λ c. omega (arith, small c)) (λ c. omega (arith, small c))
+    (λ c. omega (arith, small c)) (λ c. omega (arith, small c)) (λ c. omega (arith, small c)) (λ c. omega (arith, small c))
+    (λ c. sym (wordsOf-at _ _ (c .before .before .before .before .if1 .taken))) returns-2)

@@ -41,4 +41,4 @@ returns-3 c =
 pub words-of-bytes-spec : {M : Type 1} → statement M
 words-of-bytes-spec =
     tie.close (tie.spec Inv-loop μ-loop returns returns-2 (λ c. (sym (length-wordsOf _), copied-none)) (λ c κs. search needs)
-      (λ c. omega arith) (λ c. omega arith) (λ c. omega arith) (λ c. omega arith) loop-again (λ c. omega arith) returns-3)
+    (λ c. omega arith) (λ c. omega arith) (λ c. omega arith) (λ c. omega arith) loop-again (λ c. omega arith) returns-3)

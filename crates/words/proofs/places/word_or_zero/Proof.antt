@@ -9,4 +9,4 @@ use Rattle.words.proofs.places.word_or_zero.Tie as tie
 pub word-or-zero-spec : {M : Type 1} → statement M
 word-or-zero-spec =
     tie.close (tie.spec (λ c. search needs) (λ c. search needs) (λ c. search needs)
-      (λ c. sym (List·getD-eq-default (now (c .before .args .words)) 0 (c .if1 .left))))
+    (λ c. sym (List·getD-eq-default (now (c .before .args .words)) 0 (c .if1 .left))))

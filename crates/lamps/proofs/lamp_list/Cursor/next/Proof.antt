@@ -23,9 +23,8 @@ returns-2 c = rw (kind (c .before .before .before), ne-eqb _ _ (c .before .befor
 returns-3 : tie.Need-returns-3
 unfolding lampAt
 returns-3 c =
-    rw (kind (c .before .before .before .before), ne-eqb _ _ (c .before .before .before .if1 .left), ne-eqb _ _ (c .before .before .if2 .left),
-        eq-eqb _ _ (c .before .if3 .taken))
-    (c .group-at .ensures)
+    rw (kind (c .before .before .before .before), ne-eqb _ _ (c .before .before .before .if1 .left), ne-eqb _ _ (c .before .before .if2 .left))
+    (rw (eq-eqb _ _ (c .before .if3 .taken)) (c .group-at .ensures))
 
 returns-4 : tie.Need-returns-4
 unfolding lampAt
@@ -34,4 +33,4 @@ returns-4 c = rw (kind (c .before .before .before), ne-eqb _ _ (c .before .befor
 pub next-spec : {M : Type 1} → statement M
 next-spec =
     tie.close (tie.spec (λ c κs. search needs) (λ c κs. search needs) (λ c κs. search needs) returns (λ c κs. search needs) returns-2
-      (λ c κs. search needs) returns-3 returns-4)
+    (λ c κs. search needs) returns-3 returns-4)

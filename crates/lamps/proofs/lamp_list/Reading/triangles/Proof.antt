@@ -21,5 +21,5 @@ returns-2 c = rw (le-leb _ _ (c .before .before .if1 .left), le-leb _ _ (ltb-fal
 pub triangles-spec : {M : Type 1} → statement M
 triangles-spec =
     tie.close (tie.spec (λ c. search needs) returns
-      (λ c. omega (arith, ltb-false (length (now (c .before .before .before .args .list))) (c .before .before .before .args .self .next .at) (c .if2 .left)))
-      (λ c. search needs) (λ c. search needs) returns-2)
+    (λ c. omega (arith, ltb-false (length (now (c .before .before .before .args .list))) (c .before .before .before .args .self .next .at) (c .if2 .left)))
+    (λ c. search needs) (λ c. search needs) returns-2)
