@@ -7,7 +7,7 @@ use Rattle.lamps.proofs.block.check_block.Tie as tie
 
 returns : tie.Need-returns
 unfolding blockCheck _then_
-returns c = rw (← c .before .before .before .check-layout .ensures, c .before .enum-told .given .1) (c .check-handles .ensures)
+returns c = rw (← c .before .before .before .check-layout .ensures, c .before .enum-told .given .1) (search needs)
 
 returns-2 : tie.Need-returns-2
 unfolding blockCheck _then_

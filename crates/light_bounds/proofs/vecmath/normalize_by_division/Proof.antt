@@ -9,7 +9,7 @@ use Rattle.light_bounds.proofs.vecmath.normalize_by_division.Tie as tie
 returns : tie.Need-returns
 unfolding normalizeByDivision
 returns c = rw (← c .before .before .before .length .ensures, ← c .before .before .divides .ensures, c .before .if1 .taken)
-    (ap given (c .divide-vector .ensures))
+    (ap given (search needs))
 
 returns-2 : tie.Need-returns-2
 unfolding normalizeByDivision
