@@ -78,10 +78,7 @@ fn prepare(bounds: &str, sampler: &str, sampling: &str) {
 }
 
 fn main() {
-    let archives = folder(ARCHIVES, "../target/staticlib");
-    for name in ["floats_c", "bounds_c", "lamps_c", "alias_c"] {
-        link(&archives, name);
-    }
+    link(&folder(ARCHIVES, "../target/staticlib"), "parts_c");
 
     println!("cargo:rustc-check-cfg=cfg(reference)");
     let files = folder(REFERENCE, "../../shared/docs");
