@@ -1,4 +1,4 @@
-//! The proved functions: the one place that declares what the archives of the crates named `*_c` export.
+//! The proved functions: the one place that declares what the archive of `parts_c` exports.
 
 // SAFETY: nothing checks these lines against the Rattle source. There each function is proved for every input, so those on
 // plain numbers are safe to call; those on slices are wrapped below.
