@@ -1,8 +1,11 @@
-// Integer square roots: of a number below 2^54, and of one below 2^54 followed by 54 zero digits.
+// Integer square roots: of a number below 2^54, of 24 digits to the nearest, and of one below 2^54 followed by 54 zero digits.
 ghost use mathlib.Core.Path.{_≡_};
 ghost use Prim.Native.Nat.{_+_, _*_, _^_, _≤_, _<_};
+ghost use lib.Ieee.Nearest.{closest};
 ghost use Rattle.ieee.specs.Sqrt.{isqrt};
+ghost use Rattle.ieee.specs.SqrtNear.{isNearest};
 ghost use Rattle.ieee.specs.SqrtWords.{sticky};
+use super::shift::shifted_to_even;
 use words::floats::f64_of_word;
 use words::floats::word_of_f64;
 
@@ -65,6 +68,62 @@ pub(crate) fn sticky_root(n: u64) -> u64
 {
     let q = root(n);
     if q * q == n { 2 * q } else { 2 * q + 1 }
+}
+
+// A number near the root of n / 64, for n = normal * 2^odd, with normal from 2^52 up to 2^53: a polynomial near the root of x from 1 up to 2, its terms joined
+// in pairs, times the root of 2 where one digit more was shifted in. The sum with 2^29 rounds it to 24 digits. Nothing rests on how near it is.
+fn near_guess(normal: u64, odd: u64) -> u64
+    requires { ⌜ normal < 2 ^ 53 ⌝ }
+    requires { ⌜ odd < 2 ⌝ }
+    ensures { λ r. ⌜ r < 2 ^ 25 ⌝ }
+{
+    let x = f64_of_word(0x3fe0_0000_0000_0000 + normal);
+    let scale = f64_of_word(0x3ff0_0000_0000_0000 + odd * 0x6_a09e_667f_3bcd);
+    let x2 = x * x;
+    let x4 = x2 * x2;
+    let low = 0.2204425392932481 + 1.4020557717943756 * x + (1.2809074573233223 * x - 1.312216944096202) * x2;
+    let middle = 0.5086529388354117 * x - 0.950524079524268 + (0.04670294662019202 * x - 0.1896413918842438) * x2;
+    let high = 0.0004488891929761075 * x - 0.006828127055284278;
+    word_of_f64((low + high * (x4 * x4) + middle * x4) * scale + 536870912.0) % 0x200_0000
+}
+
+// Whether q is the whole number nearest to the root of n / 64.
+fn is_nearest(n: u64, q: u64) -> bool
+    requires { ⌜ n < 2 ^ 54 ⌝ }
+    requires { ⌜ q ≤ 2 ^ 25 ⌝ }
+    ensures { λ r. ⌜ r ≡ isNearest n q ⌝ }
+{
+    let square = 64 * (q * q);
+    square + 16 < n + 64 * q && n < square + 64 * q + 16
+}
+
+// What is kept of the root of n when its last three digits and its rest are rounded away: q, or a number next to it, where that is the nearest, and else by
+// all the digits.
+fn kept_root(n: u64, q: u64) -> u64
+    requires { ⌜ n < 2 ^ 54 ⌝ }
+    requires { ⌜ q < 2 ^ 25 ⌝ }
+    ensures { λ r. ⌜ r ≡ closest (sticky n) (2 ^ 4) ⌝ }
+{
+    if is_nearest(n, q) {
+        return q;
+    }
+    if is_nearest(n, q + 1) {
+        return q + 1;
+    }
+    if q > 0 && is_nearest(n, q - 1) {
+        return q - 1;
+    }
+    shifted_to_even(sticky_root(n), 4)
+}
+
+// The same from the guess.
+pub(crate) fn nearest_root(n: u64, normal: u64, odd: u64) -> u64
+    requires { ⌜ n < 2 ^ 54 ⌝ }
+    requires { ⌜ normal < 2 ^ 53 ⌝ }
+    requires { ⌜ odd < 2 ⌝ }
+    ensures { λ r. ⌜ r ≡ closest (sticky n) (2 ^ 4) ⌝ }
+{
+    kept_root(n, near_guess(normal, odd))
 }
 
 // The same for n * 2^54: the root's upper half is the root of n, a division by it finds the lower half or one more, and the rest tells which.

@@ -4,7 +4,7 @@ ghost use mathlib.Core.Path.{_≡_};
 ghost use Prim.Native.Nat.{_+_, _*_, _^_, _≤_, _<_};
 ghost use lib.Ieee.{binary32, binary64, ofBits, toBits};
 ghost use Rattle.ieee.specs.Sqrt.{sqrt as rooted, rootOf};
-use super::root::sticky_root;
+use super::root::nearest_root;
 use super::root::wide_sticky_root;
 use super::shift::shifted_to_even;
 use words::floats::f32_of_word;
@@ -73,10 +73,12 @@ fn sqrt64_word(w: u64) -> u64
     )
 }
 
-// digits * 4^half, with digits from 2^52 up to 2^54.
+// digits * 4^half, where digits are normal * 2^odd, with normal from 2^52 up to 2^53.
 struct Scaled {
     digits: u64,
     half: u64,
+    normal: u64,
+    odd: u64,
 }
 
 // The number d * 2^e so: d is shifted until its leading digit is at place 52, and once more where the exponent is then odd.
@@ -89,13 +91,18 @@ fn normalised(d: u64, e: u64) -> Scaled
     ensures { λ r. ⌜ r .digits < 2 ^ 54 ⌝ }
     ensures { λ r. ⌜ 2 * r .half ≤ e ⌝ }
     ensures { λ r. ⌜ e ≤ 2 * r .half + 53 ⌝ }
+    ensures { λ r. ⌜ r .normal < 2 ^ 53 ⌝ }
+    ensures { λ r. ⌜ r .odd < 2 ⌝ }
 {
     let shift = (u64::leading_zeros(d) - 11) as u64;
     let normal = d << shift;
     let exponent = e - shift;
+    let odd = exponent % 2;
     Scaled {
-        digits: normal << (exponent % 2),
+        digits: normal << odd,
         half: exponent / 2,
+        normal,
+        odd,
     }
 }
 
@@ -109,7 +116,7 @@ fn digits_root(d: u64, e: u64) -> u32
 {
     let s = normalised(d, e);
     let half = s.half;
-    let kept = shifted_to_even(sticky_root(s.digits), 4);
+    let kept = nearest_root(s.digits, s.normal, s.odd);
     ((2 + half) * 0x80_0000 + kept) as u32
 }
 

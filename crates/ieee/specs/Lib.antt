@@ -8,6 +8,7 @@ pub mod CastWords
 pub mod Sqrt
 pub mod SqrtLaws
 pub mod SqrtWords
+pub mod SqrtNear
 pub mod Narrow
 pub mod Nans
 pub mod Patterns
