@@ -33,15 +33,20 @@ within n k l h = go (isqrt n) (eqb (isqrt n * isqrt n) n) (eqb-true (isqrt n * i
         kept (2 * q + 0) k (omega arith) (omega arith)
     go q false e from to = kept (2 * q + 1) k (omega arith) (omega arith)
 
-pub nearest-kept : (n q : ℕ) → T (isNearest n q) → closest (sticky n) (2 ^ 4) ≡ q
+-- a number that passes is what is kept
+pub nearest-kept : (n q : ℕ) → isNearest n q ≡ true → q ≡ closest (sticky n) (2 ^ 4)
 unfolding isNearest
-nearest-kept n zero t =
-    absurd (omega (arith, ltb→lt (64 * (0 * 0) + 16) (n + 64 * 0) (and-l (ltb (64 * (0 * 0) + 16) (n + 64 * 0)) (ltb n (64 * (0 * 0) + 64 * 0 + 16)) t),
-    ltb→lt n (64 * (0 * 0) + 64 * 0 + 16) (and-r (ltb (64 * (0 * 0) + 16) (n + 64 * 0)) (ltb n (64 * (0 * 0) + 64 * 0 + 16)) t)))
-nearest-kept n (suc k) t =
-    let q = suc k in
-    let low = ltb (64 * (q * q) + 16) (n + 64 * q) in
-    let high = ltb n (64 * (q * q) + 64 * q + 16) in
-    let l : 64 * (q * q) + 16 < n + 64 * q = ltb→lt (64 * (q * q) + 16) (n + 64 * q) (and-l low high t) in
-    let h : n < 64 * (q * q) + 64 * q + 16 = ltb→lt n (64 * (q * q) + 64 * q + 16) (and-r low high t) in
-    within n k (omega arith) (omega arith)
+nearest-kept n q e = go q (ltb→lt (64 * (q * q) + 16) (n + 64 * q) (and-l low high both)) (ltb→lt n (64 * (q * q) + 64 * q + 16) (and-r low high both))
+  where
+    low : Bool
+    low = ltb (64 * (q * q) + 16) (n + 64 * q)
+
+    high : Bool
+    high = ltb n (64 * (q * q) + 64 * q + 16)
+
+    both : T (low && high)
+    both = subst T (sym e) tt
+
+    go : (q : ℕ) → 64 * (q * q) + 16 < n + 64 * q → n < 64 * (q * q) + 64 * q + 16 → q ≡ closest (sticky n) (2 ^ 4)
+    go zero l h = absurd (omega arith)
+    go (suc k) l h = sym (within n k (omega arith) (omega arith))
