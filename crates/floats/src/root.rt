@@ -70,21 +70,12 @@ pub(crate) fn sticky_root(n: u64) -> u64
     if q * q == n { 2 * q } else { 2 * q + 1 }
 }
 
-// A number near the root of n / 64, for n = normal * 2^odd, with normal from 2^52 up to 2^53: a polynomial near the root of x from 1 up to 2, its terms joined
-// in pairs, times the root of 2 where one digit more was shifted in. The sum with 2^29 rounds it to 24 digits. Nothing rests on how near it is.
-fn near_guess(normal: u64, odd: u64) -> u64
-    requires { ⌜ normal < 2 ^ 53 ⌝ }
-    requires { ⌜ odd < 2 ⌝ }
-    ensures { λ r. ⌜ r < 2 ^ 25 ⌝ }
+// What is kept of the root of n when its last three digits and its rest are rounded away.
+pub(crate) fn kept_root(n: u64) -> u64
+    requires { ⌜ n < 2 ^ 54 ⌝ }
+    ensures { λ r. ⌜ r ≡ closest (sticky n) (2 ^ 4) ⌝ }
 {
-    let x = f64_of_word(0x3fe0_0000_0000_0000 + normal);
-    let scale = f64_of_word(0x3ff0_0000_0000_0000 + odd * 0x6_a09e_667f_3bcd);
-    let x2 = x * x;
-    let x4 = x2 * x2;
-    let low = 0.2204425392932481 + 1.4020557717943756 * x + (1.2809074573233223 * x - 1.312216944096202) * x2;
-    let middle = 0.5086529388354117 * x - 0.950524079524268 + (0.04670294662019202 * x - 0.1896413918842438) * x2;
-    let high = 0.0004488891929761075 * x - 0.006828127055284278;
-    word_of_f64((low + high * (x4 * x4) + middle * x4) * scale + 536870912.0) % 0x200_0000
+    shifted_to_even(sticky_root(n), 4)
 }
 
 // Whether q is the whole number nearest to the root of n / 64.
@@ -97,33 +88,52 @@ fn is_nearest(n: u64, q: u64) -> bool
     square + 16 < n + 64 * q && n < square + 64 * q + 16
 }
 
-// What is kept of the root of n when its last three digits and its rest are rounded away: q, or a number next to it, where that is the nearest, and else by
-// all the digits.
-fn kept_root(n: u64, q: u64) -> u64
+// What is kept of the root of n where q is not it: one up or one down by the same test, and else by all the digits.
+fn beside(n: u64, q: u64) -> u64
     requires { ⌜ n < 2 ^ 54 ⌝ }
     requires { ⌜ q < 2 ^ 25 ⌝ }
     ensures { λ r. ⌜ r ≡ closest (sticky n) (2 ^ 4) ⌝ }
 {
-    if is_nearest(n, q) {
-        return q;
-    }
     if is_nearest(n, q + 1) {
         return q + 1;
     }
     if q > 0 && is_nearest(n, q - 1) {
         return q - 1;
     }
-    shifted_to_even(sticky_root(n), 4)
+    kept_root(n)
 }
 
-// The same from the guess.
+// A float near 2^29 and the root of n / 2^52, for n = normal * 2^odd, with normal from 2^52 up to 2^53: a polynomial near the root of x from 1 up to 2, times
+// the root of 2 where one digit more was shifted in. The sum with 2^29 rounds it to 24 digits. Nothing rests on how near it is.
+fn near_root(normal: u64, odd: u64) -> f64
+    requires { ⌜ normal < 2 ^ 53 ⌝ }
+    requires { ⌜ odd < 2 ⌝ }
+{
+    let x = f64_of_word(0x3fe0_0000_0000_0000 + normal);
+    let scale = f64_of_word(0x3ff0_0000_0000_0000 + odd * 0x6_a09e_667f_3bcd);
+    let x2 = x * x;
+    let x4 = x2 * x2;
+    let low = 0.23340100123411664
+        + 1.3193533027095627 * x
+        + (0.9014983820579215 * x - 1.0794072036466167) * x2;
+    let high = 0.010791799780307481 * x - 0.06605540806667079 - 0.0007844869615530467 * x2;
+    let middle = 0.23722064099379359 * x - 0.5560180246773033 + high * x2;
+    low * scale + middle * (x4 * scale) + 536870912.0
+}
+
+// What is kept of the root of n, where n = normal * 2^odd: the last digits of the float near it, where they are the nearest.
 pub(crate) fn nearest_root(n: u64, normal: u64, odd: u64) -> u64
     requires { ⌜ n < 2 ^ 54 ⌝ }
     requires { ⌜ normal < 2 ^ 53 ⌝ }
     requires { ⌜ odd < 2 ⌝ }
     ensures { λ r. ⌜ r ≡ closest (sticky n) (2 ^ 4) ⌝ }
 {
-    kept_root(n, near_guess(normal, odd))
+    let near = near_root(normal, odd);
+    if near != near {
+        return kept_root(n);
+    }
+    let q = f64::to_bits(near) % 0x200_0000;
+    if is_nearest(n, q) { q } else { beside(n, q) }
 }
 
 // The same for n * 2^54: the root's upper half is the root of n, a division by it finds the lower half or one more, and the rest tells which.

@@ -3,7 +3,10 @@
 ghost use mathlib.Core.Path.{_≡_};
 ghost use Prim.Native.Nat.{_+_, _*_, _^_, _≤_, _<_};
 ghost use lib.Ieee.{binary32, binary64, ofBits, toBits};
+ghost use lib.Ieee.Nearest.{closest};
 ghost use Rattle.ieee.specs.Sqrt.{sqrt as rooted, rootOf};
+ghost use Rattle.ieee.specs.SqrtWords.{sticky};
+use super::root::kept_root;
 use super::root::nearest_root;
 use super::root::wide_sticky_root;
 use super::shift::shifted_to_even;
@@ -49,7 +52,7 @@ fn sqrt_word(w: u32) -> u32
     if w < 0x80_0000 {
         return digits_root(w as u64, 151);
     }
-    digits_root(
+    normal_root(
         (0x80_0000 + w % 0x80_0000) as u64,
         (w / 0x80_0000 + 150) as u64,
     )
@@ -106,6 +109,17 @@ fn normalised(d: u64, e: u64) -> Scaled
     }
 }
 
+// The pattern of the root of scaled digits in units of 2^-300, by what is kept of the digits' root.
+fn pattern(s: Scaled, kept: u64) -> u32
+    requires { ⌜ 2 ^ 52 ≤ s .digits ⌝ }
+    requires { ⌜ s .digits < 2 ^ 54 ⌝ }
+    requires { ⌜ s .half ≤ 202 ⌝ }
+    requires { ⌜ kept ≡ closest (sticky (s .digits)) (2 ^ 4) ⌝ }
+    ensures { λ r. ⌜ r ≡ toBits binary32 (rootOf binary32 150 (s .digits * 4 ^ s .half)) ⌝ }
+{
+    ((2 + s.half) * 0x80_0000 + kept) as u32
+}
+
 // The pattern of the root of d * 2^e units of 2^-300.
 fn digits_root(d: u64, e: u64) -> u32
     requires { ⌜ 0 < d ⌝ }
@@ -115,9 +129,21 @@ fn digits_root(d: u64, e: u64) -> u32
     ensures { λ r. ⌜ r ≡ toBits binary32 (rootOf binary32 150 (d * 2 ^ e)) ⌝ }
 {
     let s = normalised(d, e);
-    let half = s.half;
+    let kept = kept_root(s.digits);
+    pattern(s, kept)
+}
+
+// The same by a guess, for the normal floats, which are the most.
+fn normal_root(d: u64, e: u64) -> u32
+    requires { ⌜ 0 < d ⌝ }
+    requires { ⌜ d < 2 ^ 24 ⌝ }
+    requires { ⌜ 151 ≤ e ⌝ }
+    requires { ⌜ e ≤ 404 ⌝ }
+    ensures { λ r. ⌜ r ≡ toBits binary32 (rootOf binary32 150 (d * 2 ^ e)) ⌝ }
+{
+    let s = normalised(d, e);
     let kept = nearest_root(s.digits, s.normal, s.odd);
-    ((2 + half) * 0x80_0000 + kept) as u32
+    pattern(s, kept)
 }
 
 // The pattern of the root of d * 2^e units of 2^-2150.

@@ -1,24 +1,21 @@
--- `floats::root::kept_root`: a number that passes the test is what is kept, wherever it came from. Assumes nothing.
+-- `floats::root::kept_root`: the root's digits are few enough to round. Assumes nothing.
 use Prim.Native.Nat.{ℕ, _^_, _<_}
-use mathlib.Core.Path.{ap, _∙_, sym}
+use mathlib.Core.Path.{ap, _∙_}
 use native.Mathlib.Omega.{arith}
 use borrow.Author.Needs.{needs}
 use lib.Dec.{lit≤}
 use lib.Ieee.Nearest.{closest}
-use Rattle.ieee.specs.SqrtNear.{nearest-kept}
 use Rattle.ieee.specs.SqrtWords.{sticky, sticky-lt}
 use Rattle.floats.proofs.root.kept_root.Statement.{statement}
 use Rattle.floats.proofs.root.kept_root.Tie as tie
 
 shifted-to-even-requires : tie.Need-shifted-to-even-requires
 shifted-to-even-requires c κs =
-    let n = c .before .before .before .before .before .before .args .n in
-    let l : sticky n < 2 ^ 28 = sticky-lt n (2 ^ 27) (omega arith) in
+    let n = c .before .args .n in
+    let l : sticky n < 2 ^ 28 = sticky-lt n (2 ^ 27) (c .before .pre) in
     (omega (arith, c .sticky-root .ensures), (lit≤ tt, lit≤ tt))
 
 pub kept-root-spec : {M : Type 1} → statement M
 kept-root-spec =
-    tie.close (tie.spec (λ c κs. search needs) (λ c. nearest-kept _ _ (sym (c .before .is-nearest .ensures) ∙ c .if1 .taken)) (λ c. search needs)
-    (λ c κs. search needs) (λ c. search needs) (λ c. nearest-kept _ _ (sym (c .before .is-nearest2 .ensures) ∙ c .if2 .taken)) (λ c. search needs)
-    (λ c κs. search needs) (λ c. search needs) (λ c. nearest-kept _ _ (sym (c .before .is-nearest3 .ensures) ∙ c .if4 .taken)) (λ c κs. search needs)
-    shifted-to-even-requires (λ c. c .shifted-to-even .ensures ∙ ap (λ (z : ℕ). closest z (2 ^ 4)) (c .before .sticky-root .ensures)))
+    tie.close (tie.spec (λ c κs. search needs) shifted-to-even-requires
+    (λ c. c .shifted-to-even .ensures ∙ ap (λ (z : ℕ). closest z (2 ^ 4)) (c .before .sticky-root .ensures)))

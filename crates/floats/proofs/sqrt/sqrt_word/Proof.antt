@@ -16,5 +16,5 @@ sqrt-word-spec =
     (λ c. unfold toBits in sqrt-none binary32 _ (omega arith) (c .before .before .if1 .left) (c .if3 .taken)) (λ c κs. search needs)
     (λ c. c .digits-root .ensures ∙ sqrt-subnormal binary32 _ (c .before .before .before .before .if1 .left) (omega arith) (c .before .if4 .taken))
     (λ c. search needs) (λ c. search needs) (λ c. search needs) (λ c. search needs) (λ c κs. omega (arith, eqb-false))
-    (λ c. c .digits-root2 .ensures ∙ sqrt-normal binary32 _ (c .before .before .before .before .if1 .left) (omega (arith, eqb-false))
+    (λ c. c .normal-root .ensures ∙ sqrt-normal binary32 _ (c .before .before .before .before .if1 .left) (omega (arith, eqb-false))
     (c .before .if4 .left)))
