@@ -9,20 +9,33 @@ use super::shift::shifted_to_even;
 use words::floats::f64_of_word;
 use words::floats::word_of_f64;
 
-// A number near the root of n, and below 2^27, for n from 2^52 up to 2^54. The first guess at one over the root is made of n's bit pattern; a Newton step and a
-// step of third order mend it. The result is cut a little late, so that a root that is whole is met. Nothing rests on how near it is.
+// A float near the root of normal * 2^odd / 2^52, for normal from 2^52 up to 2^53: a polynomial near the root of x from 1 up to 2, times the root of 2 where
+// odd is 1. Nothing rests on how near it is.
+fn near_root(normal: u64, odd: u64) -> f64
+    requires { ⌜ normal < 2 ^ 54 ⌝ }
+    requires { ⌜ odd < 2 ⌝ }
+{
+    let x = f64_of_word(0x3fe0_0000_0000_0000 + normal);
+    let scale = f64_of_word(0x3ff0_0000_0000_0000 + odd * 0x6_a09e_667f_3bcd);
+    let x2 = x * x;
+    let x4 = x2 * x2;
+    let low = 0.20942746719644256
+        + 1.480147379936842 * x
+        + (1.742466250429782 * x - 1.559674922066227) * x2;
+    let middle = 0.9734175379389632 * x - 1.511709545069776
+        + (0.15005734208131682 * x - 0.4551800078956743) * x2;
+    let high = 0.004368806373851808 * x - 0.03305833417517536 - 0.0002619746762963585 * x2;
+    low * scale + (middle + high * x4) * (x4 * scale)
+}
+
+// A number near the root of n, and below 2^27, for n from 2^52 up to 2^54. The sum with 2^26 leaves whole numbers in the float's last digits; it is cut a little
+// late, so that a root that is whole is met.
 fn guess(n: u64) -> u64
     requires { ⌜ n < 2 ^ 54 ⌝ }
     ensures { λ r. ⌜ r < 2 ^ 27 ⌝ }
 {
-    let half = (n / 2) as f64;
-    let x = half + half;
-    let y = f64_of_word(0x5fde_e350_c7b5_37a9 - word_of_f64(half) % 0x8000_0000_0000_0000 / 2);
-    let z = y * (1.501 - half * y * y);
-    let near = x * z;
-    let rest = 1.0 - near * z;
-    let mended = near * rest * (0.5 + rest * 0.375 + rest * rest * 0.3125);
-    word_of_f64(near - 0.498046875 + mended + 4503599627370496.0) % 0x800_0000
+    let odd = n >> 53;
+    word_of_f64(near_root(n >> odd, odd) - 0.0000000074214 + 67108864.0) % 0x800_0000
 }
 
 // The greatest number whose square is at most n, by halving the range in which it lies.
@@ -103,32 +116,14 @@ fn beside(n: u64, q: u64) -> u64
     kept_root(n)
 }
 
-// A float near 2^29 and the root of n / 2^52, for n = normal * 2^odd, with normal from 2^52 up to 2^53: a polynomial near the root of x from 1 up to 2, times
-// the root of 2 where one digit more was shifted in. The sum with 2^29 rounds it to 24 digits. Nothing rests on how near it is.
-fn near_root(normal: u64, odd: u64) -> f64
-    requires { ⌜ normal < 2 ^ 53 ⌝ }
-    requires { ⌜ odd < 2 ⌝ }
-{
-    let x = f64_of_word(0x3fe0_0000_0000_0000 + normal);
-    let scale = f64_of_word(0x3ff0_0000_0000_0000 + odd * 0x6_a09e_667f_3bcd);
-    let x2 = x * x;
-    let x4 = x2 * x2;
-    let low = 0.23340100123411664
-        + 1.3193533027095627 * x
-        + (0.9014983820579215 * x - 1.0794072036466167) * x2;
-    let high = 0.010791799780307481 * x - 0.06605540806667079 - 0.0007844869615530467 * x2;
-    let middle = 0.23722064099379359 * x - 0.5560180246773033 + high * x2;
-    low * scale + middle * (x4 * scale) + 536870912.0
-}
-
-// What is kept of the root of n, where n = normal * 2^odd: the last digits of the float near it, where they are the nearest.
+// What is kept of the root of n, where n = normal * 2^odd: the float near it, which the sum with 2^29 rounds to 24 digits, where that is the nearest.
 pub(crate) fn nearest_root(n: u64, normal: u64, odd: u64) -> u64
     requires { ⌜ n < 2 ^ 54 ⌝ }
     requires { ⌜ normal < 2 ^ 53 ⌝ }
     requires { ⌜ odd < 2 ⌝ }
     ensures { λ r. ⌜ r ≡ closest (sticky n) (2 ^ 4) ⌝ }
 {
-    let near = near_root(normal, odd);
+    let near = near_root(normal, odd) + 536870912.0;
     if near != near {
         return kept_root(n);
     }

@@ -8,5 +8,5 @@ use Rattle.floats.proofs.root.nearest_root.Tie as tie
 
 pub nearest-root-spec : {M : Type 1} → statement M
 nearest-root-spec =
-    tie.close (tie.spec (λ c κs. search needs) (λ c κs. search needs) (λ c. search needs) (λ c. no-nan (c .before .near-root .result) (c .if1 .left))
+    tie.close (tie.spec (λ c κs. search needs) (λ c κs. search needs) (λ c. search needs) (λ c. no-nan _ (c .if1 .left))
     (λ c κs. search needs) (λ c κs. search needs) (λ c. nearest-kept _ _ (sym (c .before .is-nearest .ensures) ∙ c .if2 .taken)) (λ c. search needs))
