@@ -9,9 +9,26 @@ use super::shift::shifted_to_even;
 use words::floats::f64_of_word;
 use words::floats::word_of_f64;
 
-// A float near the root of normal * 2^odd / 2^52, for normal from 2^52 up to 2^53: a polynomial near the root of x from 1 up to 2, times the root of 2 where
-// odd is 1. Nothing rests on how near it is.
+// A float near the root of normal * 2^odd / 2^52, to 28 digits, for normal from 2^52 up to 2^53: a polynomial near the root of x from 1 up to 2, times the
+// root of 2 where odd is 1. Nothing rests on how near it is.
 fn near_root(normal: u64, odd: u64) -> f64
+    requires { ⌜ normal < 2 ^ 53 ⌝ }
+    requires { ⌜ odd < 2 ⌝ }
+{
+    let x = f64_of_word(0x3fe0_0000_0000_0000 + normal);
+    let scale = f64_of_word(0x3ff0_0000_0000_0000 + odd * 0x6_a09e_667f_3bcd);
+    let x2 = x * x;
+    let x4 = x2 * x2;
+    let low = 0.23340100123411664
+        + 1.3193533027095627 * x
+        + (0.9014983820579215 * x - 1.0794072036466167) * x2;
+    let high = 0.010791799780307481 * x - 0.06605540806667079 - 0.0007844869615530467 * x2;
+    let middle = 0.23722064099379359 * x - 0.5560180246773033 + high * x2;
+    low * scale + middle * (x4 * scale)
+}
+
+// The same to 33 digits.
+fn nearer_root(normal: u64, odd: u64) -> f64
     requires { ⌜ normal < 2 ^ 54 ⌝ }
     requires { ⌜ odd < 2 ⌝ }
 {
@@ -35,7 +52,7 @@ fn guess(n: u64) -> u64
     ensures { λ r. ⌜ r < 2 ^ 27 ⌝ }
 {
     let odd = n >> 53;
-    word_of_f64(near_root(n >> odd, odd) - 0.0000000074214 + 67108864.0) % 0x800_0000
+    word_of_f64(nearer_root(n >> odd, odd) - 0.0000000074214 + 67108864.0) % 0x800_0000
 }
 
 // The greatest number whose square is at most n, by halving the range in which it lies.
