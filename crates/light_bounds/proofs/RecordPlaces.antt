@@ -11,8 +11,9 @@ use lib.Seq.{sets}
 use Rattle.words.specs.Answers.{given, refused}
 use Rattle.words.proofs.Stores.{sets-append}
 use Rattle.ieee.specs.Single.{zerof}
-use Rattle.light_bounds.specs.RecordWords.{recordWords, recordAt, readRecord, vecAt, vecWords, restWords, recordList, writtenAt, sidePlace}
-use Rattle.light_bounds.specs.Side.{sideKnown}
+use Rattle.light_bounds.specs.LightBounds.{lightBounds}
+use Rattle.light_bounds.specs.RecordWords.{recordWords, recordAt, readRecord, vecAt, boxAt, vecWords, restWords, recordList, writtenAt, sidePlace}
+use Rattle.light_bounds.specs.Side.{sideKnown, sideOf}
 use Rattle.light_bounds.specs.Vecmath.{vec}
 use Rattle.light_bounds.specs.declared.light_bounds.LightBounds.{LightBounds}
 
@@ -20,6 +21,16 @@ pub vecAt-past : (ws : List ℕ) (at : ℕ) → length ws ≤ at → vecAt ws at
 unfolding vecAt
 vecAt-past ws at h =
     rw (List·getD-eq-default ws 0 {n = at} h, List·getD-eq-default ws 0 {n = at + 1} (omega arith), List·getD-eq-default ws 0 {n = at + 2} (omega arith))
+
+pub readRecord-past : (ws : List ℕ) (at : ℕ) → length ws ≤ at
+    → readRecord ws at ≡ lightBounds (boxAt ws at) (vecAt ws at) zerof zerof zerof (sideOf 0)
+readRecord-past ws at h =
+    rw (vecAt-past ws at h, vecAt-past ws (at + 6) (omega arith), List·getD-eq-default ws 0 {n = at + 9} (omega arith))
+    (rw (
+      List·getD-eq-default ws 0 {n = at + 10} (omega arith),
+      List·getD-eq-default ws 0 {n = at + 11} (omega arith),
+      List·getD-eq-default ws 0 {n = at + 12} (omega arith),
+    ) refl)
 
 module _ (n : ℕ) (ws : List ℕ) (at : ℕ) where
   pub recordAt-past : leb (at + recordWords) (length ws) ≡ false → recordAt n ws at ≡ refused n

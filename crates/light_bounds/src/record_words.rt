@@ -4,7 +4,7 @@ ghost use Prim.Native.Nat.{ℕ, _+_, _/_, _≤_};
 ghost use lib.ListN.{length};
 ghost use lib.Seq.{sets};
 ghost use Rattle.words.specs.LittleEndian.{wordsOf};
-ghost use Rattle.light_bounds.specs.RecordWords.{recordWords, recordAt, found, writtenAt, vecAt, boxAt, vecWords, restWords, recordList};
+ghost use Rattle.light_bounds.specs.RecordWords.{recordWords, readRecord, recordAt, found, writtenAt, vecAt, boxAt, vecWords, restWords, recordList};
 use super::bounds::Bounds3;
 use super::light_bounds::LightBounds;
 use super::side::is_side;
@@ -87,6 +87,24 @@ fn record_at(words: &[u32], at: usize) -> Found
         ));
     }
     Found::Nothing
+}
+
+// The record at a place, whatever its side word; any but 1 is one-sided.
+pub fn record_or_zeros(words: &[u32], at: usize) -> LightBounds
+    ensures { λ r. ⌜ r ≡ readRecord (now (words .entry)) at ⌝ }
+{
+    let bounds = box_at(words, at);
+    if words.len() <= at {
+        return LightBounds::new(bounds, bounds.min, 0.0, 0.0, 0.0, side_of(0));
+    }
+    LightBounds::new(
+        bounds,
+        vec_at(words, at + 6),
+        f32_of_word(word_or_zero(words, at + 9)),
+        f32_of_word(word_or_zero(words, at + 10)),
+        f32_of_word(word_or_zero(words, at + 11)),
+        side_of(word_or_zero(words, at + SIDE_PLACE)),
+    )
 }
 
 // The same where the words are little-endian bytes.

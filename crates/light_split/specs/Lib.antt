@@ -1,0 +1,4 @@
+pub mod Lights
+pub mod Buckets
+pub mod Split
+pub mod Partition

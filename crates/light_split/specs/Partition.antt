@@ -1,0 +1,55 @@
+-- `partition_handles` of `light_bvh.rs`: a stretch parted by the bucket of each centroid, in its order; where one side is empty, cut at the middle. The Rust
+-- sorts the handles before that cut; they ascend in every stretch of a build, so the sort changes nothing, which is a law of the tree and not said here.
+-- Definitions only. Assumes nothing.
+use Prim.Native.Nat.{ℕ, _/_}
+use mathlib.Core.Bool.{Bool, cond, not, _||_}
+use mathlib.Core.List.{List, [], _∷_, _++_}
+use lib.Dec.{leb, ltb, eqb}
+use lib.ListN.{length, take, drop}
+use Rattle.words.specs.Answers.{Answer, given, refused}
+use Rattle.light_bounds.specs.declared.bounds.Bounds3.{Bounds3}
+use Rattle.light_split.specs.Lights.{centroidEnds, bucketOf}
+use Rattle.light_split.specs.declared.split.Split.{Split}
+
+-- the items that pass a test
+unfoldable pub kept : (ℕ → Bool) → List ℕ → List ℕ
+kept test [] = []
+kept test (x ∷ xs) = cond (test x) (x ∷ kept test xs) (kept test xs)
+
+unfoldable pub goesLeft : List ℕ → Bounds3 → Split → ℕ → Bool
+goesLeft ws ends s h = leb (bucketOf ws ends (s .dimension) h) (s .bucket)
+
+unfoldable pub goesRight : List ℕ → Bounds3 → Split → ℕ → Bool
+goesRight ws ends s h = not (goesLeft ws ends s h)
+
+-- by the buckets alone
+unfoldable pub lefts : List ℕ → List ℕ → Split → List ℕ
+lefts ws hs s = kept (goesLeft ws (centroidEnds ws hs) s) hs
+
+unfoldable pub rights : List ℕ → List ℕ → Split → List ℕ
+rights ws hs s = kept (goesRight ws (centroidEnds ws hs) s) hs
+
+-- the left half and the right half
+unfoldable pub partitionHandles : List ℕ → List ℕ → Split → List ℕ × List ℕ
+partitionHandles ws hs s =
+    let l = lefts ws hs s in
+    let r = rights ws hs s in
+    let middle = length (l ++ r) / 2 in
+    cond (eqb (length l) 0 || eqb (length r) 0) (take middle (l ++ r), drop middle (l ++ r)) (l, r)
+
+-- ---- in place, by a lent work that is at least as long as the stretch or refusal 3
+
+-- a list written over the front of another
+abbrev pub laid : List ℕ → List ℕ → List ℕ
+laid xs ys = xs ++ drop (length xs) ys
+
+-- how many go left
+unfoldable pub partedCount : List ℕ → List ℕ → Split → ℕ → Answer ℕ
+partedCount ws hs s room = cond (ltb room (length hs)) (refused 3) (given (length (partitionHandles ws hs s .0)))
+
+-- the stretch: the left half, then the right
+unfoldable pub partedHandles : List ℕ → List ℕ → Split → ℕ → List ℕ
+partedHandles ws hs s room = cond (ltb room (length hs)) hs (partitionHandles ws hs s .0 ++ partitionHandles ws hs s .1)
+
+unfoldable pub partedWork : List ℕ → List ℕ → Split → List ℕ → List ℕ
+partedWork ws hs s work = cond (ltb (length work) (length hs)) work (laid (rights ws hs s) work)
