@@ -1,6 +1,6 @@
-//! The reference, `light_bounds.rs` and `light_sampler.rs` of pbrt-r4, compiled from ../../shared/docs twice: as the oracle, with
-//! document 01's library functions put in (substitution.rs), and as it is, with Rust's own. Around the oracle: records, lists and
-//! weights as words, errors as numbers, lent slices.
+//! The reference, `light_bounds.rs`, `light_bvh.rs` and `light_sampler.rs` of pbrt-r4, compiled from ../../shared/docs twice: as the
+//! oracle, with document 01's library functions put in (substitution.rs), and as it is, with Rust's own. Around the oracle: records,
+//! lists and weights as words, errors as numbers, lent slices.
 
 use crate::lists::{self, Kind, Lamp, BLOCK_RECORD};
 use crate::records::{Query, Record};
@@ -16,6 +16,13 @@ impl PbrtError {
         PbrtError(message)
     }
 }
+
+/// A light record of the renderer: a tree counts them and reads none.
+#[derive(Clone)]
+pub struct Light;
+
+/// No node and no lamp.
+pub const INVALID_INDEX: u32 = u32::MAX;
 
 /// Document 01's number for each error that the functions here can give.
 pub const REFUSALS: &[(&str, u32)] = &[
@@ -39,7 +46,7 @@ pub const REFUSALS: &[(&str, u32)] = &[
 /// The one error that comes before a short slice.
 const MISPLACED: &str = "Light handles must match the global LightRecord order.";
 
-/// The message that substitution.rs gives to any error of a union within a group.
+/// The message that substitution.rs gives to any error of a union within a group or a tree.
 const LOST: &str = "a union's operand fails its check";
 
 fn lost(_: PbrtError) -> PbrtError {
@@ -91,13 +98,35 @@ branches! {
     Dark "importance: 0 outside the cone"
     Normal "importance: a normal"
     SharpSpot "spot: the cosine of its fall 1 though its cosines differ, 0.999"
+    Powerless "tree: a lamp without power, left out"
+    NoTree "tree: no lamp with power"
+    LoneLeaf "tree: one lamp with power, a leaf alone"
+    LostNode "tree: 10 at a node"
+    LostBucket "split: 10 within a bucket"
+    LostRange "split: 10 where buckets are joined"
+    AxisLeftOut "split: an axis left out, its centroid ends equal"
+    FirstAxis "split: on the first axis"
+    SecondAxis "split: on the second axis"
+    ThirdAxis "split: on the third axis"
+    DefaultSplit "split: no cost wins, the first axis after bucket 5"
+    MiddleCut "split: a side empty, the handles cut at their middle"
+    OneBucket "bucket: 0, the ends equal"
+    EndlessExtent "bucket: the ends infinitely far apart"
+    NanBucket "bucket: 0 for NaN"
+    EndlessCost "cost: infinite or NaN"
+    EqualCost "cost: as low as the best, the first stays"
+    NanArc "cost: of a cosine that is NaN"
+    ArcCut "cost: arcs cut to PI"
+    NoExtent "never: a cost along an axis without extent"
     AllOnes "alias: a sum of 0, all weights 1"
     ExcessUnder "alias: an excess below 1"
     ExcessOver "alias: an excess of 1 or more"
     LeftUnder "alias: a bin under 1 left over"
 }
 
-thread_local!(static TAKEN: Cell<u64> = const { Cell::new(0) });
+thread_local!(static TAKEN: Cell<u128> = const { Cell::new(0) });
+
+const _: () = assert!(BRANCHES.len() + REFUSALS.len() <= u128::BITS as usize, "a set has a bit for each");
 
 fn mark(branch: Branch) {
     TAKEN.set(TAKEN.get() | 1 << branch as u32);
@@ -105,7 +134,7 @@ fn mark(branch: Branch) {
 
 /// The branches taken in a case and the errors that became its numbers, as a set.
 #[derive(Clone, Copy, Debug, PartialEq)]
-pub struct Branches(u64);
+pub struct Branches(u128);
 
 impl Branches {
     pub fn has(self, branch: Branch) -> bool {
@@ -221,11 +250,15 @@ macro_rules! borrowed {
 /// The reference over document 01's library functions.
 #[allow(dead_code)]
 pub mod oracle {
-    use super::{lost, mark, Branch, PbrtError, Standin};
+    use super::{lost, mark, Branch, Light, PbrtError, Standin, INVALID_INDEX};
     borrowed!(crate::standins::sqrt, crate::trig::asin);
 
     pub mod light_bounds {
         include!(concat!(env!("OUT_DIR"), "/oracle_light_bounds.rs"));
+    }
+
+    pub mod light_bvh {
+        include!(concat!(env!("OUT_DIR"), "/oracle_light_bvh.rs"));
     }
 
     pub mod light_sampler {
@@ -236,7 +269,7 @@ pub mod oracle {
 /// The reference over Rust's own.
 #[allow(dead_code)]
 pub mod native {
-    use super::{lost, PbrtError};
+    use super::{lost, Light, PbrtError, INVALID_INDEX};
 
     fn asin(x: f32) -> f32 {
         x.asin()
@@ -248,6 +281,10 @@ pub mod native {
 
     pub mod light_bounds {
         include!(concat!(env!("OUT_DIR"), "/native_light_bounds.rs"));
+    }
+
+    pub mod light_bvh {
+        include!(concat!(env!("OUT_DIR"), "/native_light_bvh.rs"));
     }
 
     pub mod light_sampler {
