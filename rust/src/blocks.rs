@@ -3,6 +3,7 @@
 use crate::cases::Random;
 use crate::lists::{BLOCK_RECORD, MOST_LAMPS, MOST_WORDS};
 use crate::proved;
+use crate::records::Record;
 
 /// Refusal 2 is for too many words or lamps, 1 for a length that is not the count's or a side that is not 0 or 1, 4 for a handle
 /// that is not its place.
@@ -19,6 +20,19 @@ pub fn check_block(block: &[u32]) -> Result<(), u32> {
         return Err(4);
     }
     Ok(())
+}
+
+/// The same for a tree, where the block must also have as many records as there are light records: 1, so before 4.
+pub fn check_counted(light_count: u32, block: &[u32]) -> Result<(), u32> {
+    match check_block(block) {
+        Ok(()) | Err(4) if block[0] != light_count => Err(1),
+        answer => answer,
+    }
+}
+
+/// The records of a block that has the layout.
+pub fn records(block: &[u32]) -> impl Iterator<Item = &Record> {
+    block[1..].chunks_exact(BLOCK_RECORD).map(|words| words[1..].try_into().unwrap())
 }
 
 impl Random {

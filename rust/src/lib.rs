@@ -19,5 +19,6 @@ pub mod stored_alias;
 pub mod stored_bounds;
 pub mod stored_lamps;
 pub mod timing;
+pub mod trees;
 pub mod trig;
 pub mod weights;
