@@ -11,6 +11,7 @@ pub mod proved;
 pub mod records;
 #[cfg(reference)]
 pub mod reference;
+pub mod rooms;
 #[cfg(reference)]
 pub mod runs;
 pub mod standins;
