@@ -20,6 +20,8 @@ pub mod stored_alias;
 pub mod stored_bounds;
 pub mod stored_lamps;
 pub mod timing;
+#[cfg(reference)]
+pub mod tree_runs;
 pub mod trees;
 pub mod trig;
 pub mod weights;
