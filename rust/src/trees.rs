@@ -27,6 +27,32 @@ pub struct Case {
 /// Places whose sums and differences often overflow.
 const FAR: [f32; 9] = [f32::MAX, 3e38, 2e38, 1e38, 1.0, -1e38, -2e38, -3e38, -f32::MAX];
 
+fn record_of([low, high]: [Vector; 2], direction: Vector, cones: Vector, side: u32) -> Record {
+    let mut record = [side; 13];
+    record[..12].copy_from_slice([low, high, direction, cones].map(bits).as_flattened());
+    record
+}
+
+/// A lamp as document 01's pair has them, but for its box and its power.
+pub fn all_about(low: Vector, high: Vector, phi: f32) -> Record {
+    record_of([low, high], [0.0, 0.0, 1.0], [phi, -1.0, 0.0], 0)
+}
+
+/// Lamps whose tree is as deep as can be, k - 1 forks. The first is a box so large and so strong that no other's cost shows beside
+/// its own: every cut costs the same, and the first bucket is cut off. One lamp lies there: the others stand along the three axes,
+/// each 1.098 times as far out as the next, which is more than 12/11.
+pub fn deepest(lamps: usize) -> Vec<Record> {
+    let size = 2f32.powi(58);
+    let along = lamps.div_ceil(3);
+    let lamp = |i: usize| {
+        let mut place = [0.0; 3];
+        place[i / along] = (f64::from(-size) * 1.098f64.powi(-1 - (i % along) as i32)) as f32;
+        all_about(place, place, 2f32.powi(-60))
+    };
+    let first = all_about([-size; 3], [size; 3], 2f32.powi(-10));
+    [first].into_iter().chain((0..lamps).map(lamp)).take(lamps).collect()
+}
+
 fn sorted(a: Vector, b: Vector) -> [Vector; 2] {
     [[0, 1, 2].map(|i| a[i].min(b[i])), [0, 1, 2].map(|i| a[i].max(b[i]))]
 }
@@ -43,9 +69,9 @@ impl Random {
         (if self.chance(20) { 0 } else { 1 + self.below(most) }) as usize
     }
 
-    /// Whole numbers below the bound along the axes that are free, as a mask; along the others those of the place given.
+    /// Whole numbers of a size below the bound along the axes that are free, as a mask; along the others those of the place given.
     fn grid_place(&mut self, fixed: Vector, free: u32, bound: u64) -> Vector {
-        [0, 1, 2].map(|i| if free >> i & 1 == 1 { self.below(bound) as f32 } else { fixed[i] })
+        [0, 1, 2].map(|i| if free >> i & 1 == 1 { self.below(bound) as f32 * self.of(&[1.0, -1.0]) } else { fixed[i] })
     }
 
     /// Boxes of one manner, so that splits of every kind are met.
@@ -65,15 +91,15 @@ impl Random {
             4 | 5 => [self.grid_place(fixed, free, bound); 2],
             // boxes whose centroids are such points
             6 | 7 => {
-                let (center, half) = (self.grid_place(fixed, free, bound), self.grid_place([0.0; 3], 7, 9));
-                [-0.125, 0.125].map(|part| [0, 1, 2].map(|i| center[i] + half[i] * part))
+                let (center, eighths) = (self.grid_place(fixed, free, bound), self.grid_place([0.0; 3], 7, 9));
+                [-0.125, 0.125].map(|part| [0, 1, 2].map(|i| center[i] + eighths[i].abs() * part))
             }
             // each so much farther than the one before
             8 => [[0, 1, 2].map(|axis| if free >> axis & 1 == 1 { step.powi(i as i32 % 120) } else { 0.0 }); 2],
             // centroids that are infinite or infinitely far apart
             9 => sorted([(); 3].map(|()| self.of(&FAR)), [(); 3].map(|()| self.of(&FAR))),
             // side by side, a bit of the last place apart
-            10 => [fixed.map(|x| f32::from_bits((x + 1.0).to_bits() + self.below(4) as u32)); 2],
+            10 => [fixed.map(|x| f32::from_bits((x + 0.5).to_bits() + self.below(4) as u32)); 2],
             _ => <[Vector; 2]>::from(self.bounds()),
         });
         boxes.collect()
@@ -116,13 +142,13 @@ impl Random {
     }
 
     fn tree_records(&mut self, count: usize) -> Vec<Record> {
+        if count <= 512 && self.chance(24) {
+            return deepest(count);
+        }
         let (boxes, powers, cones) = (self.tree_boxes(count), self.tree_powers(count), self.tree_cones(count));
         let record = |i: usize| {
-            let ([low, high], (direction, [cos_o, cos_e])) = (boxes[i], cones[i]);
-            let mut record = [0; 13];
-            record[..12].copy_from_slice([low, high, direction, [powers[i], cos_o, cos_e]].map(bits).as_flattened());
-            record[12] = self.below(2) as u32;
-            record
+            let (direction, [cos_o, cos_e]) = cones[i];
+            record_of(boxes[i], direction, [powers[i], cos_o, cos_e], self.below(2) as u32)
         };
         (0..count).map(record).collect()
     }

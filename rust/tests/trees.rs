@@ -9,22 +9,18 @@ mod by_hand {
     use coltoctober::reference::{self, build_light_bvh, Built};
     use coltoctober::standins::word;
     use coltoctober::stored::PATTERN;
-    use coltoctober::trees::{reserves, NODE};
+    use coltoctober::trees::{all_about, reserves, NODE};
 
     pub const NONE: u32 = u32::MAX;
     pub const HUGE: f32 = 3e38; // two of them overflow
 
-    /// A lamp as document 01's pair has them, at a place and with a power.
     pub fn lamp(position: [f32; 3], phi: f32) -> Record {
-        let figures = [position, position, [0.0, 0.0, 1.0], [phi, -1.0, 0.0], [0.0; 3]].map(|figures| figures.map(f32::to_bits));
-        std::array::from_fn(|i| figures.as_flattened()[i])
+        all_about(position, position, phi)
     }
 
-    /// The same with a box of side 1, so that its cost is not 0.
+    /// A box of side 1, so that its cost is not 0.
     pub fn cube(x: f32, phi: f32) -> Record {
-        let mut record = lamp([x, 0.0, 0.0], phi);
-        record[3..6].copy_from_slice(&[x + 1.0, 1.0, 1.0].map(f32::to_bits));
-        record
+        all_about([x, 0.0, 0.0], [x + 1.0, 1.0, 1.0], phi)
     }
 
     pub fn pair() -> [Record; 2] {
@@ -232,6 +228,16 @@ coltoctober::differential! {
         let four = |huge: f32| [cube(0.0, huge / HUGE), cube(2.0, huge), cube(10.0, huge), cube(12.0, huge / HUGE)];
         assert_eq!(table(&four(1e20)), [2, 3, 5, 6]);
         lost(&four(HUGE), Branch::LostRange);
+    }
+
+    /// As many lamps as there may be, and as many forks above the deepest as there can be.
+    fn deepest() {
+        use by_hand::tree;
+        use coltoctober::lists::MOST_LAMPS;
+        use coltoctober::tree_runs::{depth, on_deep_stack};
+
+        let nodes = on_deep_stack(|| tree(&coltoctober::trees::deepest(MOST_LAMPS)).1);
+        assert_eq!((nodes.len(), depth(nodes.as_flattened())), (8191, 4095));
     }
 
     /// Random blocks: every refusal and every branch is met, but for a branch that no block reaches and for unions of no power.
