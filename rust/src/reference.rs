@@ -5,7 +5,7 @@
 use crate::lists::{self, Kind, Lamp, BLOCK_RECORD};
 use crate::records::{Query, Record};
 use crate::stored::padded;
-use crate::trees::{self, INTERIOR, LEAF, NODE};
+use crate::trees::{self, Built, INTERIOR, LEAF, NODE};
 use crate::{blocks, standins, trig};
 use std::cell::Cell;
 
@@ -439,9 +439,6 @@ macro_rules! on_lists {
 
 on_lists!(oracle, inputs, build_light_bounds, build_power_alias_table);
 on_lists!(native, native_inputs, native_build_light_bounds, native_build_power_alias_table);
-
-/// What build answers beside the words lent: how many lamps have power, and the box around them.
-pub type Built = (u32, Option<[u32; 6]>);
 
 /// Trees as words on one side, and that side's tree of a block.
 macro_rules! on_blocks {

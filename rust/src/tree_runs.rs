@@ -5,9 +5,9 @@ use crate::cases::Random;
 use crate::lent::{word, Lent};
 use crate::lists::{BLOCK_RECORD, MOST_LAMPS, MOST_WORDS};
 use crate::records::Record;
-use crate::reference::{self, marked, Branch, Branches, Built, INVALID_INDEX, LOST_UNION};
+use crate::reference::{self, marked, Branch, Branches, INVALID_INDEX, LOST_UNION};
 use crate::runs::{Tally, OWN};
-use crate::trees::{reserves, Case, INTERIOR, LEAF, NODE};
+use crate::trees::{reserves, Built, Case, INTERIOR, LEAF, NODE};
 
 /// Nodes, table and work.
 type Trays = [Lent<u32>; 3];

@@ -16,6 +16,9 @@ pub fn reserves(lamps: usize) -> [usize; 3] {
     [NODE * (2 * lamps).saturating_sub(1), lamps, 2 * lamps]
 }
 
+/// What build answers beside the words lent: k, how many lamps have power, and the box around them.
+pub type Built = (u32, Option<[u32; 6]>);
+
 /// How many light records there are, a block, and how many words are lent for nodes, table and work.
 #[derive(Clone, Debug)]
 pub struct Case {

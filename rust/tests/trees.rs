@@ -6,10 +6,10 @@ mod by_hand {
     use coltoctober::blocks::block_of;
     use coltoctober::records::Record;
     use coltoctober::reference::oracle::light_bvh::{bvh_light_sampler_pmf, bvh_light_sampler_sample};
-    use coltoctober::reference::{self, build_light_bvh, Built};
+    use coltoctober::reference::{self, build_light_bvh};
     use coltoctober::standins::word;
     use coltoctober::stored::PATTERN;
-    use coltoctober::trees::{all_about, reserves, NODE};
+    use coltoctober::trees::{all_about, reserves, Built, NODE};
 
     pub const NONE: u32 = u32::MAX;
     pub const HUGE: f32 = 3e38; // two of them overflow
@@ -250,6 +250,20 @@ coltoctober::differential! {
         [9, 11, 12, 13].into_iter().for_each(|number| assert_eq!(tally.answers[number], 0, "{number}"));
         let unmet = tally.labels.iter().filter(|(label, _)| label.starts_with("never") || label.starts_with("union"));
         unmet.for_each(|(label, count)| assert_eq!(*count, 0, "{label}"));
+    }
+
+    /// The cases that a program will replay: of one size, and read as they were written.
+    fn stored_form() {
+        use coltoctober::reference::build_light_bvh;
+        use coltoctober::stored_trees::{sample, Stored, KIND};
+
+        let stored = sample(build_light_bvh);
+        assert_eq!(stored.len(), 1500);
+        for stored in stored {
+            let case = stored.case();
+            assert_eq!((case.kind, case.words.len()), (KIND, 253));
+            assert_eq!(Stored::of(&case), stored);
+        }
     }
 
     /// A room is accepted whole; the walk that the benchmark takes its nodes from is the reference's.
