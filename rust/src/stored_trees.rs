@@ -4,7 +4,7 @@
 
 use crate::cases::Random;
 use crate::stored::{filled, padded, store, Case, PATTERN};
-use crate::trees::{self, Built};
+use crate::trees::{self, Build, Built};
 
 /// Five lamps, and three words behind each reserve.
 pub const BLOCK: usize = 71;
@@ -27,10 +27,7 @@ pub struct Stored {
 
 impl Stored {
     /// A case with what a function answers and writes.
-    pub fn new(
-        trees::Case { light_count, block, rooms }: trees::Case,
-        build: impl FnOnce(u32, &[u32], &mut [u32], &mut [u32], &mut [u32]) -> Result<Built, u32>,
-    ) -> Stored {
+    pub fn new(trees::Case { light_count, block, rooms }: trees::Case, build: Build) -> Stored {
         let mut trays = TRAYS.map(|words| vec![PATTERN; words]);
         let [nodes, table, work] = &mut trays;
         let answer = build(light_count, &block, &mut nodes[..rooms[0]], &mut table[..rooms[1]], &mut work[..rooms[2]]);
@@ -71,20 +68,18 @@ impl Stored {
 }
 
 /// Stores the sample for the program replay_trees.
-pub fn store_sample(
-    build: impl Fn(u32, &[u32], &mut [u32], &mut [u32], &mut [u32]) -> Result<Built, u32>,
-) -> std::io::Result<()> {
+pub fn store_sample(build: Build) -> std::io::Result<()> {
     store(PART, &sample(build).iter().map(Stored::case).collect::<Vec<Case>>())
 }
 
 /// The cases to store, always the same, with what a function answers: so many of each ending.
-pub fn sample(build: impl Fn(u32, &[u32], &mut [u32], &mut [u32], &mut [u32]) -> Result<Built, u32>) -> Vec<Stored> {
+pub fn sample(build: Build) -> Vec<Stored> {
     let mut random = Random::new(6);
     let given = [(100, 50), (101, 50), (102, 150), (103, 150), (104, 150), (105, 150)];
     let refused = [(1, 150), (2, 50), (3, 200), (4, 100), (5, 60), (6, 60), (7, 60), (8, 60), (10, 60)];
     filled(&[&given[..], &refused].concat(), || {
         let case = random.tree_case();
         let fits = case.block.len() <= BLOCK && case.rooms.iter().zip(TRAYS).all(|(room, words)| *room <= words);
-        fits.then(|| Stored::new(case, &build)).map(|stored| (stored.ending(), stored))
+        fits.then(|| Stored::new(case, build)).map(|stored| (stored.ending(), stored))
     })
 }

@@ -7,11 +7,10 @@ use crate::lists::{BLOCK_RECORD, MOST_LAMPS, MOST_WORDS};
 use crate::records::Record;
 use crate::reference::{self, marked, Branch, Branches, INVALID_INDEX, LOST_UNION};
 use crate::runs::{Tally, OWN};
-use crate::trees::{reserves, Built, Case, INTERIOR, LEAF, NODE};
+use crate::trees::{reserves, Build, Built, Case, INTERIOR, LEAF, NODE};
 
 /// Nodes, table and work.
 type Trays = [Lent<u32>; 3];
-type Build = fn(u32, &[u32], &mut [u32], &mut [u32], &mut [u32]) -> Result<Built, u32>;
 
 fn built(build: Build, case: &Case, [nodes, table, work]: &mut Trays) -> Result<Built, u32> {
     build(case.light_count, &case.block, nodes.slice(), table.slice(), work.slice())
@@ -136,6 +135,7 @@ const TREES: &[&str] = &[
     "tree: 16 lamps or more, a fork above each but one",
     "tree: a root of infinite power",
     "tree: a root whose direction is NaN",
+    "tree: a root whose box has a zero of the other sign than the box answered",
     "split: no cost wins, and neither side is empty",
     "refused: a lamp without power",
     "order: 2 before a wrong length",
@@ -174,6 +174,7 @@ fn ways(case: &Case, after: &Trays, answer: &Result<Built, u32>, branches: Branc
         k >= 16 && depth(&nodes[..NODE * (2 * k - 1)]) == k - 1,
         k > 0 && nodes[12] == 0x7f80_0000,
         k > 0 && nodes[9] == 0x7fc0_0000,
+        k > 0 && answer.is_ok_and(|(_, around)| around.is_some_and(|around| around != nodes[3..9])),
         branches.has(Branch::DefaultSplit) && !branches.has(Branch::MiddleCut),
         matches!(answer, Err(5..=8)) && refused().is_some_and(|record| record[9] & !(1 << 31) == 0),
         *answer == Err(2) && case.block.len() != 1 + BLOCK_RECORD * count,

@@ -18,6 +18,8 @@ pub fn reserves(lamps: usize) -> [usize; 3] {
 
 /// What build answers beside the words lent: k, how many lamps have power, and the box around them.
 pub type Built = (u32, Option<[u32; 6]>);
+/// A build: of the light records' count and a block, to nodes, table and work.
+pub type Build = fn(u32, &[u32], &mut [u32], &mut [u32], &mut [u32]) -> Result<Built, u32>;
 
 /// How many light records there are, a block, and how many words are lent for nodes, table and work.
 #[derive(Clone, Debug)]

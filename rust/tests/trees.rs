@@ -102,6 +102,9 @@ coltoctober::differential! {
         ];
         assert_eq!(nodes.as_flattened(), expected.concat());
         assert_eq!(by_hand::table(&[second, first]), [2, 1]);
+        // the box answered takes the lamps by their handles, the root its halves: of unlike zeros each has its first
+        let (answer, nodes, _) = tree(&[second, lamp([0.0, -0.0, 0.0], 1.0)]);
+        assert_eq!((answer.1.unwrap()[1], nodes[0][4]), (0, 1 << 31));
     }
 
     /// Document 01's draws of the pair, and with no nodes.
