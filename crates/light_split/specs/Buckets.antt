@@ -10,17 +10,14 @@ use Rattle.ieee.specs.Choose.{fmin, fmax}
 use Rattle.ieee.specs.Single.{_⊕_, _⊖_, _⊗_, _⊘_, zerof, onef, twof, pi}
 use Rattle.trig.specs.Trig.{cos, acos}
 use Rattle.words.specs.Answers.{Answer, given, refused, _then_}
-use Rattle.words.specs.Refusals.{number}
 use Rattle.light_bounds.specs.Bounds.{diagonal, surfaceArea}
 use Rattle.light_bounds.specs.Cones.{safeSqrt}
 use Rattle.light_bounds.specs.LightBounds.{union}
 use Rattle.light_bounds.specs.declared.bounds.Bounds3.{Bounds3}
 use Rattle.light_bounds.specs.declared.light_bounds.LightBounds.{LightBounds}
 use Rattle.light_bounds.specs.declared.vecmath.Vec3.{Vec3}
-use Rattle.light_split.specs.declared.buckets.Filled.{Filled}
-use Rattle.light_split.specs.declared.buckets.Filled.the-variants.{Buckets, Refused as Filled·Refused}
 use Rattle.light_split.specs.declared.buckets.Ranged.{Ranged}
-use Rattle.light_split.specs.declared.buckets.Ranged.the-variants.{Bucket as Ranged·Bucket, Refused as Ranged·Refused}
+use Rattle.light_split.specs.declared.buckets.Ranged.the-variants.{Bucket as Ranged·Bucket, Lost}
 use Rattle.light_split.specs.declared.buckets.Slot.{Slot}
 use Rattle.light_split.specs.declared.buckets.Slots.{Slots}
 use Rattle.light_split.specs.Lights.{lightOf, component, nBuckets, bucketOf}
@@ -93,14 +90,11 @@ unfoldable pub slotList : List Slot → List Bucket
 slotList [] = []
 slotList (s ∷ ss) = slotOf s ∷ slotList ss
 
-abbrev pub slotsOf : Slots → List Bucket
-slotsOf b = slotList (b .slots)
+-- what a call that fills them answers
+abbrev pub filled : Slots → Answer (List Bucket)
+filled b = cond (b .lost) (refused 10) (given (slotList (b .slots)))
 
--- what the enums `Filled` and `Ranged` answer
-abbrev pub filled : Filled → Answer (List Bucket)
-filled (Buckets b) = given (slotsOf b)
-filled (Filled·Refused r) = refused (number r)
-
+-- what the enum `Ranged` answers
 abbrev pub ranged : Ranged → Answer Bucket
 ranged (Ranged·Bucket s) = given (slotOf s)
-ranged (Ranged·Refused r) = refused (number r)
+ranged Lost = refused 10

@@ -6,7 +6,6 @@ use mathlib.Core.List.{List, [], _∷_}
 use lib.Ieee.{Float, inf, lt, eq}
 use Rattle.ieee.specs.Single.{zerof}
 use Rattle.words.specs.Answers.{Answer, given, refused, _then_}
-use Rattle.words.specs.Refusals.{number}
 use Rattle.light_bounds.specs.Bounds.{boxUnion}
 use Rattle.light_bounds.specs.declared.bounds.Bounds3.{Bounds3}
 use Rattle.light_split.specs.Lights.{lightOf, folded, component, centroidEnds, nBuckets}
@@ -14,9 +13,9 @@ use Rattle.light_split.specs.Buckets.{Bucket, fillBuckets, emptyBuckets,
 use Rattle.light_split.specs.declared.split.Split.{Split}
 use Rattle.light_split.specs.declared.split.Best.{Best}
 use Rattle.light_split.specs.declared.split.Chosen.{Chosen}
-use Rattle.light_split.specs.declared.split.Chosen.the-variants.{Cut, Refused}
+use Rattle.light_split.specs.declared.split.Chosen.the-variants.{Cut, Lost}
 use Rattle.light_split.specs.declared.split.Bested.{Bested}
-use Rattle.light_split.specs.declared.split.Bested.the-variants.{Found, Refused as Bested·Refused}
+use Rattle.light_split.specs.declared.split.Bested.the-variants.{Found, Lost as Bested·Lost}
 
 abbrev pub split : ℕ → ℕ → Split
 split d k = record { dimension = d; bucket = k }
@@ -54,8 +53,8 @@ chooseSplit ws hs =
 -- what the enums `Chosen` and `Bested` answer
 abbrev pub chosen : Chosen → Answer Split
 chosen (Cut s) = given s
-chosen (Refused r) = refused (number r)
+chosen Lost = refused 10
 
 abbrev pub bested : Bested → Answer Best
 bested (Found b) = given b
-bested (Bested·Refused r) = refused (number r)
+bested Bested·Lost = refused 10

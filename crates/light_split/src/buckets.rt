@@ -5,7 +5,7 @@ ghost use Prim.Native.Nat.{_≤_, _<_};
 ghost use lib.ListN.{drop};
 ghost use Rattle.words.specs.Answers.{given, _then_};
 ghost use Rattle.light_bounds.specs.LightBounds.{bounded};
-ghost use Rattle.light_split.specs.Buckets.{slotOf, slotsOf, joinTo, fillBuckets, emptyBuckets, filled, unionRange, ranged};
+ghost use Rattle.light_split.specs.Buckets.{slotOf, slotList, joinTo, fillBuckets, emptyBuckets, filled, unionRange, ranged};
 ghost use Rattle.light_split.specs.Buckets.{mOmega, kr as krOf, evaluateCost, sideCost};
 use super::lights::bucket_of;
 use super::lights::component;
@@ -23,7 +23,6 @@ use light_bounds::side::side_of;
 use light_bounds::vecmath::Vec3;
 use trig::acos;
 use trig::cos;
-use words::refusals::Refusal;
 
 // A bucket: the record around what fell into it, or nothing.
 pub struct Slot {
@@ -31,18 +30,16 @@ pub struct Slot {
     pub bounds: LightBounds,
 }
 
+// The twelve; `lost` where a union's operand failed its check.
 pub struct Slots {
+    pub lost: bool,
     pub slots: [Slot; 12],
 }
 
-pub enum Filled {
-    Buckets(Slots),
-    Refused(Refusal),
-}
-
+// A bucket, or a union whose operand failed its check.
 pub enum Ranged {
     Bucket(Slot),
-    Refused(Refusal),
+    Lost,
 }
 
 // A bucket with nothing in it.
@@ -74,7 +71,7 @@ pub(crate) fn join_to(slot: Slot, bounds: LightBounds) -> Ranged
                 filled: true,
                 bounds,
             }),
-            Bounded::Refused(why) => Ranged::Refused(why),
+            Bounded::Refused(_) => Ranged::Lost,
         };
     }
     Ranged::Bucket(Slot {
@@ -84,15 +81,11 @@ pub(crate) fn join_to(slot: Slot, bounds: LightBounds) -> Ranged
 }
 
 // Each handle's record into the bucket of its centroid.
-pub(crate) fn fill_buckets(
-    block: &[u32],
-    handles: &[u32],
-    ends: Bounds3,
-    dimension: usize,
-) -> Filled
+pub(crate) fn fill_buckets(block: &[u32], handles: &[u32], ends: Bounds3, dimension: usize) -> Slots
     ensures { λ r. ⌜ filled r ≡ fillBuckets (now (block .entry)) ends dimension emptyBuckets (now (handles .entry)) ⌝ }
 {
     let mut buckets = Slots {
+        lost: false,
         slots: [empty_slot(); 12],
     };
     let mut i: usize = 0;
@@ -102,18 +95,19 @@ pub(crate) fn fill_buckets(
             Ranged::Bucket(slot) => {
                 buckets.slots[bucket] = slot;
             }
-            Ranged::Refused(why) => {
-                return Filled::Refused(why);
+            Ranged::Lost => {
+                buckets.lost = true;
+                return buckets;
             }
         }
         i += 1;
     }
-    Filled::Buckets(buckets)
+    buckets
 }
 
 // The buckets from a place on, joined from left to right.
-pub(crate) fn union_from(buckets: &Slots, start: usize) -> Ranged
-    ensures { λ r. ⌜ ranged r ≡ unionRange none (drop start (slotsOf (now (buckets .entry)))) ⌝ }
+pub(crate) fn union_from(buckets: Slots, start: usize) -> Ranged
+    ensures { λ r. ⌜ ranged r ≡ unionRange none (drop start (slotList (buckets .slots))) ⌝ }
 {
     let mut result = empty_slot();
     let mut i = start;
@@ -124,8 +118,8 @@ pub(crate) fn union_from(buckets: &Slots, start: usize) -> Ranged
                 Ranged::Bucket(joined) => {
                     result = joined;
                 }
-                Ranged::Refused(why) => {
-                    return Ranged::Refused(why);
+                Ranged::Lost => {
+                    return Ranged::Lost;
                 }
             }
         }

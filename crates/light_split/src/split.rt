@@ -2,10 +2,9 @@
 ghost use mathlib.Core.Path.{_≡_};
 ghost use lib.ListN.{length};
 ghost use Rattle.words.specs.Answers.{given, _then_};
-ghost use Rattle.light_split.specs.Buckets.{slotsOf};
+ghost use Rattle.light_split.specs.Buckets.{slotList};
 ghost use Rattle.light_split.specs.Lights.{centroidEnds};
 ghost use Rattle.light_split.specs.Split.{combinedBounds, cuts, axis as axisOf, better as betterOf, chooseSplit, chosen, bested};
-use super::buckets::Filled;
 use super::buckets::Ranged;
 use super::buckets::Slot;
 use super::buckets::Slots;
@@ -19,7 +18,6 @@ use super::lights::component;
 use super::lights::light_box;
 use light_bounds::bounds::Bounds3;
 use light_bounds::bounds::union;
-use words::refusals::Refusal;
 
 // A cut: behind which bucket of which axis.
 pub struct Split {
@@ -30,7 +28,7 @@ pub struct Split {
 // A cut, or refusal 10.
 pub enum Chosen {
     Cut(Split),
-    Refused(Refusal),
+    Lost,
 }
 
 // The best cut so far and its cost.
@@ -42,7 +40,7 @@ pub struct Best {
 // The best cut, or refusal 10.
 pub enum Bested {
     Found(Best),
-    Refused(Refusal),
+    Lost,
 }
 
 // The box of all that the stretch names.
@@ -74,8 +72,8 @@ fn better(best: Best, split: Split, cost: f32) -> Best
 }
 
 // The eleven cuts of an axis. A cut behind an empty bucket has the sides of the cut before it, so it costs the same and does not win: it is left out.
-fn best_cut(buckets: &Slots, parent: Bounds3, dimension: usize, best: Best) -> Bested
-    ensures { λ r. ⌜ bested r ≡ cuts (slotsOf (now (buckets .entry))) parent dimension best 11 ⌝ }
+fn best_cut(buckets: Slots, parent: Bounds3, dimension: usize, best: Best) -> Bested
+    ensures { λ r. ⌜ bested r ≡ cuts (slotList (buckets .slots)) parent dimension best 11 ⌝ }
 {
     let mut best = best;
     let mut left = empty_slot();
@@ -87,8 +85,8 @@ fn best_cut(buckets: &Slots, parent: Bounds3, dimension: usize, best: Best) -> B
                 Ranged::Bucket(joined) => {
                     left = joined;
                 }
-                Ranged::Refused(why) => {
-                    return Bested::Refused(why);
+                Ranged::Lost => {
+                    return Bested::Lost;
                 }
             }
         }
@@ -99,8 +97,8 @@ fn best_cut(buckets: &Slots, parent: Bounds3, dimension: usize, best: Best) -> B
                         + side_cost(parent, dimension, right);
                     best = better(best, Split { dimension, bucket }, cost);
                 }
-                Ranged::Refused(why) => {
-                    return Bested::Refused(why);
+                Ranged::Lost => {
+                    return Bested::Lost;
                 }
             }
         }
@@ -123,10 +121,11 @@ fn axis(
     if component(ends.min, dimension) == component(ends.max, dimension) {
         return Bested::Found(best);
     }
-    match fill_buckets(block, handles, ends, dimension) {
-        Filled::Buckets(buckets) => best_cut(&buckets, parent, dimension, best),
-        Filled::Refused(why) => Bested::Refused(why),
+    let buckets = fill_buckets(block, handles, ends, dimension);
+    if buckets.lost {
+        return Bested::Lost;
     }
+    best_cut(buckets, parent, dimension, best)
 }
 
 fn three_axes(block: &[u32], handles: &[u32], ends: Bounds3, parent: Bounds3, best: Best) -> Bested
@@ -136,9 +135,9 @@ fn three_axes(block: &[u32], handles: &[u32], ends: Bounds3, parent: Bounds3, be
     match axis(block, handles, ends, parent, 0, best) {
         Bested::Found(best) => match axis(block, handles, ends, parent, 1, best) {
             Bested::Found(best) => axis(block, handles, ends, parent, 2, best),
-            Bested::Refused(why) => Bested::Refused(why),
+            Bested::Lost => Bested::Lost,
         },
-        Bested::Refused(why) => Bested::Refused(why),
+        Bested::Lost => Bested::Lost,
     }
 }
 
@@ -156,7 +155,10 @@ pub fn choose_split(block: &[u32], handles: &[u32]) -> Chosen
         },
     };
     match three_axes(block, handles, ends, parent, first) {
-        Bested::Found(best) => Chosen::Cut(best.best),
-        Bested::Refused(why) => Chosen::Refused(why),
+        Bested::Found(found) => {
+            let cut = found.best;
+            Chosen::Cut(cut)
+        }
+        Bested::Lost => Chosen::Lost,
     }
 }
