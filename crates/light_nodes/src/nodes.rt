@@ -1,0 +1,134 @@
+// A node as sixteen words (specs/Nodes.antt): head, right child, parent, record. The layout of a node is here alone.
+ghost use mathlib.Core.Path.{_≡_};
+ghost use mathlib.Core.List.{_∷_};
+ghost use Prim.Native.Nat.{_*_, _+_, _≤_};
+ghost use lib.ListN.{length};
+ghost use lib.Seq.{sets};
+ghost use Rattle.words.specs.LittleEndian.{wordsOf};
+ghost use Rattle.light_bounds.specs.RecordWords.{found, recordList};
+ghost use Rattle.light_nodes.specs.Nodes.{leaf, interior, node, nodeOf, nodeAt, boundsAt, nodeWritten, nodeWords};
+use light_bounds::light_bounds::LightBounds;
+use light_bounds::record_words::Found;
+use light_bounds::record_words::RECORD_WORDS;
+use light_bounds::record_words::read_record_bytes;
+use light_bounds::record_words::write_record;
+use words::heads::handle_of;
+use words::heads::kind_of;
+use words::little_endian::word_at;
+
+// The words of a node.
+pub const NODE_WORDS: usize = 3 + RECORD_WORDS;
+
+// The right child of a leaf, the parent of the root.
+pub const INVALID_INDEX: u32 = 0xffff_ffff;
+
+// A node without its record: a leaf with its handle and its parent; an interior node with its left and right child and its parent; or neither.
+pub enum Node {
+    Leaf(u32, u32),
+    Interior(u32, u32, u32),
+    Unknown,
+}
+
+// ---- writing
+
+fn put_node(
+    words: &mut [u32],
+    at: usize,
+    head: u32,
+    right_child: u32,
+    parent: u32,
+    bounds: LightBounds,
+)
+    requires { ⌜ at + nodeWords ≤ length (now words) ⌝ }
+    ensures { λ _. ⌜ now (words .exit) ≡ sets (now (words .entry)) at (head ∷ «right_child» ∷ parent ∷ recordList bounds) ⌝ }
+{
+    words[at] = head;
+    words[at + 1] = right_child;
+    words[at + 2] = parent;
+    write_record(words, at + 3, bounds);
+}
+
+// Writes a leaf at a place; where there are too few words nothing is written.
+pub fn write_leaf(
+    words: &mut [u32],
+    place: usize,
+    light_handle: u32,
+    parent: u32,
+    bounds: LightBounds,
+)
+    ensures { λ _. ⌜ now (words .exit) ≡ nodeWritten (now (words .entry)) place (leaf «light_handle» parent) bounds ⌝ }
+{
+    if place < words.len() / NODE_WORDS {
+        put_node(
+            words,
+            NODE_WORDS * place,
+            0x4000_0000 + handle_of(light_handle),
+            INVALID_INDEX,
+            parent,
+            bounds,
+        );
+    }
+}
+
+// The same of an interior node.
+pub fn write_interior(
+    words: &mut [u32],
+    place: usize,
+    left_child: u32,
+    right_child: u32,
+    parent: u32,
+    bounds: LightBounds,
+)
+    ensures { λ _. ⌜ now (words .exit) ≡ nodeWritten (now (words .entry)) place (interior «left_child» «right_child» parent) bounds ⌝ }
+{
+    if place < words.len() / NODE_WORDS {
+        put_node(
+            words,
+            NODE_WORDS * place,
+            0x8000_0000 + handle_of(left_child),
+            right_child,
+            parent,
+            bounds,
+        );
+    }
+}
+
+// ---- reading, from little-endian bytes
+
+fn node_of(head: u32, right_child: u32, parent: u32) -> Node
+    ensures { λ r. ⌜ node r ≡ nodeOf head «right_child» parent ⌝ }
+{
+    let kind = kind_of(head);
+    if kind == 1 {
+        return Node::Leaf(handle_of(head), parent);
+    }
+    if kind == 2 {
+        return Node::Interior(handle_of(head), right_child, parent);
+    }
+    Node::Unknown
+}
+
+// The node at a place; `Unknown` is refusal 12, past the end or of no kind.
+pub fn node_at(nodes: &[u8], place: usize) -> Node
+    ensures { λ r. ⌜ node r ≡ nodeAt (wordsOf (now (nodes .entry))) place ⌝ }
+{
+    if place < nodes.len() / 4 / NODE_WORDS {
+        let at = NODE_WORDS * place;
+        return node_of(
+            word_at(nodes, at),
+            word_at(nodes, at + 1),
+            word_at(nodes, at + 2),
+        );
+    }
+    Node::Unknown
+}
+
+// The record of the node at a place; `Nothing` is refusal 12, past the end or of an unknown side.
+pub fn bounds_at(nodes: &[u8], place: usize) -> Found
+    ensures { λ r. ⌜ found 12 r ≡ boundsAt (wordsOf (now (nodes .entry))) place ⌝ }
+{
+    if place < nodes.len() / 4 / NODE_WORDS {
+        return read_record_bytes(nodes, NODE_WORDS * place + 3);
+    }
+    Found::Nothing
+}
