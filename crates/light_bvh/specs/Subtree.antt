@@ -1,0 +1,53 @@
+-- `build_subtree` of `light_bvh.rs`: a stretch of handles, rows of a block, to a tree. Definitions only. Assumes nothing.
+use Prim.Native.Nat.{ℕ, zero, suc}
+use mathlib.Core.Bool.{Bool, true, false}
+use mathlib.Core.List.{List, [], _∷_, _++_}
+use lib.ListN.{length, getD}
+use Rattle.words.specs.Answers.{Answer, given, refused, _then_}
+use Rattle.light_bounds.specs.LightBounds.{union}
+use Rattle.light_bounds.specs.declared.light_bounds.LightBounds.{LightBounds}
+use Rattle.lamps.specs.Block.{handlePlace}
+use Rattle.light_nodes.specs.Tree.{Tree, leaf, fork, bounds, flatten}
+use Rattle.light_split.specs.Lights.{lightOf}
+use Rattle.light_split.specs.Partition.{partitionHandles}
+use Rattle.light_split.specs.Split.{chooseSplit}
+use Rattle.light_split.specs.declared.split.Split.{Split}
+
+-- a leaf's label is the handle word of its row
+abbrev pub labelOf : List ℕ → ℕ → ℕ
+labelOf ws h = getD ws (handlePlace h) 0
+
+-- The first argument after the block bounds the depth: each half is shorter than its stretch, so the stretch's length is enough. An empty stretch, which the
+-- Rust names an error too, is met in no build.
+unfoldable pub buildSubtree : List ℕ → ℕ → List ℕ → Answer Tree
+buildSubtree ws n [] = refused 12
+buildSubtree ws n (h ∷ []) = given (leaf (labelOf ws h) (lightOf ws h))
+buildSubtree ws zero (h ∷ i ∷ hs) = refused 12
+buildSubtree ws (suc n) (h ∷ i ∷ hs) =
+    chooseSplit ws (h ∷ i ∷ hs) then λ (s : Split).
+    buildSubtree ws n (partitionHandles ws (h ∷ i ∷ hs) s .0) then λ (l : Tree).
+    buildSubtree ws n (partitionHandles ws (h ∷ i ∷ hs) s .1) then λ (r : Tree).
+    union (bounds l) (bounds r) then λ (b : LightBounds). given (fork b l r)
+
+-- ---- as the code has it
+
+-- whether there is a tree
+abbrev pub isGiven : {A : Type 0} → Answer A → Bool
+isGiven (given a) = true
+isGiven (refused n) = false
+
+-- the words of a tree whose root stands at a place, under a parent; without one, whatever is left
+abbrev pub subtreeWords : ℕ → ℕ → Answer Tree → List ℕ → List ℕ
+subtreeWords at parent (given t) left = flatten at parent t
+subtreeWords at parent (refused n) left = left
+
+-- how many handles the left half of a stretch has, and the stretch with its halves one behind the other
+unfoldable pub splitCount : List ℕ → List ℕ → Answer ℕ
+splitCount ws hs = chooseSplit ws hs then λ (s : Split). given (length (partitionHandles ws hs s .0))
+
+unfoldable pub splitHandles : List ℕ → List ℕ → List ℕ
+splitHandles ws hs = parted (chooseSplit ws hs)
+  where
+    parted : Answer Split → List ℕ
+    parted (given s) = partitionHandles ws hs s .0 ++ partitionHandles ws hs s .1
+    parted (refused n) = hs

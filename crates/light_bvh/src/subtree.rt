@@ -1,0 +1,112 @@
+// A stretch of handles to the words of a tree (specs/Subtree.antt), over rows of a block. Recursion over the stretch, whose length falls: a stretch of n
+// handles fills exactly 2n - 1 nodes, so the right tree's place is known before the left is built, and no call touches another's nodes.
+ghost use mathlib.Core.Path.{_≡_};
+ghost use mathlib.Core.List.{List, _++_};
+ghost use Prim.Native.Nat.{_+_, _*_, _^_, _≤_, _<_};
+ghost use lib.ListN.{length};
+ghost use Rattle.words.specs.Answers.{counted};
+ghost use Rattle.light_nodes.specs.Nodes.{nodeWords};
+ghost use Rattle.light_bvh.specs.Subtree.{labelOf, buildSubtree, isGiven, subtreeWords, splitCount, splitHandles};
+use lamps::block::EXHAUSTIVE_BOUNDS_WORDS;
+use light_bounds::light_bounds::Bounded;
+use light_bounds::light_bounds::union;
+use light_bounds::record_words::record_or_zeros;
+use light_nodes::nodes::NODE_WORDS;
+use light_nodes::nodes::write_interior;
+use light_nodes::nodes::write_leaf;
+use light_split::lights::light;
+use light_split::partition::partition_handles;
+use light_split::split::Chosen;
+use light_split::split::choose_split;
+use words::answers::Counted;
+use words::places::wide;
+use words::places::word_or_zero;
+use words::refusals::Refusal;
+
+// The label of a row.
+fn label(block: &[u32], handle: u32) -> u32
+    ensures { λ r. ⌜ r ≡ labelOf (now (block .entry)) handle ⌝ }
+{
+    word_or_zero(block, 1 + EXHAUSTIVE_BOUNDS_WORDS * wide(handle))
+}
+
+// Parts the stretch at its best cut: how many handles the left half has.
+fn split_stretch(block: &[u32], handles: &mut [u32], work: &mut [u32]) -> Counted
+    requires { ⌜ length (now handles) ≤ length (now work) ⌝ }
+    ensures { λ r. ⌜ counted r ≡ splitCount (now (block .entry)) (now (handles .entry)) ⌝ }
+    ensures { λ _. ⌜ now (handles .exit) ≡ splitHandles (now (block .entry)) (now (handles .entry)) ⌝ }
+{
+    match choose_split(block, handles) {
+        Chosen::Cut(split) => partition_handles(block, handles, work, split),
+        Chosen::Lost => Counted::Refused(Refusal::LostUnion),
+    }
+}
+
+// The node over two trees whose words stand behind it, the right one at node `right`: the record around both records, read back from their nodes.
+fn join_children(nodes: &mut [u32], right: usize, at: u32, parent: u32) -> bool {
+    let left_bounds = record_or_zeros(nodes, NODE_WORDS + 3);
+    let right_bounds = record_or_zeros(nodes, NODE_WORDS * right + 3);
+    match union(left_bounds, right_bounds) {
+        Bounded::Bounds(bounds) => {
+            write_interior(nodes, 0, at + 1, at + right as u32, parent, bounds);
+            true
+        }
+        Bounded::Refused(_) => false,
+    }
+}
+
+// Writes the tree of a stretch, its root at node `at` under `parent`, to nodes that are as many as it needs; false where a union's operand fails its check.
+pub(crate) fn build_subtree(
+    block: &[u32],
+    handles: &mut [u32],
+    work: &mut [u32],
+    nodes: &mut [u32],
+    at: u32,
+    parent: u32,
+) -> bool
+    requires { ⌜ 1 ≤ length (now handles) ⌝ }
+    requires { ⌜ length (now handles) ≤ length (now work) ⌝ }
+    requires { ⌜ length (now nodes) + nodeWords ≡ nodeWords * (2 * length (now handles)) ⌝ }
+    requires { ⌜ at + 2 * length (now handles) < 2 ^ 30 ⌝ }
+    ensures { λ r. ⌜ r ≡ isGiven (buildSubtree (now (block .entry)) (length (now (handles .entry))) (now (handles .entry))) ⌝ }
+    ensures { λ _. ⌜ now (nodes .exit) ≡ subtreeWords at parent
+        (buildSubtree (now (block .entry)) (length (now (handles .entry))) (now (handles .entry))) (now (nodes .exit)) ⌝ }
+{
+    let n = handles.len();
+    if n == 1 {
+        write_leaf(
+            nodes,
+            0,
+            label(block, handles[0]),
+            parent,
+            light(block, handles[0]),
+        );
+        return true;
+    }
+    match split_stretch(block, handles, work) {
+        Counted::Count(left) => {
+            if !build_subtree(
+                block,
+                &mut handles[0..left],
+                work,
+                &mut nodes[NODE_WORDS..2 * NODE_WORDS * left],
+                at + 1,
+                at,
+            ) {
+                return false;
+            }
+            if !build_subtree(
+                block,
+                &mut handles[left..n],
+                work,
+                &mut nodes[2 * NODE_WORDS * left..],
+                at + 2 * left as u32,
+                at,
+            ) {
+                return false;
+            }
+            join_children(nodes, 2 * left, at, parent)
+        }
+        Counted::Refused(_) => false,
+    }
+}
