@@ -17,17 +17,22 @@ use Rattle.light_split.specs.declared.split.Split.{Split}
 abbrev pub labelOf : List ℕ → ℕ → ℕ
 labelOf ws h = getD ws (handlePlace h) 0
 
--- The first argument after the block bounds the depth: each half is shorter than its stretch, so the stretch's length is enough. An empty stretch, which the
--- Rust names an error too, is met in no build.
-unfoldable pub buildSubtree : List ℕ → ℕ → List ℕ → Answer Tree
-buildSubtree ws n [] = refused 12
-buildSubtree ws n (h ∷ []) = given (leaf (labelOf ws h) (lightOf ws h))
-buildSubtree ws zero (h ∷ i ∷ hs) = refused 12
-buildSubtree ws (suc n) (h ∷ i ∷ hs) =
-    chooseSplit ws (h ∷ i ∷ hs) then λ (s : Split).
-    buildSubtree ws n (partitionHandles ws (h ∷ i ∷ hs) s .0) then λ (l : Tree).
-    buildSubtree ws n (partitionHandles ws (h ∷ i ∷ hs) s .1) then λ (r : Tree).
+-- a fork over the trees of the halves, the left one built whole before the right
+unfoldable pub forked : List ℕ → List ℕ → (List ℕ → Answer Tree) → Answer Tree
+forked ws hs build =
+    chooseSplit ws hs then λ (s : Split). build (partitionHandles ws hs s .0) then λ (l : Tree). build (partitionHandles ws hs s .1) then λ (r : Tree).
     union (bounds l) (bounds r) then λ (b : LightBounds). given (fork b l r)
+
+-- the tree of a stretch, by those of shorter ones; an empty stretch, which the Rust calls an error, is met in no build
+unfoldable pub treeBy : List ℕ → List ℕ → (List ℕ → Answer Tree) → Answer Tree
+treeBy ws [] build = refused 12
+treeBy ws (h ∷ []) build = given (leaf (labelOf ws h) (lightOf ws h))
+treeBy ws (h ∷ i ∷ hs) build = forked ws (h ∷ i ∷ hs) build
+
+-- The number bounds the depth. Each half is shorter than its stretch, so the stretch's length is enough.
+unfoldable pub buildSubtree : List ℕ → ℕ → List ℕ → Answer Tree
+buildSubtree ws zero hs = treeBy ws hs (λ (_ : List ℕ). refused 12)
+buildSubtree ws (suc n) hs = treeBy ws hs (λ (hs : List ℕ). buildSubtree ws n hs)
 
 -- ---- as the code has it
 
