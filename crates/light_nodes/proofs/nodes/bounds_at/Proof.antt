@@ -4,7 +4,7 @@ use denote.Ref.{now}
 use Rattle.words.specs.LittleEndian.{wordsOf}
 use Rattle.words.proofs.LittleEndianLaws.{length-wordsOf}
 use Rattle.light_nodes.specs.Nodes.{boundsAt}
-use Rattle.light_nodes.proofs.NodePlaces.{boundsAt-past}
+use Rattle.light_nodes.specs.TreeLaws.{boundsAt-past}
 use borrow.Author.Needs.{needs}
 use Rattle.light_nodes.proofs.nodes.bounds_at.Statement.{statement}
 use Rattle.light_nodes.proofs.nodes.bounds_at.Tie as tie

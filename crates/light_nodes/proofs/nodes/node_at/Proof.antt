@@ -3,7 +3,7 @@ use mathlib.Core.Path.{sym, _∙_}
 use denote.Ref.{now}
 use Rattle.words.specs.LittleEndian.{wordsOf}
 use Rattle.words.proofs.LittleEndianLaws.{length-wordsOf}
-use Rattle.light_nodes.proofs.NodePlaces.{nodeAt-room, nodeAt-past}
+use Rattle.light_nodes.specs.TreeLaws.{nodeAt-room, nodeAt-past}
 use borrow.Author.Needs.{needs}
 use Rattle.light_nodes.proofs.nodes.node_at.Statement.{statement}
 use Rattle.light_nodes.proofs.nodes.node_at.Tie as tie

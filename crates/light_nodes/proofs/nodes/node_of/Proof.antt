@@ -1,6 +1,6 @@
 -- `light_nodes::nodes::node_of` meets its contract: by the head's kind. Assumes nothing.
 use mathlib.Core.Path.{sym, _∙_}
-use Rattle.light_nodes.proofs.NodePlaces.{nodeOf-leaf, nodeOf-interior, nodeOf-unknown}
+use Rattle.light_nodes.specs.TreeLaws.{nodeOf-leaf, nodeOf-interior, nodeOf-unknown}
 use borrow.Author.Needs.{needs}
 use Rattle.light_nodes.proofs.nodes.node_of.Statement.{statement}
 use Rattle.light_nodes.proofs.nodes.node_of.Tie as tie
