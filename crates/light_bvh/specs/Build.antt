@@ -8,15 +8,17 @@ use lib.Ieee.{lt}
 use lib.ListN.{length, getD, set, replicate}
 use Rattle.ieee.specs.Single.{zerof}
 use Rattle.words.specs.Answers.{Answer, given, refused, _then_}
+use Rattle.words.specs.Heads.{kindOf, handleOf}
 use Rattle.words.specs.Refusals.{number}
 use Rattle.light_bounds.specs.Bounds.{boxUnion}
 use Rattle.light_bounds.specs.LightBounds.{validate}
 use Rattle.light_bounds.specs.declared.bounds.Bounds3.{Bounds3}
 use Rattle.lamps.specs.Block.{blockLayout, blockHandles}
-use Rattle.light_nodes.specs.Nodes.{nodeWords, invalidIndex}
+use Rattle.light_nodes.specs.Nodes.{nodeWords, nodePlace, invalidIndex}
 use Rattle.light_nodes.specs.Tree.{Tree, leaf, fork, rightPlace, treeWords}
 use Rattle.light_split.specs.Lights.{lightOf}
 use Rattle.light_bvh.specs.Subtree.{buildSubtree}
+use Rattle.light_bvh.specs.declared.build.Overall.{Overall}
 use Rattle.light_bvh.specs.declared.build.Built.{Built}
 use Rattle.light_bvh.specs.declared.build.Built.the-variants.{Tree as Built·Tree, Nothing, Refused}
 
@@ -74,13 +76,14 @@ workReserve m = 2 * m
 abbrev pub isShort : ℕ → ℕ → ℕ → ℕ → Bool
 isShort m nodes table work = ltb nodes (nodesReserve m) || (ltb table m || ltb work (workReserve m))
 
+-- 2 and 1 of the block, 1 where the light records are not as many as the rows, 4, 3: how many rows there are
+unfoldable pub buildCheck : ℕ → List ℕ → ℕ → ℕ → ℕ → Answer ℕ
+buildCheck lights ws nodes table work =
+    blockLayout ws then λ (m : ℕ). cond (eqb lights m) (given m) (refused 1) then λ (m : ℕ).
+    blockHandles ws then λ (m : ℕ). cond (isShort m nodes table work) (refused 3) (given m)
+
 unfoldable pub buildLightBvh : ℕ → List ℕ → ℕ → ℕ → ℕ → Answer LightBVH
-buildLightBvh lights ws nodes table work =
-    blockLayout ws then λ (m : ℕ).
-    cond (eqb lights m) (given m) (refused 1) then λ (m : ℕ).
-    blockHandles ws then λ (m : ℕ).
-    cond (isShort m nodes table work) (refused 3) (given m) then λ (m : ℕ).
-    validated ws m then λ _. builtBvh ws m
+buildLightBvh lights ws nodes table work = buildCheck lights ws nodes table work then λ (m : ℕ). validated ws m then λ _. builtBvh ws m
 
 -- ---- what is written
 
@@ -116,3 +119,17 @@ abbrev pub built : Built → Answer (ℕ × Option Bounds3)
 built (Built·Tree k box) = given (k, some box)
 built Nothing = given (0, none)
 built (Refused r) = refused (number r)
+
+-- ---- as the code has it
+
+-- a pass over the first n nodes: each leaf's place at its label
+unfoldable pub tabledBelow : List ℕ → ℕ → List ℕ → List ℕ
+tabledBelow ws zero table = table
+tabledBelow ws (suc n) table =
+    let head = getD ws (nodePlace n) 0 in
+    let before = tabledBelow ws n table in
+    cond (eqb (kindOf head) 1) (set before (handleOf head) n) before
+
+-- what the struct `Overall` holds
+abbrev pub overall : Overall → Option Bounds3
+overall o = cond (o .any) (some (o .bounds)) none

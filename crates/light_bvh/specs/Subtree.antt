@@ -1,5 +1,5 @@
 -- `build_subtree` of `light_bvh.rs`: a stretch of handles, rows of a block, to a tree. Definitions only. Assumes nothing.
-use Prim.Native.Nat.{ℕ, zero, suc}
+use Prim.Native.Nat.{ℕ, zero, suc, _+_}
 use mathlib.Core.Bool.{Bool, true, false}
 use mathlib.Core.List.{List, [], _∷_, _++_}
 use lib.ListN.{length, getD}
@@ -7,6 +7,8 @@ use Rattle.words.specs.Answers.{Answer, given, refused, _then_}
 use Rattle.light_bounds.specs.LightBounds.{union}
 use Rattle.light_bounds.specs.declared.light_bounds.LightBounds.{LightBounds}
 use Rattle.lamps.specs.Block.{handlePlace}
+use Rattle.light_bounds.specs.RecordWords.{readRecord}
+use Rattle.light_nodes.specs.Nodes.{interior, boundsPlace, nodeWritten}
 use Rattle.light_nodes.specs.Tree.{Tree, leaf, fork, bounds, flatten}
 use Rattle.light_split.specs.Lights.{lightOf}
 use Rattle.light_split.specs.Partition.{partitionHandles}
@@ -56,3 +58,11 @@ splitHandles ws hs = parted (chooseSplit ws hs)
     parted : Answer Split → List ℕ
     parted (given s) = partitionHandles ws hs s .0 ++ partitionHandles ws hs s .1
     parted (refused n) = hs
+
+-- the record around the trees at nodes 1 and `right`, read back from their words; and the node over them, in front
+unfoldable pub unionAt : List ℕ → ℕ → Answer LightBounds
+unionAt ws right = union (readRecord ws (boundsPlace 1)) (readRecord ws (boundsPlace right))
+
+abbrev pub joinedWords : ℕ → ℕ → ℕ → List ℕ → Answer LightBounds → List ℕ
+joinedWords at parent right ws (given b) = nodeWritten ws 0 (interior (at + 1) (at + right) parent) b
+joinedWords at parent right ws (refused n) = ws

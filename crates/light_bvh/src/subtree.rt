@@ -6,7 +6,7 @@ ghost use Prim.Native.Nat.{_+_, _*_, _^_, _≤_, _<_};
 ghost use lib.ListN.{length};
 ghost use Rattle.words.specs.Answers.{counted};
 ghost use Rattle.light_nodes.specs.Nodes.{nodeWords};
-ghost use Rattle.light_bvh.specs.Subtree.{labelOf, buildSubtree, isGiven, subtreeWords, splitCount, splitHandles};
+ghost use Rattle.light_bvh.specs.Subtree.{labelOf, buildSubtree, isGiven, subtreeWords, splitCount, splitHandles, unionAt, joinedWords};
 use lamps::block::EXHAUSTIVE_BOUNDS_WORDS;
 use light_bounds::light_bounds::Bounded;
 use light_bounds::light_bounds::union;
@@ -43,7 +43,11 @@ fn split_stretch(block: &[u32], handles: &mut [u32], work: &mut [u32]) -> Counte
 }
 
 // The node over two trees whose words stand behind it, the right one at node `right`: the record around both records, read back from their nodes.
-fn join_children(nodes: &mut [u32], right: usize, at: u32, parent: u32) -> bool {
+fn join_children(nodes: &mut [u32], right: usize, at: u32, parent: u32) -> bool
+    requires { ⌜ at + right < 2 ^ 30 ⌝ }
+    ensures { λ r. ⌜ r ≡ isGiven (unionAt (now (nodes .entry)) right) ⌝ }
+    ensures { λ _. ⌜ now (nodes .exit) ≡ joinedWords at parent right (now (nodes .entry)) (unionAt (now (nodes .entry)) right) ⌝ }
+{
     let left_bounds = record_or_zeros(nodes, NODE_WORDS + 3);
     let right_bounds = record_or_zeros(nodes, NODE_WORDS * right + 3);
     match union(left_bounds, right_bounds) {
