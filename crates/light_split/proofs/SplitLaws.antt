@@ -1,5 +1,5 @@
 -- Laws of the cuts of an axis, as the loop that takes them uses them: the two sides of a cut, one cut more, a cut behind an empty bucket, a side that is lost;
--- and of folds and the slots that buckets are kept in. Assumes nothing.
+-- and of the box of a stretch. Assumes nothing.
 use Prim.Native.Nat.{ℕ, zero, suc, _+_, _-_, _≤_, _<_}
 use mathlib.Core.Path.{_≡_, refl, ap, subst, sym, _∙_}
 use mathlib.Core.Bool.{Bool, true, false, cond, _&&_, and-false}
@@ -14,26 +14,13 @@ use Rattle.ieee.specs.OrderLaws.{lt→le, not-le-of-lt}
 use Rattle.ieee.specs.Single.{_⊕_, zerof}
 use Rattle.words.specs.Answers.{Answer, given, refused, _then_}
 use Rattle.words.proofs.AnswerLaws.{then-assoc}
+use Rattle.light_bounds.specs.Bounds.{boxUnion}
 use Rattle.light_bounds.specs.declared.bounds.Bounds3.{Bounds3}
-use Rattle.light_split.specs.Lights.{folded}
-use Rattle.light_split.specs.Buckets.{Bucket, joinTo, unionRange, unionBucketRange, sideCost, cutCost, slotOf, slotList}
-use Rattle.light_split.specs.Split.{split, better, cuts}
-use Rattle.light_split.specs.declared.buckets.Slot.{Slot}
+use Rattle.light_split.specs.Lights.{lightOf, folded}
+use Rattle.light_split.specs.Buckets.{Bucket, joinTo, unionRange, unionBucketRange, sideCost, cutCost}
+use Rattle.light_split.specs.Split.{split, combinedBounds, better, cuts}
 use Rattle.light_split.specs.declared.split.Best.{Best}
 use Rattle.light_split.specs.declared.split.Split.{Split}
-
--- ---- slots
-
-pub length-slotList : (ss : List Slot) → length (slotList ss) ≡ length ss
-unfolding slotList
-length-slotList [] = refl
-length-slotList (s ∷ ss) = ap suc (length-slotList ss)
-
-pub getD-slotList : (ss : List Slot) (n : ℕ) (s : Slot) → n < length ss → getD (slotList ss) n none ≡ slotOf (getD ss n s)
-unfolding slotList
-getD-slotList [] n s h = absurd (omega arith)
-getD-slotList (t ∷ ss) zero s h = refl
-getD-slotList (t ∷ ss) (suc n) s h = getD-slotList ss n s (omega arith)
 
 -- ---- buckets joined
 
@@ -159,9 +146,17 @@ module _ (bs : List Bucket) (parent : Bounds3) (d : ℕ) (twelve : length bs ≡
         here : cuts bs parent d b (suc n) ≡ refused k
         here = rw (e, cutCost-sides n, f, g)
 
--- ---- a fold
+-- ---- the box of a stretch
 
-pub folded-drop : {A B : Type 0} (step : B → A → B) (b : B) (xs : List A) (n : ℕ) (x : A) → n < length xs
-    → folded step b (drop n xs) ≡ folded step (step b (getD xs n x)) (drop (suc n) xs)
-unfolding folded
-folded-drop step b xs n x h = rw (drop-cons xs n x h)
+abbrev pub joinBox : List ℕ → Bounds3 → ℕ → Bounds3
+joinBox ws b h = boxUnion b (lightOf ws h .bounds)
+
+pub combined-none : (ws hs : List ℕ) → length hs ≡ 0 → combinedBounds ws hs ≡ lightOf ws 0 .bounds
+unfolding combinedBounds
+combined-none ws [] e = refl
+combined-none ws (h ∷ hs) e = absurd (omega arith)
+
+pub combined-first : (ws hs : List ℕ) → 0 < length hs → combinedBounds ws hs ≡ folded (joinBox ws) (lightOf ws (getD hs 0 0) .bounds) (drop 1 hs)
+unfolding combinedBounds
+combined-first ws [] l = absurd (omega arith)
+combined-first ws (h ∷ hs) l = refl
