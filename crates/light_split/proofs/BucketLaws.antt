@@ -1,15 +1,19 @@
 -- Laws of the twelve buckets: as the code has them, one more record, and the refusal of a union. Assumes nothing.
 use Prim.Native.Nat.{ℕ, zero, suc, _+_, _≤_, _<_}
 use mathlib.Core.Path.{_≡_, refl, ap, sym, _∙_}
+use mathlib.Core.Bool.{true, false}
 use mathlib.Core.List.{List, [], _∷_}
 use mathlib.Core.Option.{none, some}
 use native.Mathlib.Numerals.{add-one}
 use native.Mathlib.Omega.{arith}
+use lib.Ieee.{nan}
 use lib.ListN.{length, getD, set, drop, replicate, drop-of-length-le}
 use lib.Seq.{drop-cons}
 use Rattle.words.specs.Answers.{Answer, given, refused, _then_}
 use Rattle.words.proofs.AnswerLaws.{Only, only-given, only-refused, only-then, only-number}
-use Rattle.light_bounds.specs.LightBounds.{union, operand, validate}
+use Rattle.light_bounds.specs.LightBounds.{union, operand, validate, lightBounds}
+use Rattle.light_bounds.specs.Side.{lampSide}
+use Rattle.light_bounds.specs.Vecmath.{vec}
 use Rattle.light_bounds.specs.declared.bounds.Bounds3.{Bounds3}
 use Rattle.light_bounds.specs.declared.light_bounds.LightBounds.{LightBounds}
 use Rattle.light_split.specs.Buckets.{Bucket, slotOf, slotList, joinTo, fillBuckets, emptyBuckets, unionRange}
@@ -68,10 +72,27 @@ pub fill-end : (ws : List ℕ) (ends : Bounds3) (d : ℕ) (bs : List Bucket) (hs
 unfolding fillBuckets
 fill-end ws ends d bs hs i h = rw (drop-of-length-le hs h)
 
--- the bucket at a place, joined where something is in it
-pub union-next : (b : Bucket) (ss : List Slot) (i : ℕ) (d : Slot) → i < length ss
-    → unionRange b (drop i (slotList ss)) ≡ unionRange b (slotOf (getD ss i d) ∷ drop (i + 1) (slotList ss))
-union-next b ss i d h = rw (drop-cons (slotList ss) i none (omega (arith, slots-length ss)), slots-at ss i d h, ← add-one i)
+-- what the checker reads where no slot is; no fact rests on it
+abbrev pub blank : Slot
+blank =
+    let none = vec nan nan nan in
+    record { filled = false; bounds = lightBounds (record { min = none; max = none }) none nan nan nan (lampSide false) }
+
+-- the bucket at a place
+union-next : (b : Bucket) (ss : List Slot) (i : ℕ) → i < length ss
+    → unionRange b (drop i (slotList ss)) ≡ unionRange b (slotOf (getD ss i blank) ∷ drop (i + 1) (slotList ss))
+union-next b ss i h = rw (drop-cons (slotList ss) i none (omega (arith, slots-length ss)), slots-at ss i blank h, add-one i)
+
+-- it is joined where something is in it
+pub union-filled : (b : Bucket) (ss : List Slot) (i : ℕ) → i < length ss → getD ss i blank .filled ≡ true
+    → unionRange b (drop i (slotList ss)) ≡ joinTo b (getD ss i blank .bounds) then λ (r : Bucket). unionRange r (drop (i + 1) (slotList ss))
+unfolding unionRange
+union-filled b ss i h e = rw (union-next b ss i h, e)
+
+pub union-empty : (b : Bucket) (ss : List Slot) (i : ℕ) → i < length ss → getD ss i blank .filled ≡ false
+    → unionRange b (drop i (slotList ss)) ≡ unionRange b (drop (i + 1) (slotList ss))
+unfolding unionRange
+union-empty b ss i h e = rw (union-next b ss i h, e)
 
 pub union-end : (b : Bucket) (ss : List Slot) (i : ℕ) → length ss ≤ i → unionRange b (drop i (slotList ss)) ≡ given b
 unfolding unionRange
