@@ -5,6 +5,7 @@ use mathlib.Core.Path.{_≡_, refl, ap, subst, sym, _∙_}
 use mathlib.Core.Bool.{Bool, true, false, cond, _&&_, and-false}
 use mathlib.Core.List.{List, [], _∷_, _++_}
 use mathlib.Core.Option.{none, some}
+use native.Mathlib.Numerals.{add-one}
 use native.Mathlib.Omega.{arith}
 use lib.Dec.{T}
 use lib.Ieee.{Float, lt}
@@ -16,11 +17,14 @@ use Rattle.words.specs.Answers.{Answer, given, refused, _then_}
 use Rattle.words.proofs.AnswerLaws.{then-assoc}
 use Rattle.light_bounds.specs.Bounds.{boxUnion}
 use Rattle.light_bounds.specs.declared.bounds.Bounds3.{Bounds3}
+use Rattle.light_bounds.specs.declared.light_bounds.LightBounds.{LightBounds}
 use Rattle.light_split.specs.Lights.{lightOf, folded}
-use Rattle.light_split.specs.Buckets.{Bucket, joinTo, unionRange, unionBucketRange, sideCost, cutCost}
+use Rattle.light_split.specs.Buckets.{Bucket, joinTo, unionRange, unionBucketRange, sideCost, cutCost, slotList}
 use Rattle.light_split.specs.Split.{split, combinedBounds, better, cuts}
+use Rattle.light_split.specs.declared.buckets.Slot.{Slot}
 use Rattle.light_split.specs.declared.split.Best.{Best}
 use Rattle.light_split.specs.declared.split.Split.{Split}
+use Rattle.light_split.proofs.BucketLaws.{slots-length, slots-at, blank}
 
 -- ---- buckets joined
 
@@ -56,7 +60,7 @@ module _ (bs : List Bucket) where
   left-empty n h e = unionRange-take n h ∙ rw e (then-same (unionRange none (take n bs)))
 
   -- by a filled one
-  pub left-filled : (n : ℕ) (l : Bucket) (b : _) → n < length bs → getD bs n none ≡ some b → unionRange none (take n bs) ≡ given l
+  pub left-filled : (n : ℕ) (l : Bucket) (b : LightBounds) → n < length bs → getD bs n none ≡ some b → unionRange none (take n bs) ≡ given l
       → unionRange none (take (suc n) bs) ≡ joinTo l b
   unfolding unionRange _then_
   left-filled n l b h e f = unionRange-take n h ∙ rw (f, e) (then-same (joinTo l b))
@@ -113,13 +117,6 @@ module _ (bs : List Bucket) (parent : Bounds3) (d : ℕ) (twelve : length bs ≡
         go (given b) (refused k) = refl
         go (refused k) y = refl
 
-    -- one cut more
-    pub cuts-next : (n : ℕ) (best : Best) (l r : Bucket) → cuts bs parent d b n ≡ given best → unionRange none (take (suc n) bs) ≡ given l
-        → unionRange none (drop (suc n) bs) ≡ given r
-        → cuts bs parent d b (suc n) ≡ given (better best (split d n) (sideCost parent d l ⊕ sideCost parent d r))
-    unfolding cuts _then_
-    cuts-next n best l r e f g = rw (e, cutCost-sides n, f, g)
-
     -- a refusal stays
     pub cuts-lost : (n m k : ℕ) → cuts bs parent d b n ≡ refused k → n ≤ m → cuts bs parent d b m ≡ refused k
     unfolding cuts _then_
@@ -129,22 +126,51 @@ module _ (bs : List Bucket) (parent : Bounds3) (d : ℕ) (twelve : length bs ≡
         go zero = let p : 0 + n ≡ n = omega arith in rw p e
         go (suc i) = let p : suc i + n ≡ suc (i + n) = omega arith in rw (p, go i)
 
-    -- a side that is lost
-    pub left-lost : (n : ℕ) (best : Best) (k : ℕ) → n < 11 → cuts bs parent d b n ≡ given best → unionRange none (take (suc n) bs) ≡ refused k
-        → cuts bs parent d b 11 ≡ refused k
-    unfolding cuts _then_
-    left-lost n best k h e f = cuts-lost (suc n) 11 k here h
-      where
-        here : cuts bs parent d b (suc n) ≡ refused k
-        here = rw (e, cutCost-sides n, f)
+-- ---- the loop that takes the cuts, over the slots
 
-    pub right-lost : (n : ℕ) (best : Best) (l : Bucket) (k : ℕ) → n < 11 → cuts bs parent d b n ≡ given best
-        → unionRange none (take (suc n) bs) ≡ given l → unionRange none (drop (suc n) bs) ≡ refused k → cuts bs parent d b 11 ≡ refused k
+module _ (ss : List Slot) (twelve : length ss ≡ 12) where
+  whole : length (slotList ss) ≡ 12
+  whole = slots-length ss ∙ twelve
+
+  -- the left side with the bucket at hand
+  pub joined-filled : (n : ℕ) (l : Bucket) → n < 11 → getD ss n blank .filled ≡ true → unionRange none (take n (slotList ss)) ≡ given l
+      → unionRange none (take (n + 1) (slotList ss)) ≡ joinTo l (getD ss n blank .bounds)
+  joined-filled n l h e f =
+      rw (add-one n) (left-filled (slotList ss) n l (getD ss n blank .bounds) (omega (arith, whole)) (slots-at ss n blank (omega arith) ∙ rw e) f)
+
+  pub joined-empty : (n : ℕ) → n < 11 → getD ss n blank .filled ≡ false → unionRange none (take (n + 1) (slotList ss)) ≡ unionRange none (take n (slotList ss))
+  joined-empty n h e = rw (add-one n) (left-empty (slotList ss) n (omega (arith, whole)) (slots-at ss n blank (omega arith) ∙ rw e))
+
+  module _ (parent : Bounds3) (d : ℕ) (b : Best) (n : ℕ) (h : n < 11) (best : Best) (e : cuts (slotList ss) parent d b n ≡ given best) where
+    -- one cut more
+    pub cut-next : (l r : Bucket) → unionRange none (take (n + 1) (slotList ss)) ≡ given l → unionRange none (drop (n + 1) (slotList ss)) ≡ given r
+        → cuts (slotList ss) parent d b (n + 1) ≡ given (better best (split d n) (sideCost parent d l ⊕ sideCost parent d r))
     unfolding cuts _then_
-    right-lost n best l k h e f g = cuts-lost (suc n) 11 k here h
+    cut-next l r f g = rw (add-one n, e, cutCost-sides (slotList ss) parent d whole n, rw (add-one n) at f, rw (add-one n) at g)
+
+    -- behind an empty bucket
+    pub cut-empty : 0 < n → getD ss n blank .filled ≡ false → cuts (slotList ss) parent d b (n + 1) ≡ given best
+    cut-empty p f = go n refl
       where
-        here : cuts bs parent d b (suc n) ≡ refused k
-        here = rw (e, cutCost-sides n, f, g)
+        go : (k : ℕ) → k ≡ n → cuts (slotList ss) parent d b (n + 1) ≡ given best
+        go zero q = absurd (omega arith)
+        go (suc k) q =
+            let z : getD (slotList ss) (suc k) none ≡ none = rw q (slots-at ss n blank (omega arith) ∙ rw f) in
+            let same : cuts (slotList ss) parent d b (suc k) ≡ given best = rw q e in
+            rw (add-one n, ← q, cuts-empty (slotList ss) parent d whole b k (omega arith) z) same
+
+    -- a side that is lost
+    pub left-lost : (k : ℕ) → unionRange none (take (n + 1) (slotList ss)) ≡ refused k → cuts (slotList ss) parent d b 11 ≡ refused k
+    unfolding cuts _then_
+    left-lost k f =
+        cuts-lost (slotList ss) parent d whole b (suc n) 11 k (rw (e, cutCost-sides (slotList ss) parent d whole n, rw (add-one n) at f)) h
+
+    pub right-lost : (l : Bucket) (k : ℕ) → unionRange none (take (n + 1) (slotList ss)) ≡ given l
+        → unionRange none (drop (n + 1) (slotList ss)) ≡ refused k → cuts (slotList ss) parent d b 11 ≡ refused k
+    unfolding cuts _then_
+    right-lost l k f g =
+        cuts-lost (slotList ss) parent d whole b (suc n) 11 k
+        (rw (e, cutCost-sides (slotList ss) parent d whole n, rw (add-one n) at f, rw (add-one n) at g)) h
 
 -- ---- the box of a stretch
 
