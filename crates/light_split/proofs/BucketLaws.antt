@@ -1,9 +1,9 @@
 -- Laws of the twelve buckets: as the code has them, one more record, and the refusal of a union. Assumes nothing.
 use Prim.Native.Nat.{ℕ, zero, suc, _+_, _≤_, _<_}
-use mathlib.Core.Path.{_≡_, refl, ap, sym, _∙_}
+use mathlib.Core.Path.{_≡_, refl, ap, _∙_}
 use mathlib.Core.Bool.{true, false}
 use mathlib.Core.List.{List, [], _∷_}
-use mathlib.Core.Option.{none, some}
+use mathlib.Core.Option.{none}
 use native.Mathlib.Numerals.{add-one}
 use native.Mathlib.Omega.{arith}
 use lib.Ieee.{nan}
@@ -16,7 +16,7 @@ use Rattle.light_bounds.specs.Side.{lampSide}
 use Rattle.light_bounds.specs.Vecmath.{vec}
 use Rattle.light_bounds.specs.declared.bounds.Bounds3.{Bounds3}
 use Rattle.light_bounds.specs.declared.light_bounds.LightBounds.{LightBounds}
-use Rattle.light_split.specs.Buckets.{Bucket, slotOf, slotList, joinTo, fillBuckets, emptyBuckets, unionRange}
+use Rattle.light_split.specs.Buckets.{Bucket, slotOf, slotList, joinTo, fillBuckets, unionRange}
 use Rattle.light_split.specs.Lights.{lightOf, bucketOf}
 use Rattle.light_split.specs.declared.buckets.Slot.{Slot}
 
@@ -75,8 +75,8 @@ fill-end ws ends d bs hs i h = rw (drop-of-length-le hs h)
 -- what the checker reads where no slot is; no fact rests on it
 abbrev pub blank : Slot
 blank =
-    let none = vec nan nan nan in
-    record { filled = false; bounds = lightBounds (record { min = none; max = none }) none nan nan nan (lampSide false) }
+    let v = vec nan nan nan in
+    record { filled = false; bounds = lightBounds (record { min = v; max = v }) v nan nan nan (lampSide false) }
 
 -- the bucket at a place
 union-next : (b : Bucket) (ss : List Slot) (i : ℕ) → i < length ss
