@@ -1,5 +1,5 @@
 -- Laws of the cuts of an axis, as the loop that takes them uses them: the two sides of a cut, one cut more, a cut behind an empty bucket, a side that is lost;
--- and of the box of a stretch. Assumes nothing.
+-- and of the box of a stretch and its three axes. Assumes nothing.
 use Prim.Native.Nat.{ℕ, zero, suc, _+_, _-_, _≤_, _<_}
 use mathlib.Core.Path.{_≡_, refl, ap, subst, sym, _∙_}
 use mathlib.Core.Bool.{Bool, true, false, cond, _&&_, and-false}
@@ -18,9 +18,9 @@ use Rattle.words.proofs.AnswerLaws.{then-assoc}
 use Rattle.light_bounds.specs.Bounds.{boxUnion}
 use Rattle.light_bounds.specs.declared.bounds.Bounds3.{Bounds3}
 use Rattle.light_bounds.specs.declared.light_bounds.LightBounds.{LightBounds}
-use Rattle.light_split.specs.Lights.{lightOf, folded}
+use Rattle.light_split.specs.Lights.{lightOf, folded, centroidEnds}
 use Rattle.light_split.specs.Buckets.{Bucket, joinTo, unionRange, unionBucketRange, sideCost, cutCost, slotList}
-use Rattle.light_split.specs.Split.{split, combinedBounds, better, cuts}
+use Rattle.light_split.specs.Split.{split, combinedBounds, noBest, better, cuts, axis, chooseSplit}
 use Rattle.light_split.specs.declared.buckets.Slot.{Slot}
 use Rattle.light_split.specs.declared.split.Best.{Best}
 use Rattle.light_split.specs.declared.split.Split.{Split}
@@ -186,3 +186,20 @@ pub combined-first : (ws hs : List ℕ) → 0 < length hs → combinedBounds ws 
 unfolding combinedBounds
 combined-first ws [] l = absurd (omega arith)
 combined-first ws (h ∷ hs) l = refl
+
+-- ---- the three axes
+
+then-last : {A B : Type 0} (x : Answer A) (f g : A → Answer A) (h : A → Answer B)
+    → x then (λ (a : A). f a then λ (b : A). g b then h) ≡ (x then λ (a : A). f a then λ (b : A). g b) then h
+unfolding _then_
+then-last (given a) f g h = sym (then-assoc (f a) g h)
+then-last (refused k) f g h = refl
+
+pub choose-axes : (ws hs : List ℕ) → chooseSplit ws hs
+    ≡ (axis ws hs (centroidEnds ws hs) (combinedBounds ws hs) 0 noBest then
+    λ (b : Best). axis ws hs (centroidEnds ws hs) (combinedBounds ws hs) 1 b then
+    λ (b : Best). axis ws hs (centroidEnds ws hs) (combinedBounds ws hs) 2 b) then λ (b : Best). given (b .best)
+unfolding chooseSplit
+choose-axes ws hs =
+    then-last (axis ws hs (centroidEnds ws hs) (combinedBounds ws hs) 0 noBest) (axis ws hs (centroidEnds ws hs) (combinedBounds ws hs) 1)
+    (axis ws hs (centroidEnds ws hs) (combinedBounds ws hs) 2) (λ (b : Best). given (b .best))
