@@ -1,1 +1,2 @@
 pub mod LightLaws
+pub mod PartitionLaws
