@@ -70,8 +70,9 @@ fn write(name: &str, text: &str) {
     std::fs::write(PathBuf::from(std::env::var_os("OUT_DIR").unwrap()).join(name), text).unwrap();
 }
 
-fn prepare(bounds: &str, sampler: &str, sampling: &str) {
+fn prepare(bounds: &str, bvh: &str, sampler: &str, sampling: &str) {
     both("light_bounds", bounds, &[BORROWED, LOST], &[MARKS, LIBRARY]);
+    both("light_bvh", bvh, &[BVH_BORROWED, BVH_LOST], &[BVH_MARKS, BVH_LIBRARY]);
     let Some(end) = sampler.find(SAMPLER_END) else { stop(format!("the reference has no {SAMPLER_END:?}")) };
     both("light_sampler", &sampler[..end], &[SAMPLER_BORROWED], &[SAMPLER_MARKS, SAMPLER_LIBRARY]);
     write("angle_between.rs", &substitute(function(sampling, "pub fn angle_between("), BY_VALUE));
@@ -88,10 +89,11 @@ fn main() {
         std::fs::read_to_string(path)
     };
     let bounds = read("src--src--gpu--flat--light_bounds.rs.txt");
+    let bvh = read("src--src--gpu--flat--light_bvh.rs.txt");
     let sampler = read("src--src--gpu--webgpu--light_sampler.rs.txt");
     let sampling = read("src--src--util--sampling--sampling.rs.txt");
-    if let (Ok(bounds), Ok(sampler), Ok(sampling)) = (bounds, sampler, sampling) {
-        prepare(&bounds, &sampler, &sampling);
+    if let (Ok(bounds), Ok(bvh), Ok(sampler), Ok(sampling)) = (bounds, bvh, sampler, sampling) {
+        prepare(&bounds, &bvh, &sampler, &sampling);
         println!("cargo:rustc-cfg=reference");
     }
 }

@@ -19,6 +19,10 @@ impl<T: Copy> Lent<T> {
         Lent { all, start, len }
     }
 
+    pub fn words(&self) -> &[T] {
+        &self.all[self.start..self.start + self.len]
+    }
+
     pub fn slice(&mut self) -> &mut [T] {
         &mut self.all[self.start..self.start + self.len]
     }

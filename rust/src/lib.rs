@@ -11,6 +11,7 @@ pub mod proved;
 pub mod records;
 #[cfg(reference)]
 pub mod reference;
+pub mod rooms;
 #[cfg(reference)]
 pub mod runs;
 pub mod standins;
@@ -18,6 +19,10 @@ pub mod stored;
 pub mod stored_alias;
 pub mod stored_bounds;
 pub mod stored_lamps;
+pub mod stored_trees;
 pub mod timing;
+#[cfg(reference)]
+pub mod tree_runs;
+pub mod trees;
 pub mod trig;
 pub mod weights;

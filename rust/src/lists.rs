@@ -91,7 +91,7 @@ pub fn wrapping_count(words: u32) -> u32 {
     words.wrapping_mul(0xc4ec_4ec5) // 1 / 13 there
 }
 
-fn head(kind: Kind) -> u32 {
+pub(crate) fn head(kind: Kind) -> u32 {
     (kind as u32) << 30
 }
 

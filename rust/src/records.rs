@@ -56,7 +56,7 @@ impl Random {
     }
 
     /// A point box, one flat along some axes, or any; min at most max.
-    fn bounds(&mut self) -> (Vector, Vector) {
+    pub(crate) fn bounds(&mut self) -> (Vector, Vector) {
         let calm = !self.chance(3);
         let mut corner = || [(); 3].map(|()| if calm { self.within(4.0) } else { self.coordinate() });
         let (a, b) = (corner(), corner());
@@ -114,7 +114,7 @@ impl Random {
 
     /// One word or more made unfit: any place not finite, ends of a box exchanged, no direction, a power or a cosine out of range,
     /// an unknown side, or any bits.
-    fn damage(&mut self, record: &mut Record) {
+    pub(crate) fn damage(&mut self, record: &mut Record) {
         let axis = self.below(3) as usize;
         match self.below(8) {
             0 | 1 => record[self.below(12) as usize] = self.of(&UNFIT),

@@ -1,10 +1,12 @@
-//! The reference, `light_bounds.rs` and `light_sampler.rs` of pbrt-r4, compiled from ../../shared/docs twice: as the oracle, with
-//! document 01's library functions put in (substitution.rs), and as it is, with Rust's own. Around the oracle: records, lists and
-//! weights as words, errors as numbers, lent slices.
+//! The reference, `light_bounds.rs`, `light_bvh.rs` and `light_sampler.rs` of pbrt-r4, compiled from ../../shared/docs twice: as the
+//! oracle, with document 01's library functions put in (substitution.rs), and as it is, with Rust's own. Around the oracle: records,
+//! lists, weights and trees as words, errors as numbers, lent slices.
 
 use crate::lists::{self, Kind, Lamp, BLOCK_RECORD};
 use crate::records::{Query, Record};
-use crate::{standins, trig};
+use crate::stored::padded;
+use crate::trees::{self, Built, INTERIOR, LEAF, NODE};
+use crate::{blocks, standins, trig};
 use std::cell::Cell;
 
 /// The error of the rest of pbrt-r4: its message.
@@ -16,6 +18,13 @@ impl PbrtError {
         PbrtError(message)
     }
 }
+
+/// A light record of the renderer: a tree counts them and reads none.
+#[derive(Clone)]
+pub struct Light;
+
+/// No node and no lamp.
+pub const INVALID_INDEX: u32 = u32::MAX;
 
 /// Document 01's number for each error that the functions here can give.
 pub const REFUSALS: &[(&str, u32)] = &[
@@ -39,7 +48,7 @@ pub const REFUSALS: &[(&str, u32)] = &[
 /// The one error that comes before a short slice.
 const MISPLACED: &str = "Light handles must match the global LightRecord order.";
 
-/// The message that substitution.rs gives to any error of a union within a group.
+/// The message that substitution.rs gives to any error of a union within a group or a tree.
 const LOST: &str = "a union's operand fails its check";
 
 fn lost(_: PbrtError) -> PbrtError {
@@ -91,13 +100,35 @@ branches! {
     Dark "importance: 0 outside the cone"
     Normal "importance: a normal"
     SharpSpot "spot: the cosine of its fall 1 though its cosines differ, 0.999"
+    Powerless "tree: a lamp without power, left out"
+    NoTree "tree: no lamp with power"
+    LoneLeaf "tree: one lamp with power, a leaf alone"
+    LostNode "tree: 10 at a node"
+    LostBucket "split: 10 within a bucket"
+    LostRange "split: 10 where buckets are joined"
+    AxisLeftOut "split: an axis left out, its centroid ends equal"
+    FirstAxis "split: on the first axis"
+    SecondAxis "split: on the second axis"
+    ThirdAxis "split: on the third axis"
+    DefaultSplit "split: no cost wins, the first axis after bucket 5"
+    MiddleCut "split: a side empty, the handles cut at their middle"
+    OneBucket "bucket: 0, the ends equal"
+    EndlessExtent "bucket: the ends infinitely far apart"
+    NanBucket "bucket: 0 for NaN"
+    EndlessCost "cost: infinite or NaN"
+    EqualCost "cost: as low as the best, the first stays"
+    NanArc "cost: of a cosine that is NaN"
+    ArcCut "cost: arcs cut to PI"
+    NoExtent "never: a cost along an axis without extent"
     AllOnes "alias: a sum of 0, all weights 1"
     ExcessUnder "alias: an excess below 1"
     ExcessOver "alias: an excess of 1 or more"
     LeftUnder "alias: a bin under 1 left over"
 }
 
-thread_local!(static TAKEN: Cell<u64> = const { Cell::new(0) });
+thread_local!(static TAKEN: Cell<u128> = const { Cell::new(0) });
+
+const _: () = assert!(BRANCHES.len() + REFUSALS.len() <= u128::BITS as usize, "a set has a bit for each");
 
 fn mark(branch: Branch) {
     TAKEN.set(TAKEN.get() | 1 << branch as u32);
@@ -105,7 +136,7 @@ fn mark(branch: Branch) {
 
 /// The branches taken in a case and the errors that became its numbers, as a set.
 #[derive(Clone, Copy, Debug, PartialEq)]
-pub struct Branches(u64);
+pub struct Branches(u128);
 
 impl Branches {
     pub fn has(self, branch: Branch) -> bool {
@@ -221,11 +252,15 @@ macro_rules! borrowed {
 /// The reference over document 01's library functions.
 #[allow(dead_code)]
 pub mod oracle {
-    use super::{lost, mark, Branch, PbrtError, Standin};
+    use super::{lost, mark, Branch, Light, PbrtError, Standin, INVALID_INDEX};
     borrowed!(crate::standins::sqrt, crate::trig::asin);
 
     pub mod light_bounds {
         include!(concat!(env!("OUT_DIR"), "/oracle_light_bounds.rs"));
+    }
+
+    pub mod light_bvh {
+        include!(concat!(env!("OUT_DIR"), "/oracle_light_bvh.rs"));
     }
 
     pub mod light_sampler {
@@ -236,7 +271,7 @@ pub mod oracle {
 /// The reference over Rust's own.
 #[allow(dead_code)]
 pub mod native {
-    use super::{lost, PbrtError};
+    use super::{lost, Light, PbrtError, INVALID_INDEX};
 
     fn asin(x: f32) -> f32 {
         x.asin()
@@ -250,6 +285,10 @@ pub mod native {
         include!(concat!(env!("OUT_DIR"), "/native_light_bounds.rs"));
     }
 
+    pub mod light_bvh {
+        include!(concat!(env!("OUT_DIR"), "/native_light_bvh.rs"));
+    }
+
     pub mod light_sampler {
         include!(concat!(env!("OUT_DIR"), "/native_light_sampler.rs"));
     }
@@ -261,7 +300,7 @@ fn three(words: &[u32]) -> [f32; 3] {
 
 /// Records as words on one side, and that side's answers on words.
 macro_rules! on_words {
-    ($side:ident, $validate:ident, $union:ident, $importance:ident, $of_words:ident) => {
+    ($side:ident, $validate:ident, $union:ident, $importance:ident, $of_words:ident, $to_words:ident) => {
         /// A record of words; an unknown side is refused.
         pub fn $of_words(words: &Record) -> Result<$side::light_bounds::LightBounds, u32> {
             Ok($side::light_bounds::LightBounds {
@@ -278,15 +317,18 @@ macro_rules! on_words {
             })
         }
 
+        pub fn $to_words(record: &$side::light_bounds::LightBounds) -> Record {
+            let (bounds, cones) = (record.bounds, [record.phi, record.cos_theta_o, record.cos_theta_e]);
+            words_of([bounds.min, bounds.max, record.direction, cones], record.two_sided)
+        }
+
         pub fn $validate(record: &Record) -> Result<(), u32> {
             $of_words(record)?.validate().map(|_| ()).map_err(number)
         }
 
         pub fn $union(a: &Record, b: &Record) -> Result<Record, u32> {
             let (a, b) = ($of_words(a)?, $of_words(b)?);
-            let joined = a.union(b).map_err(|_| LOST_UNION)?;
-            let (bounds, cones) = (joined.bounds, [joined.phi, joined.cos_theta_o, joined.cos_theta_e]);
-            Ok(words_of([bounds.min, bounds.max, joined.direction, cones], joined.two_sided))
+            a.union(b).map(|joined| $to_words(&joined)).map_err(|_| LOST_UNION)
         }
 
         /// The importance as it is stored.
@@ -305,8 +347,8 @@ fn words_of(figures: [[f32; 3]; 4], two_sided: bool) -> Record {
     words
 }
 
-on_words!(oracle, validate, union, importance, oracle_of_words);
-on_words!(native, native_validate, native_union, native_importance, native_of_words);
+on_words!(oracle, validate, union, importance, oracle_of_words, oracle_to_words);
+on_words!(native, native_validate, native_union, native_importance, native_of_words, native_to_words);
 
 /// Document 01's rule for a lent slice after the checks that leave it alone: its reserve holds what is given, or zeros where
 /// that is refused; the words past it stay.
@@ -397,3 +439,52 @@ macro_rules! on_lists {
 
 on_lists!(oracle, inputs, build_light_bounds, build_power_alias_table);
 on_lists!(native, native_inputs, native_build_light_bounds, native_build_power_alias_table);
+
+/// Trees as words on one side, and that side's tree of a block.
+macro_rules! on_blocks {
+    ($side:ident, $of_words:ident, $to_words:ident, $tree:ident, $node:ident, $build:ident) => {
+        /// The tree of a block that has the layout.
+        pub fn $tree(block: &[u32]) -> Result<$side::light_bvh::LightBVH, PbrtError> {
+            let bounds: Vec<_> = blocks::records(block).map(|record| $of_words(record).unwrap()).collect();
+            $side::light_bvh::build_light_bvh(&vec![Light; bounds.len()], &bounds)
+        }
+
+        pub fn $node(node: &$side::light_bvh::LightBVHNode) -> [u32; NODE] {
+            use $side::light_bvh::LightBVHNode::{Interior, Leaf};
+            let (head, right) = match node {
+                Leaf { light_handle, .. } => (LEAF | light_handle, INVALID_INDEX),
+                Interior { left_child, right_child, .. } => (INTERIOR | left_child, *right_child),
+            };
+            let mut words = padded(&[head, right, node.parent()]);
+            words[3..].copy_from_slice(&$to_words(&node.bounds()));
+            words
+        }
+
+        /// The tree of a block, written to the lent nodes, with each lamp's leaf in the lent table; the lent work is left zero.
+        pub fn $build(
+            light_count: u32,
+            block: &[u32],
+            nodes: &mut [u32],
+            table: &mut [u32],
+            work: &mut [u32],
+        ) -> Result<Built, u32> {
+            blocks::check_counted(light_count, block)?;
+            let reserves = trees::reserves(light_count as usize);
+            if [nodes.len(), table.len(), work.len()].iter().zip(reserves).any(|(lent, reserve)| *lent < reserve) {
+                return Err(SHORT_TRAY);
+            }
+            let bvh = $tree(block).map_err(number);
+            let words = bvh.as_ref().map(|bvh| -> Vec<u32> {
+                bvh.nodes.iter().flat_map($node).chain(std::iter::repeat(0)).take(reserves[0]).collect()
+            });
+            lend(nodes, words.as_deref().map_err(|_| reserves[0]));
+            lend(table, bvh.as_ref().map(|bvh| &bvh.handle_to_leaf[..]).map_err(|_| reserves[1]));
+            lend(work, Err(reserves[2]));
+            let corners = |min: [f32; 3], max| std::array::from_fn(|i| standins::word([min, max][i / 3][i % 3]));
+            bvh.map(|bvh| (bvh.bounded_handles.len() as u32, bvh.all_bounds.map(|all| corners(all.min, all.max))))
+        }
+    };
+}
+
+on_blocks!(oracle, oracle_of_words, oracle_to_words, tree, node, build_light_bvh);
+on_blocks!(native, native_of_words, native_to_words, native_tree, native_node, native_build_light_bvh);

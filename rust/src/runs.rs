@@ -22,14 +22,21 @@ pub struct Tally {
 }
 
 impl Tally {
-    fn new(more: &[&str]) -> Tally {
+    pub(crate) fn new(more: &[&str]) -> Tally {
         let branches = BRANCHES.iter().map(|(_, label)| label.to_string());
         let errors = REFUSALS.iter().map(|(message, n)| format!("error {n}: {message}"));
         let labels = branches.chain(errors).chain(more.iter().map(|label| label.to_string())).map(|label| (label, 0));
         Tally { labels: labels.collect(), ..Tally::default() }
     }
 
-    fn case<A>(&mut self, answer: &Result<A, u32>, branches: Branches, more: &[bool], same: bool, show: impl FnOnce() -> String) {
+    pub(crate) fn case<A>(
+        &mut self,
+        answer: &Result<A, u32>,
+        branches: Branches,
+        more: &[bool],
+        same: bool,
+        show: impl FnOnce() -> String,
+    ) {
         self.cases += 1;
         self.answers[answer.as_ref().err().map_or(0, |n| *n as usize)] += 1;
         let taken = branches.all().chain(more.iter().copied());
@@ -99,7 +106,7 @@ pub fn validates(seed: u64, cases: u64) -> Tally {
 }
 
 /// Not a difference: what the reference would answer with Rust's own library functions.
-const OWN: &str = "apart: another answer with Rust's own library functions";
+pub(crate) const OWN: &str = "apart: another answer with Rust's own library functions";
 
 const UNION: &[&str] = &[
     "lost: the first fails its check",

@@ -10,6 +10,15 @@ pub const BORROWED: &[Pair] = &[
     ("use crate::util::vecmath::angle_between;", "use super::borrowed::angle_between;"),
 ];
 
+/// The same of light_bvh.rs. A light record is only counted there.
+pub const BVH_BORROWED: &[Pair] = &[
+    (
+        "use super::{Bounds3, Light, LightBounds, INVALID_INDEX};",
+        "use super::light_bounds::{Bounds3, LightBounds};\nuse super::{Light, INVALID_INDEX};",
+    ),
+    ("use crate::util::error::PbrtError;", "use super::PbrtError;"),
+];
+
 /// The same of light_sampler.rs, whose text is cut before `resolve_light_sampler`: from there on it chooses a kind of sampler.
 pub const SAMPLER_BORROWED: &[Pair] = &[
     ("use crate::gpu::flat;", "use super::light_bounds as flat;"),
@@ -20,6 +29,30 @@ pub const SAMPLER_END: &str = "pub fn resolve_light_sampler(";
 
 /// An error of a union within a group, told apart from the record's own check.
 pub const LOST: &[Pair] = &[("existing.union(current)?", "existing.union(current).map_err(super::lost)?")];
+
+/// The same of a union within a tree, where document 01 has one number for Rust's error at a node and its panic in a split: what
+/// panics there gives the error on.
+pub const BVH_LOST: &[Pair] = &[
+    (
+        ".union(bvh.nodes[right_child as usize].bounds())?",
+        ".union(bvh.nodes[right_child as usize].bounds()).map_err(super::lost)?",
+    ),
+    (
+        "existing.union(light_bounds[handle as usize]).unwrap()",
+        "existing.union(light_bounds[handle as usize]).map_err(super::lost)?",
+    ),
+    ("existing.union(bounds).unwrap()", "existing.union(bounds).map_err(super::lost)?"),
+    ("end: usize,\n) -> Option<LightBounds> {", "end: usize,\n) -> Result<Option<LightBounds>, PbrtError> {"),
+    ("    }\n    result\n}", "    }\n    Ok(result)\n}"),
+    ("union_bucket_range(&buckets, 0, bucket)", "union_bucket_range(&buckets, 0, bucket)?"),
+    ("union_bucket_range(&buckets, bucket + 1, N_BUCKETS - 1)", "union_bucket_range(&buckets, bucket + 1, N_BUCKETS - 1)?"),
+    ("light_bounds: &[LightBounds]) -> Split {", "light_bounds: &[LightBounds]) -> Result<Split, PbrtError> {"),
+    (
+        "best.unwrap_or(Split {\n        dimension: 0,\n        bucket: N_BUCKETS / 2 - 1,\n    })",
+        "Ok(best.unwrap_or(Split {\n        dimension: 0,\n        bucket: N_BUCKETS / 2 - 1,\n    }))",
+    ),
+    ("choose_split(&handles, light_bounds);", "choose_split(&handles, light_bounds)?;"),
+];
 
 /// The oracle only: document 01's library functions in place of Rust's own.
 pub const LIBRARY: &[Pair] = &[
@@ -33,6 +66,21 @@ pub const LIBRARY: &[Pair] = &[
     (".acos()", ".standin_acos()"),
     (".sin_cos()", ".standin_sin_cos()"),
     (".sum::<f32>()", ".fold(0.0f32, |sum, term| sum + term)"),
+];
+
+/// The same in the tree; the second of the two `min` in a line is of whole numbers.
+pub const BVH_LIBRARY: &[Pair] = &[
+    ("use super::PbrtError;", "use super::PbrtError;\nuse super::Standin;"),
+    (
+        "(((value - min) / (max - min) * N_BUCKETS as f32) as usize).min(N_BUCKETS - 1)",
+        "usize::min(crate::standins::to_usize((value - min) / (max - min) * N_BUCKETS as f32), N_BUCKETS - 1)",
+    ),
+    (".min(", ".standin_min("),
+    (".max(", ".standin_max("),
+    (".sqrt()", ".standin_sqrt()"),
+    (".cos()", ".standin_cos()"),
+    (".acos()", ".standin_acos()"),
+    ("fold(0.0_f32, f32::max)", "fold(0.0_f32, crate::standins::max)"),
 ];
 
 /// The same in the sampler: sums from left to right, and words as they are stored.
@@ -68,6 +116,57 @@ pub const MARKS: &[Pair] = &[
     ("if dot(n, n) != 0.0 {", "if dot(n, n) != 0.0 { super::mark(super::Branch::Normal);"),
     ("    if cos_a > cos_b {\n        1.0", "    if cos_a > cos_b { super::mark(super::Branch::Clamped);\n        1.0"),
     ("cos_theta_e = 0.999;", "cos_theta_e = 0.999; super::mark(super::Branch::SharpSpot);"),
+];
+
+pub const BVH_MARKS: &[Pair] = &[
+    ("if bounds.phi > 0.0 {", "if bounds.phi == 0.0 { super::mark(super::Branch::Powerless); } if bounds.phi > 0.0 {"),
+    ("if !bvh.bounded_handles.is_empty() {", "if bvh.bounded_handles.is_empty() { super::mark(super::Branch::NoTree); } else {"),
+    ("if handles.len() == 1 {", "if handles.len() == 1 { if parent == INVALID_INDEX { super::mark(super::Branch::LoneLeaf); }"),
+    (
+        ".union(bvh.nodes[right_child as usize].bounds()).map_err(super::lost)",
+        ".union(bvh.nodes[right_child as usize].bounds())
+        .map_err(|error| { super::mark(super::Branch::LostNode); super::lost(error) })",
+    ),
+    (
+        "existing.union(light_bounds[handle as usize]).map_err(super::lost)",
+        "existing.union(light_bounds[handle as usize])
+                    .map_err(|error| { super::mark(super::Branch::LostBucket); super::lost(error) })",
+    ),
+    (
+        "existing.union(bounds).map_err(super::lost)",
+        "existing.union(bounds).map_err(|error| { super::mark(super::Branch::LostRange); super::lost(error) })",
+    ),
+    (
+        "if centroid_min[dimension] == centroid_max[dimension] {",
+        "if centroid_min[dimension] == centroid_max[dimension] { super::mark(super::Branch::AxisLeftOut);",
+    ),
+    (
+        "if cost > 0.0 && cost < min_cost {",
+        "if !cost.is_finite() { super::mark(super::Branch::EndlessCost); }
+            if cost == min_cost && best.is_some() { super::mark(super::Branch::EqualCost); }
+            if cost > 0.0 && cost < min_cost {",
+    ),
+    (
+        "Ok(best.unwrap_or(",
+        "let axes = [super::Branch::FirstAxis, super::Branch::SecondAxis, super::Branch::ThirdAxis];
+    super::mark(best.map_or(super::Branch::DefaultSplit, |split: Split| axes[split.dimension]));
+    Ok(best.unwrap_or(",
+    ),
+    ("let mut sorted = left;", "super::mark(super::Branch::MiddleCut); let mut sorted = left;"),
+    ("if min == max {", "if min == max { super::mark(super::Branch::OneBucket);"),
+    (
+        "(((value - min)",
+        "if !(max - min).is_finite() { super::mark(super::Branch::EndlessExtent); }
+    if ((value - min) / (max - min)).is_nan() { super::mark(super::Branch::NanBucket); }
+    (((value - min)",
+    ),
+    ("if diagonal[dimension] == 0.0 {", "if diagonal[dimension] == 0.0 { super::mark(super::Branch::NoExtent);"),
+    (
+        "let sin_theta_o =",
+        "if theta_o.is_nan() { super::mark(super::Branch::NanArc); }
+    if theta_o + theta_e > theta_w { super::mark(super::Branch::ArcCut); }
+    let sin_theta_o =",
+    ),
 ];
 
 pub const SAMPLER_MARKS: &[Pair] = &[
@@ -108,6 +207,7 @@ pub const METHODS: &[&str] = &[
     "enumerate",
     "contains",
     "is_finite",
+    "is_nan",
     "insert",
     "len",
     "map_err",
@@ -127,4 +227,21 @@ pub const METHODS: &[&str] = &[
     "and_then",
     "checked_mul",
     "checked_add",
+    "copied",
+    "clone",
+    "drain",
+    "flatten",
+    "get",
+    "is_some",
+    "map_or",
+    "skip",
+    "sort_unstable",
+    "take",
+    "unwrap_or",
+    "surface_area",
+    "importance",
+    "bounds",
+    "parent",
+    "light_handle",
+    "right_child",
 ];

@@ -275,7 +275,10 @@ fn rooms() {
     for (room, start) in [
         ("point 1 2 3 1 1\npoint 1 2 x 1 1".into(), "line 2: 'x' is no number"),
         ("point 1 2 3 1 1\n\nspot 1 2 3 0 0 0 1 1 0.5 0.4".into(), "line 3: lamp 1, a spot: refused 7: "),
-        (format!("group 1 1 one {triangle}{flat}{triangle}\npoint 0 0 0 -1 1"), "line 1: lamp 0, a group, at its triangle 2: refused 9: "),
+        (
+            format!("group 1 1 one {triangle}{flat}{triangle}\npoint 0 0 0 -1 1"),
+            "line 1: lamp 0, a group, at its triangle 2: refused 9: ",
+        ),
         ("point 0 0 0 1 1\npoint 0 0 0 -1 1".into(), "line 2: lamp 1, a point: refused 8: "),
         ("group 1 1 two".into(), "line 1: lamp 0, a group: refused 9: "),
         ("point 0x7fc00000 0 0 1 1".into(), "line 1: lamp 0, a point: refused 5: "),
@@ -283,7 +286,10 @@ fn rooms() {
     ] {
         let output = tool(program, room.as_bytes());
         let (code, text) = said(&output);
-        assert!(code == Some(1) && text.starts_with(start) && text.lines().count() == 1 && output.stdout.is_empty(), "{code:?} {text}");
+        assert!(
+            code == Some(1) && text.starts_with(start) && text.lines().count() == 1 && output.stdout.is_empty(),
+            "{code:?} {text}"
+        );
     }
     assert_eq!(said(&tool("room /nowhere/lamps_to_block", b"")).0, Some(2));
 }

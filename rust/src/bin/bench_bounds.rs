@@ -8,66 +8,144 @@ fn main() {
 #[cfg(reference)]
 fn main() {
     use coltoctober::cases::Random;
-    use coltoctober::proved;
-    use coltoctober::records::{Query, Record};
-    use coltoctober::reference::native_of_words;
-    use coltoctober::timing::{calls, row, INPUTS, SAMPLES};
-    use own::LightBounds;
+    use coltoctober::timing::{INPUTS, SAMPLES};
+    use mixes::{room, Mix};
 
     let mut random = Random::new(0);
-    let records: Vec<Record> = (0..INPUTS).map(|_| random.usual()).collect();
-    let queries: Vec<Query> = (0..INPUTS).map(|_| random.usual_query()).collect();
-    let of_words = |record: &Record| native_of_words(record).unwrap();
-    let bounds: Vec<LightBounds> = records.iter().map(of_words).collect();
-    let vector = |words: &[u32]| [0, 1, 2].map(|i| f32::from_bits(words[i]));
-    let points: Vec<[[f32; 3]; 2]> = queries.iter().map(|query| [vector(&query[..3]), vector(&query[3..])]).collect();
-    let next = |i: usize| (i + 1) % INPUTS;
-
-    let given = (0..INPUTS).filter(|&i| proved::bounds_importance(&records[i], &queries[i]).is_ok_and(|w| w > 0)).count();
+    let records = (0..INPUTS).map(|_| random.usual()).collect();
+    let usual = Mix::new(records, (0..INPUTS).map(|_| random.usual_query()).collect());
     println!(
-        "{INPUTS} records, {given} with an importance above 0; medians of {SAMPLES} samples. Proved: records as words, by C."
+        "{INPUTS} records, {} with an importance above 0; medians of {SAMPLES} samples. Proved: records as words, by C.",
+        usual.lit()
     );
     println!("Rust: the reference with its own library functions, not inlined, its records ready; or read from the same words.");
     println!("function | proved ns | Rust ns | ratio");
-    let mut importance = || calls(|i| proved::bounds_importance(&records[i], &queries[i]).map_or(0, u64::from));
-    let weight = |importance: Option<f32>| importance.map_or(0, |x| x.to_bits().into());
-    row("importance", [&mut importance, &mut || calls(|i| weight(own::importance(&bounds[i], &points[i])))]);
-    row(
-        "importance, Rust from words too",
-        [&mut importance, &mut || {
-            calls(|i| {
-                let query = [vector(&queries[i][..3]), vector(&queries[i][3..])];
-                weight(own::importance(&of_words(&records[i]), &query))
-            })
-        }],
-    );
-    let mut out = [0; 13];
-    let mut union = || {
-        calls(|i| {
-            let number = proved::bounds_union(&records[i], &records[next(i)], &mut out).is_err();
-            u64::from(out[9]) + u64::from(number)
-        })
-    };
-    let power = |joined: Option<LightBounds>| joined.map_or(0, |joined| joined.phi.to_bits().into());
-    row("union", [&mut union, &mut || calls(|i| power(own::union(&bounds[i], &bounds[next(i)])))]);
-    row(
-        "union, Rust from words too",
-        [&mut union, &mut || calls(|i| power(own::union(&of_words(&records[i]), &of_words(&records[next(i)]))))],
-    );
+    usual.importance("importance");
+    usual.union("union");
+    room(&mut random).importance("importance, a room's walk");
 }
 
-/// The reference behind a call, since the linker inlines no proved function either.
 #[cfg(reference)]
-mod own {
-    pub use coltoctober::reference::native::light_bounds::LightBounds;
+mod mixes {
+    use coltoctober::cases::Random;
+    use coltoctober::lists::BLOCK_RECORD;
+    use coltoctober::proved;
+    use coltoctober::records::{Query, Record};
+    use coltoctober::reference::native::{light_bounds::LightBounds, light_bvh::LightBVH};
+    use coltoctober::reference::{native_build_light_bounds, native_of_words, native_to_words, native_tree};
+    use coltoctober::rooms::{walk, Room};
+    use coltoctober::timing::{calls, row, INPUTS};
 
-    #[inline(never)]
-    pub fn importance(record: &LightBounds, [p, n]: &[[f32; 3]; 2]) -> Option<f32> {
-        record.importance(*p, *n).ok()
+    const LAMPS: usize = 512;
+
+    type Point = [[f32; 3]; 2];
+
+    /// Records, each with a query, as words and as the reference takes them.
+    pub struct Mix {
+        records: Vec<Record>,
+        queries: Vec<Query>,
+        bounds: Vec<LightBounds>,
+        points: Vec<Point>,
     }
 
-    #[inline(never)]
-    pub fn union(a: &LightBounds, b: &LightBounds) -> Option<LightBounds> {
-        a.union(*b).ok()
+    fn of_words(record: &Record) -> LightBounds {
+        native_of_words(record).unwrap()
+    }
+
+    fn point(query: &Query) -> Point {
+        [0, 3].map(|from| [0, 1, 2].map(|i| f32::from_bits(query[from + i])))
+    }
+
+    fn next(i: usize) -> usize {
+        (i + 1) % INPUTS
+    }
+
+    impl Mix {
+        pub fn new(records: Vec<Record>, queries: Vec<Query>) -> Mix {
+            let (bounds, points) = (records.iter().map(of_words).collect(), queries.iter().map(point).collect());
+            Mix { records, queries, bounds, points }
+        }
+
+        fn proved(&self, i: usize) -> Result<u32, u32> {
+            proved::bounds_importance(&self.records[i], &self.queries[i])
+        }
+
+        /// How many have an importance above 0.
+        pub fn lit(&self) -> usize {
+            (0..INPUTS).filter(|&i| self.proved(i).is_ok_and(|w| f32::from_bits(w) > 0.0)).count()
+        }
+
+        pub fn importance(&self, label: &str) {
+            let mut importance = || calls(|i| self.proved(i).map_or(0, u64::from));
+            let weight = |importance: Option<f32>| importance.map_or(0, |x| x.to_bits().into());
+            row(label, [&mut importance, &mut || calls(|i| weight(own::importance(&self.bounds[i], &self.points[i])))]);
+            row(
+                &format!("{label}, Rust from words too"),
+                [&mut importance, &mut || {
+                    calls(|i| weight(own::importance(&of_words(&self.records[i]), &point(&self.queries[i]))))
+                }],
+            );
+        }
+
+        /// Each record with the next.
+        pub fn union(&self, label: &str) {
+            let (records, bounds) = (&self.records, &self.bounds);
+            let mut out = [0; 13];
+            let mut union = || {
+                calls(|i| {
+                    let number = proved::bounds_union(&records[i], &records[next(i)], &mut out).is_err();
+                    u64::from(out[9]) + u64::from(number)
+                })
+            };
+            let power = |joined: Option<LightBounds>| joined.map_or(0, |joined| joined.phi.to_bits().into());
+            row(label, [&mut union, &mut || calls(|i| power(own::union(&bounds[i], &bounds[next(i)])))]);
+            row(
+                &format!("{label}, Rust from words too"),
+                [&mut union, &mut || calls(|i| power(own::union(&of_words(&records[i]), &of_words(&records[next(i)]))))],
+            );
+        }
+    }
+
+    /// The tree of a room, and the nodes that draws in the room weigh, one draw after the other, each with its query.
+    fn weighed(random: &mut Random) -> (LightBVH, Vec<(usize, Query)>) {
+        let room = Room::new(random, LAMPS);
+        let mut block = vec![0; 1 + BLOCK_RECORD * LAMPS];
+        native_build_light_bounds(&room.list, &mut block).unwrap();
+        let tree = native_tree(&block).unwrap();
+        let mut weighed = Vec::new();
+        while weighed.len() < INPUTS {
+            let query = room.query(random);
+            let (places, _) = walk(&tree, &query, random.within(1.0).abs());
+            weighed.extend(places.into_iter().map(|place| (place, query)));
+        }
+        weighed.truncate(INPUTS);
+        (tree, weighed)
+    }
+
+    pub fn room(random: &mut Random) -> Mix {
+        let (tree, weighed) = weighed(random);
+        let nodes = || weighed.iter().map(|(place, _)| &tree.nodes[*place]);
+        let records = nodes().map(|node| native_to_words(&node.bounds())).collect();
+        let mix = Mix::new(records, weighed.iter().map(|(_, query)| *query).collect());
+        let inner = nodes().filter(|node| !node.is_leaf()).count();
+        let points = mix.bounds.iter().filter(|record| record.bounds.min == record.bounds.max).count();
+        println!("A room of {LAMPS} lamps, {INPUTS} nodes as draws weigh them, one draw after the other:");
+        println!("{inner} are inner nodes, {points} are points, {} have an importance above 0.", mix.lit());
+        mix
+    }
+
+    /// The reference behind a call, since the linker inlines no proved function either.
+    mod own {
+        use super::LightBounds;
+
+        #[inline(never)]
+        pub fn importance(record: &LightBounds, [p, n]: &[[f32; 3]; 2]) -> Option<f32> {
+            record.importance(*p, *n).ok()
+        }
+
+        #[inline(never)]
+        pub fn union(a: &LightBounds, b: &LightBounds) -> Option<LightBounds> {
+            a.union(*b).ok()
+        }
     }
 }
