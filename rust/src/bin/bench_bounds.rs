@@ -9,7 +9,7 @@ fn main() {
 fn main() {
     use coltoctober::cases::Random;
     use coltoctober::timing::{INPUTS, SAMPLES};
-    use mixes::{room, Mix};
+    use mixes::{Mix, Office};
 
     let mut random = Random::new(0);
     let records = (0..INPUTS).map(|_| random.usual()).collect();
@@ -22,7 +22,9 @@ fn main() {
     println!("function | proved ns | Rust ns | ratio");
     usual.importance("importance");
     usual.union("union");
-    room(&mut random).importance("importance, a room's walk");
+    let office = Office::new(&mut random);
+    office.walks(&mut random).importance("importance, a room's walk");
+    office.all(&mut random).importance("importance, all of a room");
 }
 
 #[cfg(reference)]
@@ -106,32 +108,49 @@ mod mixes {
         }
     }
 
-    /// The tree of a room, and the nodes that draws in the room weigh, one draw after the other, each with its query.
-    fn weighed(random: &mut Random) -> (LightBVH, Vec<(usize, Query)>) {
-        let room = Room::new(random, LAMPS);
-        let mut block = vec![0; 1 + BLOCK_RECORD * LAMPS];
-        native_build_light_bounds(&room.list, &mut block).unwrap();
-        let tree = native_tree(&block).unwrap();
-        let mut weighed = Vec::new();
-        while weighed.len() < INPUTS {
-            let query = room.query(random);
-            let (places, _) = walk(&tree, &query, random.within(1.0).abs());
-            weighed.extend(places.into_iter().map(|place| (place, query)));
-        }
-        weighed.truncate(INPUTS);
-        (tree, weighed)
+    /// A room and its tree.
+    pub struct Office {
+        room: Room,
+        tree: LightBVH,
     }
 
-    pub fn room(random: &mut Random) -> Mix {
-        let (tree, weighed) = weighed(random);
-        let nodes = || weighed.iter().map(|(place, _)| &tree.nodes[*place]);
-        let records = nodes().map(|node| native_to_words(&node.bounds())).collect();
-        let mix = Mix::new(records, weighed.iter().map(|(_, query)| *query).collect());
-        let inner = nodes().filter(|node| !node.is_leaf()).count();
-        let points = mix.bounds.iter().filter(|record| record.bounds.min == record.bounds.max).count();
-        println!("A room of {LAMPS} lamps, {INPUTS} nodes as draws weigh them, one draw after the other:");
-        println!("{inner} are inner nodes, {points} are points, {} have an importance above 0.", mix.lit());
-        mix
+    impl Office {
+        pub fn new(random: &mut Random) -> Office {
+            let room = Room::new(random, LAMPS);
+            let mut block = vec![0; 1 + BLOCK_RECORD * LAMPS];
+            native_build_light_bounds(&room.list, &mut block).unwrap();
+            let tree = native_tree(&block).unwrap();
+            Office { room, tree }
+        }
+
+        /// The nodes that draws in the room weigh, one draw after the other.
+        pub fn walks(&self, random: &mut Random) -> Mix {
+            let mut weighed = Vec::new();
+            while weighed.len() < INPUTS {
+                let query = self.room.query(random);
+                let (places, _) = walk(&self.tree, &query, random.within(1.0).abs());
+                weighed.extend(places.into_iter().map(|place| (place, query)));
+            }
+            self.mix("as draws weigh them, one draw after the other", weighed)
+        }
+
+        /// Every node in turn, lamps and inner nodes, each time for another point.
+        pub fn all(&self, random: &mut Random) -> Mix {
+            let nodes = (0..INPUTS).map(|i| (i % self.tree.nodes.len(), self.room.query(random)));
+            self.mix("in their order, again and again", nodes.collect())
+        }
+
+        fn mix(&self, order: &str, mut weighed: Vec<(usize, Query)>) -> Mix {
+            weighed.truncate(INPUTS);
+            let nodes = || weighed.iter().map(|(place, _)| &self.tree.nodes[*place]);
+            let records = nodes().map(|node| native_to_words(&node.bounds())).collect();
+            let mix = Mix::new(records, weighed.iter().map(|(_, query)| *query).collect());
+            let inner = nodes().filter(|node| !node.is_leaf()).count();
+            let points = mix.bounds.iter().filter(|record| record.bounds.min == record.bounds.max).count();
+            println!("A room of {LAMPS} lamps, {INPUTS} nodes {order}:");
+            println!("{inner} are inner nodes, {points} are points, {} have an importance above 0.", mix.lit());
+            mix
+        }
     }
 
     /// The reference behind a call, since the linker inlines no proved function either.
