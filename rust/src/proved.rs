@@ -77,6 +77,20 @@ unsafe extern "C" {
         work: *mut u32,
         work_len: usize,
     ) -> u32;
+    #[link_name = "tree_build_light_bvh"]
+    fn build_light_bvh(
+        lights: usize,
+        block: *const u32,
+        len: usize,
+        nodes: *mut u32,
+        nodes_len: usize,
+        table: *mut u32,
+        table_len: usize,
+        work: *mut u32,
+        work_len: usize,
+        answer: *mut u32,
+        answer_len: usize,
+    ) -> u32;
 }
 
 /// The word at a place, 0 past the last whole word.
@@ -154,4 +168,32 @@ fn answer(number: u32) -> Result<(), u32> {
     } else {
         Err(number)
     }
+}
+
+/// k and the powered lamps' box, or the refusal's number.
+pub fn tree_build_light_bvh(
+    light_count: u32,
+    block: &[u32],
+    nodes: &mut [u32],
+    table: &mut [u32],
+    work: &mut [u32],
+) -> Result<(u32, Option<[u32; 6]>), u32> {
+    let mut summary = [0; 7];
+    let number = unsafe {
+        build_light_bvh(
+            light_count as usize,
+            block.as_ptr(),
+            block.len(),
+            nodes.as_mut_ptr(),
+            nodes.len(),
+            table.as_mut_ptr(),
+            table.len(),
+            work.as_mut_ptr(),
+            work.len(),
+            summary.as_mut_ptr(),
+            summary.len(),
+        )
+    };
+    let [k, around @ ..] = summary;
+    answer(number).map(|()| (k, (k > 0).then_some(around)))
 }

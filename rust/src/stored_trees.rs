@@ -1,17 +1,18 @@
-//! The stored answers of build, once a program replays them: 253 words, the light records' count, the block's length, how many words
+//! The stored answers of build: 253 words, the light records' count, the block's length, how many words
 //! are lent for nodes, table and work, a refusal's number or 0, k, whether there is a box, the box (6), the block (71), then nodes
 //! (147), table (8) and work (13) as they are after the call (a5a5a5a5 before). The crate `stored` reads at most 256.
 
 use crate::cases::Random;
-use crate::stored::{filled, padded, store, Case, PATTERN};
+use crate::proved;
+use crate::stored::{filled, padded, Answer, Case, PATTERN};
 use crate::trees::{self, Build, Built};
+use std::ops::RangeInclusive;
 
 /// Five lamps, and three words behind each reserve.
 pub const BLOCK: usize = 71;
 pub const TRAYS: [usize; 3] = [147, 8, 13];
 
-const PART: &str = "trees";
-pub const KIND: u32 = 500;
+const KIND: u32 = 500;
 const BLOCK_AT: usize = 14;
 const TRAYS_AT: usize = BLOCK_AT + BLOCK;
 
@@ -35,7 +36,21 @@ impl Stored {
         Stored { light_count, block, rooms, number, built, trays }
     }
 
-    pub fn of(case: &Case) -> Stored {
+    /// Its refusal's number, or 100 and k.
+    fn ending(&self) -> u32 {
+        if self.number == 0 {
+            100 + self.built.0
+        } else {
+            self.number
+        }
+    }
+}
+
+impl Answer for Stored {
+    const PART: &str = "trees";
+    const KINDS: RangeInclusive<u32> = KIND..=KIND;
+
+    fn of(case: &Case) -> Stored {
         let w = &case.words;
         let [nodes, table, work] = TRAYS;
         let tray = |from: usize, length: usize| w[TRAYS_AT + from..TRAYS_AT + from + length].to_vec();
@@ -49,7 +64,7 @@ impl Stored {
         }
     }
 
-    pub fn case(&self) -> Case {
+    fn case(&self) -> Case {
         let [nodes, table, work] = self.rooms.map(|room| room as u32);
         let (k, around) = self.built;
         let head = [self.light_count, self.block.len() as u32, nodes, table, work, self.number, k, around.is_some().into()];
@@ -57,19 +72,11 @@ impl Stored {
         Case { kind: KIND, words: [&head[..], &around.unwrap_or([0; 6]), &block, &self.trays.concat()].concat() }
     }
 
-    /// Its refusal's number, or 100 and k.
-    fn ending(&self) -> u32 {
-        if self.number == 0 {
-            100 + self.built.0
-        } else {
-            self.number
-        }
+    fn proved(&self) -> Stored {
+        let Stored { light_count, block, rooms, .. } = self;
+        let case = trees::Case { light_count: *light_count, block: block.clone(), rooms: *rooms };
+        Stored::new(case, proved::tree_build_light_bvh)
     }
-}
-
-/// Stores the sample for the program replay_trees.
-pub fn store_sample(build: Build) -> std::io::Result<()> {
-    store(PART, &sample(build).iter().map(Stored::case).collect::<Vec<Case>>())
 }
 
 /// The cases to store, always the same, with what a function answers: so many of each ending.

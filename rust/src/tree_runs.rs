@@ -1,9 +1,11 @@
-//! Runs of build over random blocks: the oracle's trees held against what is true of every tree, counted by how each case ended.
+//! Runs of the proved build against the oracle over random blocks, counted by how each case ended; the oracle's trees are held against
+//! what is true of every tree.
 
 use crate::blocks::{check_block, records};
 use crate::cases::Random;
 use crate::lent::{word, Lent};
 use crate::lists::{BLOCK_RECORD, MOST_LAMPS, MOST_WORDS};
+use crate::proved;
 use crate::records::Record;
 use crate::reference::{self, marked, Branch, Branches, INVALID_INDEX, LOST_UNION};
 use crate::runs::{Tally, OWN};
@@ -198,13 +200,15 @@ fn run(seed: u64, cases: u64) -> Tally {
     for _ in 0..cases {
         let case = random.tree_case();
         let before = case.rooms.map(|room| Lent::new(&mut random, room, word));
-        let (mut after, mut own) = (before.clone(), before.clone());
+        let [mut after, mut own, mut ours] = [(); 3].map(|()| before.clone());
         let (answer, branches) = marked(|| built(reference::build_light_bvh, &case, &mut after));
         let own_answer = built(reference::native_build_light_bvh, &case, &mut own);
+        let proved = built(proved::tree_build_light_bvh, &case, &mut ours);
         let flaw = flaw(&case, &before, &after, &answer);
+        let same = flaw.is_none() && proved == answer && ours == after;
         let mut more = ways(&case, &after, &answer, branches);
         more.push(own_answer != answer || own != after);
-        tally.case(&answer, branches, &more, flaw.is_none(), || format!("build_light_bvh({case:08x?}): {answer:?}, {flaw:?}"));
+        tally.case(&answer, branches, &more, same, || format!("build_light_bvh({case:08x?}): {answer:?}, {proved:?}, {flaw:?}"));
     }
     tally
 }

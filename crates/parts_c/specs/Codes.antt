@@ -1,14 +1,19 @@
 -- Answers as words, for C. A record is thirteen words, a query six; too few words or an unknown side are refusal 1. Definitions only. Assumes nothing.
-use Prim.Native.Nat.{ℕ, _+_}
+use Prim.Native.Nat.{ℕ, _+_, _%_}
 use mathlib.Core.Bool.{cond}
-use mathlib.Core.List.{List}
+use mathlib.Core.List.{List, _∷_, _++_}
+use mathlib.Core.Option.{Option, none, some}
 use lib.Dec.{leb}
 use lib.Ieee.{Float, binary32, toBits}
 use lib.ListN.{length}
+use lib.Seq.{sets}
+use Rattle.ieee.specs.Single.{zerof}
 use Rattle.words.specs.Answers.{Answer, given, refused, _then_}
 use Rattle.light_bounds.specs.Importance.{weigh}
 use Rattle.light_bounds.specs.LightBounds.{validate, union}
-use Rattle.light_bounds.specs.RecordWords.{recordAt, recordWords, vecAt}
+use Rattle.light_bounds.specs.RecordWords.{recordAt, recordWords, vecAt, vecWords}
+use Rattle.light_bounds.specs.Vecmath.{vec}
+use Rattle.light_bounds.specs.declared.bounds.Bounds3.{Bounds3}
 use Rattle.light_bounds.specs.declared.importance.Query.{Query}
 use Rattle.light_bounds.specs.declared.light_bounds.LightBounds.{LightBounds}
 
@@ -35,3 +40,20 @@ importanceWords ws qs = cond (leb 6 (length qs)) (recordAt 1 ws 0 then λ r. wei
 -- `room` words are lent for the answer
 unfoldable pub unionWords : List ℕ → List ℕ → ℕ → Answer LightBounds
 unionWords ws vs room = recordAt 1 ws 0 then λ a. recordAt 1 vs 0 then λ b. cond (leb recordWords room) (union a b) (refused 3)
+
+-- ---- the tree's k and box, seven words; zeros for a box that is absent
+
+abbrev pub zeroBox : Bounds3
+zeroBox = record { min = vec zerof zerof zerof; max = vec zerof zerof zerof }
+
+abbrev pub summaryList : ℕ → Bounds3 → List ℕ
+summaryList k b = k % 0x1_0000_0000 ∷ vecWords (b .min) ++ vecWords (b .max)
+
+-- where there are too few words nothing is written
+unfoldable pub summaryWords : List ℕ → List ℕ → List ℕ
+summaryWords before ws = cond (leb 7 (length before)) (sets before 0 ws) before
+
+abbrev pub summarised : Answer (ℕ × Option Bounds3) → List ℕ → List ℕ
+summarised (given (k, some b)) before = summaryWords before (summaryList k b)
+summarised (given (k, none)) before = summaryWords before (summaryList k zeroBox)
+summarised (refused n) before = before

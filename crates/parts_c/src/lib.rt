@@ -12,7 +12,7 @@ ghost use Rattle.words.specs.Fill.{filled};
 ghost use Rattle.words.specs.LittleEndian.{wordsOf, bytesOf, setWord, wordCount, readWords, writtenWords};
 ghost use Rattle.words.specs.Answers.{counted, code};
 ghost use Rattle.words.specs.Tray.{tray};
-ghost use Rattle.parts_c.specs.Codes.{countCode, valueCode, validateWords, importanceWords, unionWords, queryOf};
+ghost use Rattle.parts_c.specs.Codes.{countCode, valueCode, validateWords, importanceWords, unionWords, queryOf, summaryWords, summaryList, summarised};
 ghost use Rattle.trig.specs.Trig.{cos as cosOf, sin as sinOf, acos as acosOf, asin as asinOf};
 ghost use Rattle.light_bounds.specs.Bounds.{validity};
 ghost use Rattle.light_bounds.specs.Importance.{weight};
@@ -21,9 +21,11 @@ ghost use Rattle.light_bounds.specs.RecordWords.{recordList, recordWords};
 ghost use Rattle.lamps.specs.Block.{blockCheck, blockWords, packExhaustiveBounds};
 ghost use Rattle.lamps.specs.Build.{buildLightBounds};
 ghost use Rattle.alias_table.specs.AliasTable.{Bin, buildPowerAliasTable, binWords};
+ghost use Rattle.light_bvh.specs.Build.{buildLightBvh, nodesWritten, tableWritten, workWritten, nodesReserve, workReserve, summary};
 use alias_table::build_power_alias_table;
 use lamps::block::check_block;
 use lamps::build::build_light_bounds;
+use light_bounds::bounds::Bounds3;
 use light_bounds::bounds::Validity;
 use light_bounds::importance::Query;
 use light_bounds::importance::Weight;
@@ -37,6 +39,9 @@ use light_bounds::record_words::RECORD_WORDS;
 use light_bounds::record_words::read_record;
 use light_bounds::record_words::vec_at;
 use light_bounds::record_words::write_record;
+use light_bounds::vecmath::Vec3;
+use light_bvh::build::Built;
+use light_bvh::build::build_light_bvh;
 use words::answers::Counted;
 use words::answers::counted_code;
 use words::fill::zero_words;
@@ -393,4 +398,67 @@ pub extern "C" fn alias_build_power_alias_table(
         (buildPowerAliasTable (now (weights .entry)) (length (now (bins .entry))) (length (now (work .entry)))) (now (work .entry)) ⌝ }
 {
     counted_code(build_power_alias_table(weights, bins, work))
+}
+
+// ---- the tree
+
+// Writes k and the box to the first seven words, where there are as many.
+fn write_summary(answer: &mut [u32], k: usize, bounds: Bounds3)
+    ensures { λ _. ⌜ now (answer .exit) ≡ summaryWords (now (answer .entry)) (summaryList k bounds) ⌝ }
+{
+    if answer.len() >= 7 {
+        answer[0] = (k % 0x1_0000_0000) as u32;
+        answer[1] = word_of_f32(bounds.min.x);
+        answer[2] = word_of_f32(bounds.min.y);
+        answer[3] = word_of_f32(bounds.min.z);
+        answer[4] = word_of_f32(bounds.max.x);
+        answer[5] = word_of_f32(bounds.max.y);
+        answer[6] = word_of_f32(bounds.max.z);
+    }
+}
+
+// 0, with k and the box in the answer's words, or the refusal's number.
+#[no_mangle]
+pub extern "C" fn tree_build_light_bvh(
+    lights: usize,
+    block: &[u32],
+    nodes: &mut [u32],
+    table: &mut [u32],
+    work: &mut [u32],
+    answer: &mut [u32],
+) -> u32
+    ensures { λ r. ⌜ r ≡ code (buildLightBvh lights (now (block .entry)) (length (now (nodes .entry))) (length (now (table .entry)))
+        (length (now (work .entry)))) ⌝ }
+    ensures { λ _. ⌜ now (nodes .exit) ≡ tray nodesWritten (nodesReserve (getD (now (block .entry)) 0 0)) (buildLightBvh lights (now (block .entry)) (length (now (nodes .entry))) (length (now (table .entry)))
+        (length (now (work .entry)))) (now (nodes .entry)) ⌝ }
+    ensures { λ _. ⌜ now (table .exit) ≡ tray tableWritten (getD (now (block .entry)) 0 0) (buildLightBvh lights (now (block .entry)) (length (now (nodes .entry))) (length (now (table .entry)))
+        (length (now (work .entry)))) (now (table .entry)) ⌝ }
+    ensures { λ _. ⌜ now (work .exit) ≡ tray workWritten (workReserve (getD (now (block .entry)) 0 0)) (buildLightBvh lights (now (block .entry)) (length (now (nodes .entry))) (length (now (table .entry)))
+        (length (now (work .entry)))) (now (work .entry)) ⌝ }
+    ensures { λ _. ⌜ now (answer .exit) ≡ summarised (summary (buildLightBvh lights (now (block .entry)) (length (now (nodes .entry))) (length (now (table .entry)))
+        (length (now (work .entry))))) (now (answer .entry)) ⌝ }
+{
+    match build_light_bvh(lights, block, nodes, table, work) {
+        Built::Tree(k, bounds) => {
+            write_summary(answer, k, bounds);
+            0
+        }
+        Built::Nothing => {
+            let zero = Vec3 {
+                x: 0.0,
+                y: 0.0,
+                z: 0.0,
+            };
+            write_summary(
+                answer,
+                0,
+                Bounds3 {
+                    min: zero,
+                    max: zero,
+                },
+            );
+            0
+        }
+        Built::Refused(why) => refusal_number(why),
+    }
 }

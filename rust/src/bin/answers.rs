@@ -10,7 +10,8 @@ fn main() -> std::io::Result<()> {
     oracle::floats()?;
     oracle::bounds()?;
     oracle::lamps()?;
-    oracle::alias()
+    oracle::alias()?;
+    oracle::trees()
 }
 
 #[cfg(reference)]
@@ -18,7 +19,7 @@ mod oracle {
     use coltoctober::cases::{stored_cases, Random};
     use coltoctober::functions::FUNCTIONS;
     use coltoctober::stored::{filled, padded, store, Answer, Case, FLOATS, FLOATS_PART};
-    use coltoctober::{lists, reference, standins, stored_alias, stored_bounds, stored_lamps, trig, weights};
+    use coltoctober::{lists, reference, standins, stored_alias, stored_bounds, stored_lamps, stored_trees, trig, weights};
     use std::io::Result;
 
     /// The stand-ins' answers, held against Rust's own where the two are defined the same.
@@ -93,5 +94,9 @@ mod oracle {
             let case = fits.then(|| Stored::new(&weights, [bins_room, work_room], reference::build_power_alias_table));
             case.map(|case| (case.number, case))
         }))
+    }
+
+    pub fn trees() -> Result<()> {
+        store_all(&stored_trees::sample(reference::build_light_bvh))
     }
 }

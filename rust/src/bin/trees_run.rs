@@ -1,8 +1,8 @@
-//! By hand: `cargo run --release --bin trees_run -- COUNT [SEED]`. So many blocks, the oracle's trees against what is true of every tree.
+//! By hand: `cargo run --release --bin trees_run -- COUNT [SEED]`. So many blocks, proved against oracle.
 
 #[cfg(not(reference))]
 fn main() {
-    coltoctober::absent::stop("there is no oracle to ask");
+    coltoctober::absent::stop("there is no oracle to run against");
 }
 
 #[cfg(reference)]
