@@ -31,7 +31,7 @@ fn path(part: &str, file: &str) -> String {
 }
 
 /// The stored cases of a part.
-fn cases(part: &str) -> Vec<Case> {
+pub fn cases(part: &str) -> Vec<Case> {
     let path = path(part, "stdin");
     let bytes = std::fs::read(&path).unwrap_or_else(|error| panic!("{path}: {error}"));
     let (words, rest) = bytes.as_chunks();

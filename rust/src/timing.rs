@@ -24,6 +24,30 @@ pub fn row(label: &str, mut sides: [&mut dyn FnMut() -> u64; 2]) {
     println!("{label} | {proved:.2} | {own:.2} | {:.2}", proved / own);
 }
 
+/// Prints the medians, in microseconds for a call, of samples of one call or more that the two sides take in turn.
+pub fn builds(label: &str, mut sides: [&mut dyn FnMut() -> u64; 2]) {
+    let calls = sides.each_mut().map(|side| {
+        let began = Instant::now();
+        black_box(side());
+        1 + 2_000_000 / began.elapsed().as_nanos() // samples of two milliseconds or more
+    });
+    let mut samples = [vec![], vec![]];
+    for _ in 0..SAMPLES {
+        for ((side, calls), samples) in sides.iter_mut().zip(calls).zip(&mut samples) {
+            let began = Instant::now();
+            for _ in 0..calls {
+                black_box(side());
+            }
+            samples.push(began.elapsed().as_nanos() as f64 / calls as f64 / 1e3);
+        }
+    }
+    let [proved, own] = samples.map(|mut samples| {
+        samples.sort_by(f64::total_cmp);
+        samples[SAMPLES / 2]
+    });
+    println!("{label} | {proved:.1} | {own:.1} | {:.2}", proved / own);
+}
+
 /// A checksum over all inputs, `call` being given each place and the result before.
 pub fn fold(mut call: impl FnMut(usize, u64) -> u64) -> u64 {
     let (mut sum, mut last) = (0u64, 0);

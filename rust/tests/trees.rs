@@ -1,5 +1,11 @@
-//! The gate's tests of trees: the oracle's build held against what is known by hand, and over random blocks against what is true of
-//! every tree.
+//! The differential runs of the gate: the proved build against the oracle, its stored answers, and the deepest tree; the oracle itself
+//! against what is known by hand and what is true of every tree.
+
+/// The oracle's stored answers, with no need of the reference.
+#[test]
+fn stored_answers() {
+    coltoctober::stored::check::<coltoctober::stored_trees::Stored>(1500);
+}
 
 #[cfg(reference)]
 mod by_hand {
@@ -64,6 +70,21 @@ mod by_hand {
         let (used, unused) = nodes.split_at(NODE * (2 * answer.0 as usize).saturating_sub(1));
         assert!(unused.iter().chain(&work).all(|word| *word == 0));
         (answer, used.as_chunks().0.to_vec(), table)
+    }
+
+    /// The deepest tree's nodes by the proved build, on a thread of 1 MiB.
+    pub fn proved_on_small_stack() -> Vec<[u32; NODE]> {
+        use coltoctober::lists::MOST_LAMPS;
+        use coltoctober::proved::tree_build_light_bvh;
+        use coltoctober::trees::deepest;
+
+        let block = block_of(&deepest(MOST_LAMPS));
+        let build = move || {
+            let [mut nodes, mut table, mut work] = reserves(MOST_LAMPS).map(|reserve| vec![0; reserve]);
+            tree_build_light_bvh(MOST_LAMPS as u32, &block, &mut nodes, &mut table, &mut work).unwrap();
+            nodes.as_chunks().0.to_vec()
+        };
+        std::thread::Builder::new().stack_size(1 << 20).spawn(build).unwrap().join().unwrap()
     }
 
     pub fn table(records: &[Record]) -> Vec<u32> {
@@ -241,6 +262,7 @@ coltoctober::differential! {
 
         let nodes = on_deep_stack(|| tree(&coltoctober::trees::deepest(MOST_LAMPS)).1);
         assert_eq!((nodes.len(), depth(nodes.as_flattened())), (8191, 4095));
+        assert_eq!(by_hand::proved_on_small_stack(), nodes);
     }
 
     /// Random blocks: every refusal and every branch is met, but for a branch that no block reaches and for unions of no power.
@@ -255,18 +277,14 @@ coltoctober::differential! {
         unmet.for_each(|(label, count)| assert_eq!(*count, 0, "{label}"));
     }
 
-    /// The cases that a program will replay: of one size, and read as they were written.
-    fn stored_form() {
+    /// The cases that a program replays are the oracle's.
+    fn stored_sample() {
         use coltoctober::reference::build_light_bvh;
-        use coltoctober::stored_trees::{sample, Stored, KIND};
+        use coltoctober::stored::{cases, Answer, Case};
+        use coltoctober::stored_trees::{sample, Stored};
 
-        let stored = sample(build_light_bvh);
-        assert_eq!(stored.len(), 1500);
-        for stored in stored {
-            let case = stored.case();
-            assert_eq!((case.kind, case.words.len()), (KIND, 253));
-            assert_eq!(Stored::of(&case), stored);
-        }
+        let stored: Vec<Case> = sample(build_light_bvh).iter().map(Answer::case).collect();
+        assert!(stored == cases(Stored::PART), "tools/answers makes them anew");
     }
 
     /// A room is accepted whole; the walk that the benchmark takes its nodes from is the reference's.
