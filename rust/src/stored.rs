@@ -13,6 +13,7 @@ pub const FLOATS_PART: &str = "floats";
 pub const PATTERN: u32 = 0xa5a5_a5a5;
 
 /// A case as it stands in the file.
+#[derive(PartialEq)]
 pub struct Case {
     pub kind: u32,
     pub words: Vec<u32>,
