@@ -50,6 +50,13 @@ module _ (x y : Float) (h : T (not (isNan x))) (k : T (not (isNan y))) where
       go false true n a b = (a tt, le-refl y k)
       go false false n a b = (le-refl x h, b tt)
 
+-- a min is at most its second value, whatever its first is, if that is a NaN too
+pub fmin-cap : (x c : Float) → T (not (isNan c)) → T (le (fmin x c) c)
+unfolding isNan
+fmin-cap nan c k = subst (λ (z : Float). T (le z c)) (sym (fmin-nan c)) (le-refl c k)
+fmin-cap (inf s) c k = fmin-le (inf s) c tt k .1
+fmin-cap (fin s m e) c k = fmin-le (fin s m e) c tt k .1
+
 pub fmin-mono : (x y c : Float) → T (not (isNan c)) → T (le x y) → T (le (fmin x c) (fmin y c))
 fmin-mono x y c n l =
     let b = fmin-le x c (le-left x y l) n in

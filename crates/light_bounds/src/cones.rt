@@ -19,6 +19,7 @@ use floats::choose::min;
 use floats::sqrt::sqrt as root;
 use trig::acos;
 use trig::cos;
+use words::floats::word_of_f32;
 
 // The directions within an angle of one, by its cosine.
 pub struct Cone {
@@ -49,8 +50,20 @@ pub(crate) fn subtended(bounds: Bounds3, p: Vec3, diagonal_length: f32) -> f32
     safe_sqrt(1.0 - radius * radius / d2)
 }
 
-// The cone around both cones.
+// The cone around both cones. One of all directions holds any other.
 pub fn union_direction_cones(a: Vec3, cos_a: f32, b: Vec3, cos_b: f32) -> Cone
+    ensures { λ r. ⌜ r ≡ unionDirectionCones a «cos_a» b «cos_b» ⌝ }
+{
+    if word_of_f32(cos_a) == 0xbf80_0000 {
+        return Cone {
+            direction: a,
+            cos_theta: cos_a,
+        };
+    }
+    union_by_angles(a, cos_a, b, cos_b)
+}
+
+fn union_by_angles(a: Vec3, cos_a: f32, b: Vec3, cos_b: f32) -> Cone
     ensures { λ r. ⌜ r ≡ unionDirectionCones a «cos_a» b «cos_b» ⌝ }
 {
     let theta_a = acos(clamp(cos_a, -1.0, 1.0));

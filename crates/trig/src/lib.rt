@@ -7,6 +7,7 @@ use floats::choose::abs;
 use floats::narrow::narrow;
 use floats::narrow::widen;
 use floats::sqrt::sqrt64;
+use words::floats::word_of_f32;
 
 // One turn of the cosine's series at s = 1, of the sine's at s = 0.
 fn series_step(s: u32, z: f64, m: u32, q: f64) -> f64
@@ -88,8 +89,25 @@ pub fn sin(x: f32) -> f32
     }
 }
 
-// NaN beyond 1 on either side.
+// NaN beyond 1 on either side. Cones are often a point, a half or a whole sphere, whose arcs are known.
 pub fn acos(x: f32) -> f32
+    ensures { λ r. ⌜ r ≡ acosOf x ⌝ }
+{
+    let word = word_of_f32(x);
+    if word == 0x3f80_0000 {
+        return 0.0;
+    }
+    if word == 0xbf80_0000 {
+        return 3.1415927;
+    }
+    if word == 0 {
+        return 1.5707964;
+    }
+    acos_steps(x)
+}
+
+// The same for every argument.
+fn acos_steps(x: f32) -> f32
     ensures { λ r. ⌜ r ≡ acosOf x ⌝ }
 {
     let size = abs(x);
@@ -107,7 +125,17 @@ pub fn acos(x: f32) -> f32
     }
 }
 
+// NaN beyond 1 on either side. Directions are often the same, and then the arc between them is of 0.
 pub fn asin(x: f32) -> f32
+    ensures { λ r. ⌜ r ≡ asinOf x ⌝ }
+{
+    if word_of_f32(x) == 0 {
+        return 0.0;
+    }
+    asin_steps(x)
+}
+
+fn asin_steps(x: f32) -> f32
     ensures { λ r. ⌜ r ≡ asinOf x ⌝ }
 {
     let size = abs(x);

@@ -1,47 +1,22 @@
--- `trig::acos`: the tests of the argument's size and of the argument part as the definition's, and each range is narrowed from its own arcs. Assumes nothing.
-use mathlib.Core.Path.{_∙_, ap}
+-- `trig::acos`: three arcs are known by their arguments' words, and any other goes the common way. Assumes nothing.
+use lib.Ieee.{ofBits}
+use Rattle.trig.specs.Trig.{acos}
+use Rattle.trig.proofs.KnownArcs.{at-word, acos-one, acos-minus-one, acos-zero}
 use borrow.Author.Needs.{needs}
-use lib.Ieee.{Float, binary64, ofBits, sub, div, neg}
-use Rattle.ieee.specs.Narrow.{narrow}
-use Rattle.trig.specs.Series.{one64, arc}
-use Rattle.trig.specs.Trig.{acos, half, pi, halfPi, twiceArc}
-use Rattle.trig.proofs.Sizes.{sized, beyond}
 use Rattle.trig.proofs.acos.Statement.{statement}
 use Rattle.trig.proofs.acos.Tie as tie
 
 returns : tie.Need-returns
-unfolding acos ofBits
-returns c =
-    let t = c .before .before in
-    let i = t .before .before in
-    let x = i .before .before .args .x in
-    rw (sized x one64 (i .before .abs .ensures) (i .if1 .taken), sized x half (i .before .abs .ensures) (t .if2 .taken))
-    (c .narrow .ensures ∙ ap (λ (v : Float). narrow (sub binary64 halfPi v)) (c .before .arc .ensures ∙ ap arc (t .before .widen .ensures)))
+unfolding ofBits
+returns c = at-word acos _ _ _ _ (c .before .before .good .0 .1) (c .before .word-of-f32 .ensures) (c .if1 .taken) acos-one
 
 returns-2 : tie.Need-returns-2
-unfolding acos ofBits
-returns-2 c =
-    let t = c .before .before in
-    let i = t .before .before .before in
-    let x = i .before .before .args .x in
-    rw (sized x one64 (i .before .abs .ensures) (i .if1 .taken), sized x half (i .before .abs .ensures) (t .before .if2 .left), t .if3 .taken)
-    (c .narrow2 .ensures ∙ ap narrow (c .before .twice-arc .ensures ∙ ap twiceArc (t .before .before .widen .ensures)))
+unfolding ofBits
+returns-2 c = at-word acos _ _ _ _ (c .before .before .before .good .0 .1) (c .before .before .word-of-f32 .ensures) (c .if2 .taken) acos-minus-one
 
 returns-3 : tie.Need-returns-3
-unfolding acos ofBits
-returns-3 c =
-    let t = c .before .before in
-    let i = t .before .before .before in
-    let x = i .before .before .args .x in
-    rw (sized x one64 (i .before .abs .ensures) (i .if1 .taken), sized x half (i .before .abs .ensures) (t .before .if2 .left), t .if3 .left)
-    (c .narrow3 .ensures ∙ ap (λ (v : Float). narrow (sub binary64 pi v))
-    (c .before .twice-arc2 .ensures ∙ ap (λ (w : Float). twiceArc (neg w)) (t .before .before .widen .ensures)))
-
-returns-4 : tie.Need-returns-4
-unfolding acos div ofBits
-returns-4 c = beyond (c .before .before .args .x) one64 (c .before .abs .ensures) _ (c .if1 .left)
+unfolding ofBits
+returns-3 c = at-word acos _ _ _ _ (c .before .before .before .before .good .0 .1) (c .before .before .before .word-of-f32 .ensures) (c .if3 .taken) acos-zero
 
 pub acos-spec : {M : Type 1} → statement M
-acos-spec =
-    tie.close (tie.spec (λ c κs. search needs) (λ c κs. search needs) (λ c κs. search needs) (λ c κs. search needs) returns
-    (λ c κs. search needs) (λ c κs. search needs) returns-2 (λ c κs. search needs) (λ c κs. search needs) returns-3 returns-4)
+acos-spec = tie.close (tie.spec (λ c κs. search needs) returns returns-2 returns-3 (λ c κs. search needs) (λ c. search needs))

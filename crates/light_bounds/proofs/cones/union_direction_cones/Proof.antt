@@ -1,55 +1,46 @@
--- `light_bounds::cones::union_direction_cones` meets its contract: the first cone, the second, or the one around both. Assumes nothing.
-use mathlib.Core.Path.{_≡_, sym, _∙_, ap}
-use lib.Ieee.{neg, ofBits}
+-- `light_bounds::cones::union_direction_cones` meets its contract: the angle of all directions is PI, and the first test's sum is cut to PI. Assumes nothing.
+use mathlib.Core.Path.{_≡_, refl, sym, _∙_, ap, subst}
+use mathlib.Core.Bool.{Bool, true, cond}
+use lib.Dec.{T}
+use lib.Ieee.{Float, binary32, ofBits, toBits, lt, le, isNan}
+use lib.Ieee.Bits.{ofBits-toBits}
 use Rattle.ieee.specs.Choose.{fmin, clamp}
+use Rattle.ieee.specs.ChooseOrder.{fmin-cap}
 use Rattle.ieee.specs.Single.{_⊕_, onef, minusOne, pi}
 use Rattle.trig.specs.Trig.{acos}
-use Rattle.light_bounds.specs.Cones.{unionDirectionCones}
+use Rattle.trig.proofs.KnownArcs.{acos-minus-one}
+use Rattle.light_bounds.specs.Cones.{unionDirectionCones, cone}
 use Rattle.light_bounds.specs.Vecmath.{angleBetween}
+use Rattle.light_bounds.specs.declared.vecmath.Vec3.{Vec3}
 use borrow.Author.Needs.{needs}
 use Rattle.light_bounds.proofs.cones.union_direction_cones.Statement.{statement}
 use Rattle.light_bounds.proofs.cones.union_direction_cones.Tie as tie
 
--- the three angles
-theta-a : (c : tie.After-acos) → acos (clamp (c .before .before .args .cos-a) minusOne onef) ≡ c .acos .result
-unfolding neg ofBits
-theta-a c = sym (c .acos .ensures ∙ ap acos (c .before .clamp .ensures))
+unclamped : clamp minusOne minusOne onef ≡ minusOne
+unfolding clamp ofBits lt isNan
+unclamped = refl
 
-theta-b : (c : tie.After-acos2) → acos (clamp (c .before .before .before .before .args .cos-b) minusOne onef) ≡ c .acos2 .result
-unfolding neg ofBits
-theta-b c = sym (c .acos2 .ensures ∙ ap acos (c .before .clamp2 .ensures))
+whole-turn : acos (clamp minusOne minusOne onef) ≡ pi
+whole-turn = ap acos unclamped ∙ sym acos-minus-one
 
-theta-d : (c : tie.After-angle-between) → (let s = c .before .before .before .before .before .args in angleBetween (s .a) (s .b)) ≡ c .angle-between .result
-theta-d c = sym (c .angle-between .ensures)
+cut : (x : Float) → le (fmin x pi) pi ≡ true
+unfolding ofBits isNan
+cut x = go (le (fmin x pi) pi) (fmin-cap x pi tt)
+  where
+    go : (b : Bool) → T b → b ≡ true
+    go true t = refl
 
--- the two sums, at most half a turn
-first : (c : tie.After-min) → fmin (c .before .angle-between .result ⊕ c .before .before .acos2 .result) pi ≡ c .min .result
-first c = sym (c .min .ensures)
-
-second : (c : tie.After-min2) → fmin (c .before .before .before .angle-between .result ⊕
-    c .before .before .before .before .before .before .acos .result) pi ≡ c .min2 .result
-second c = sym (c .min2 .ensures)
+all-directions : (a : Vec3) (b : Vec3) (cosB : Float) → unionDirectionCones a minusOne b cosB ≡ cone a minusOne
+unfolding unionDirectionCones
+all-directions a b cosB = rw whole-turn (rw (cut (angleBetween a b ⊕ acos (clamp cosB minusOne onef))) refl)
 
 returns : tie.Need-returns
-unfolding unionDirectionCones
+unfolding ofBits
 returns c =
-    rw (theta-a (c .before .before .before .before .before), theta-b (c .before .before .before), theta-d (c .before .before), first (c .before))
-    (rw (c .if1 .taken))
-
-returns-2 : tie.Need-returns-2
-unfolding unionDirectionCones
-returns-2 c = rw (theta-a (c .before .before .before .before .before .before .before), theta-b (c .before .before .before .before .before))
-    (rw (theta-d (c .before .before .before .before), first (c .before .before .before), c .before .before .if1 .left, second (c .before))
-    (rw (c .if2 .taken)))
-
-returns-3 : tie.Need-returns-3
-unfolding unionDirectionCones
-returns-3 c =
-    rw (theta-a (c .before .before .before .before .before .before .before .before), theta-b (c .before .before .before .before .before .before))
-    (rw (theta-d (c .before .before .before .before .before), first (c .before .before .before .before), c .before .before .before .if1 .left)
-    (rw (second (c .before .before), c .before .if2 .left) (c .join .ensures)))
+    let s = c .before .before in
+    let is : s .args .cos-a ≡ minusOne =
+    sym (ofBits-toBits binary32 (s .args .cos-a) (subst T (sym (s .good .1 .0 .1)) tt)) ∙ ap (ofBits binary32) (sym (c .before .word-of-f32 .ensures) ∙ c .if1 .taken) in
+    rw is (sym (all-directions (s .args .a) (s .args .b) (s .args .cos-b)))
 
 pub union-direction-cones-spec : {M : Type 1} → statement M
-union-direction-cones-spec =
-    tie.close (tie.spec (λ c κs. search needs) (λ c κs. search needs) (λ c κs. search needs) (λ c κs. search needs) (λ c κs. search needs)
-    (λ c κs. search needs) returns (λ c κs. search needs) returns-2 (λ c κs. search needs) returns-3)
+union-direction-cones-spec = tie.close (tie.spec (λ c κs. search needs) returns (λ c κs. search needs) (λ c. search needs))
