@@ -1,1 +1,3 @@
 pub mod StretchLaws
+pub mod BuiltTrees
+pub mod RecordsOfTree

@@ -1,7 +1,7 @@
 -- Laws of stretches of handles. The handles of the powered lamps ascend and are below the number of rows (`bounded-ascends`, `bounded-below`), and both halves
--- of an ascending stretch ascend (`partition-ascends`), so the Rust's sort before a cut at the middle changes nothing (`sort-changes-nothing`). Each half of two
--- handles or more has one at least, and each handle stands in the halves as often as in the stretch (`halves-some`, `halves-length`, `halves-count`). Assumes
--- nothing.
+-- of an ascending stretch ascend (`partition-ascends`), so the Rust's sort before a cut at the middle changes nothing (`sort-changes-nothing`). Each half of
+-- two handles or more has one at least, and each handle stands in the halves as often as in the stretch (`halves-some`, `halves-length`, `halves-count`).
+-- Assumes nothing.
 use Prim.Native.Nat.{ℕ, zero, suc, _+_, _/_, _≤_, _<_}
 use mathlib.Core.Path.{_≡_, refl, ap, sym, _∙_}
 use mathlib.Core.Bool.{Bool, true, false, cond, not, _||_}
