@@ -1,3 +1,4 @@
 pub mod StretchLaws
 pub mod BuiltTrees
 pub mod RecordsOfTree
+pub mod LeafLaws

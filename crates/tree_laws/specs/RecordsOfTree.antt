@@ -8,7 +8,7 @@ use mathlib.Core.List.{List, [], _∷_}
 use lib.Dec.{T}
 use lib.Ieee.{lt}
 use Rattle.ieee.specs.Single.{zerof}
-use Rattle.words.specs.Answers.{given, _then_}
+use Rattle.words.specs.Answers.{given}
 use Rattle.words.proofs.AnswerLaws.{then-given}
 use Rattle.light_bounds.specs.BoundsLaws.{Holds, union-given, union-power, union-holds}
 use Rattle.light_bounds.specs.LightBounds.{validate, join, union}
@@ -17,8 +17,6 @@ use Rattle.light_bounds.specs.declared.light_bounds.LightBounds.{LightBounds}
 use Rattle.lamps.specs.Block.{recordPlace}
 use Rattle.light_nodes.specs.Tree.{Tree, leaf, fork, bounds}
 use Rattle.light_split.specs.Lights.{lightOf}
-use Rattle.light_split.specs.Partition.{partitionHandles}
-use Rattle.light_split.specs.declared.split.Split.{Split}
 use Rattle.light_bvh.specs.Build.{isPowered, boundedHandles, validated}
 use Rattle.light_bvh.specs.Subtree.{buildSubtree}
 use Rattle.tree_laws.specs.BuiltTrees.{built-holds}
