@@ -2,3 +2,4 @@ pub mod StretchLaws
 pub mod BuiltTrees
 pub mod RecordsOfTree
 pub mod LeafLaws
+pub mod PlaceLaws

@@ -8,7 +8,7 @@ use mathlib.Core.Bool.{Bool, true, false, cond, not, _||_}
 use mathlib.Core.List.{List, [], _∷_, _++_, append-nil}
 use mathlib.Core.Logic.{_⊎_, inl, inr}
 use native.Mathlib.Omega.{arith}
-use borrow.Author.Tests.{le-leb, eqb-true, eqb-false}
+use borrow.Author.Tests.{le-leb, eqb-true, eqb-false, eq-eqb}
 use lib.Dec.{leb, eqb}
 use lib.ListN.{length, take, drop, length-append, length-drop}
 use lib.Seq.{length-take-le}
@@ -28,6 +28,10 @@ module _ (P : ℕ → Type 0) where
   pub each-append : (xs ys : List ℕ) → Each P xs → Each P ys → Each P (xs ++ ys)
   each-append [] ys h k = k
   each-append (x ∷ xs) ys h k = (h .0, each-append xs ys (h .1) k)
+
+  pub each-parts : (xs ys : List ℕ) → Each P (xs ++ ys) → Each P xs × Each P ys
+  each-parts [] ys h = (tt, h)
+  each-parts (x ∷ xs) ys h = let (k, l) = each-parts xs ys (h .1) in ((h .0, k), l)
 
   pub each-take : (n : ℕ) (xs : List ℕ) → Each P xs → Each P (take n xs)
   each-take zero xs h = tt
@@ -241,6 +245,11 @@ each-counted P x (y ∷ ys) h l = go (eqb x y) refl l (λ l′. each-counted P x
     go : (b : Bool) → eqb x y ≡ b → 1 ≤ cond b 1 0 + count x ys → (1 ≤ count x ys → P x) → P x
     go true e l later = rw (eqb-true x y e) (h .0)
     go false e l later = later (omega arith)
+
+pub counted-each : (P : ℕ → Type 0) (xs : List ℕ) → ((x : ℕ) → 1 ≤ count x xs → P x) → Each P xs
+unfolding count
+counted-each P [] h = tt
+counted-each P (y ∷ ys) h = (h y (rw (eq-eqb y y refl) (omega arith)), counted-each P ys (λ x l. h x (omega arith)))
 
 count-sides : (b : Bool) (x y : ℕ) (xs ys : List ℕ) (n : ℕ) → count x xs + count x ys ≡ n
     → count x (cond b (y ∷ xs) xs) + count x (cond (not b) (y ∷ ys) ys) ≡ once x y + n
