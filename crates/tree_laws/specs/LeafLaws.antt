@@ -1,8 +1,8 @@
--- The leaves of a tree that is built: as many as its stretch has handles, in 2 k - 1 nodes (`built-leaves`, `built-words`), and each handle a leaf as often as
--- it stands in the stretch, where the rows are labelled by their places (`built-count`). So of a block's powered lamps each is a leaf once, and no other number
--- is one (`tree-count`, `powered-once`, `others-never`). Assumes nothing.
+-- The leaves of a tree that is built: as many as its stretch has handles, in 2 k - 1 nodes (`built-leaves`, `built-words`), and, where the rows are labelled by
+-- their places, each handle a leaf as often as it stands in the stretch, with its row's record (`built-count`, `built-records`). So of a block's powered lamps
+-- each is a leaf once, and no other number is one (`tree-count`, `powered-once`, `others-never`). Assumes nothing.
 use Prim.Native.Nat.{ℕ, zero, suc, _+_, _*_, _-_, _<_}
-use mathlib.Core.Path.{_≡_, refl, ap, subst, _∙_}
+use mathlib.Core.Path.{_≡_, refl, ap, subst, sym, _∙_}
 use mathlib.Core.Bool.{Bool, true, false, cond, _&&_}
 use mathlib.Core.List.{List, [], _∷_}
 use native.Mathlib.Omega.{arith}
@@ -13,10 +13,12 @@ use Rattle.words.specs.Answers.{given, refused}
 use Rattle.words.specs.Rows.{below}
 use Rattle.words.proofs.AnswerLaws.{given-injective, not-both}
 use Rattle.words.proofs.RowLaws.{below-at}
+use Rattle.light_bounds.specs.declared.light_bounds.LightBounds.{LightBounds}
 use Rattle.lamps.specs.Block.{handleAt, blockHandles}
 use Rattle.light_nodes.specs.Nodes.{nodeWords, invalidIndex}
-use Rattle.light_nodes.specs.Tree.{Tree, leaves, leafHandles, treeWords}
+use Rattle.light_nodes.specs.Tree.{Tree, leaf, fork, leaves, leafHandles, treeWords}
 use Rattle.light_nodes.specs.TreeLaws.{leaves-pos, length-flatten}
+use Rattle.light_split.specs.Lights.{lightOf}
 use Rattle.light_bvh.specs.Build.{isPowered, boundedHandles}
 use Rattle.light_bvh.specs.Subtree.{labelOf, buildSubtree}
 use Rattle.tree_laws.specs.BuiltTrees.{built-holds}
@@ -48,6 +50,18 @@ built-count ws n hs t e =
     (λ hs s l r b two e holds-l holds-r each x.
     let halves = halves-each ws hs s (Labelled ws) each in
     count-append x (leafHandles l) (leafHandles r) ∙ omega (arith, holds-l (halves .0) x, holds-r (halves .1) x, halves-count ws hs s x)) n hs t e
+
+-- each leaf's record is its label's
+abbrev pub LeavesBy : (ℕ → LightBounds) → Tree → Type 0
+LeavesBy f (leaf h b) = b ≡ f h
+LeavesBy f (fork b l r) = LeavesBy f l × LeavesBy f r
+
+pub built-records : (ws : List ℕ) (n : ℕ) (hs : List ℕ) (t : Tree) → buildSubtree ws n hs ≡ given t → Each (Labelled ws) hs → LeavesBy (lightOf ws) t
+built-records ws n hs t e =
+    built-holds ws (λ (hs : List ℕ) (t : Tree). Each (Labelled ws) hs → LeavesBy (lightOf ws) t)
+    (λ h each. ap (λ (k : ℕ). lightOf ws k) (sym (each .0)))
+    (λ hs s l r b two e holds-l holds-r each.
+    let halves = halves-each ws hs s (Labelled ws) each in (holds-l (halves .0), holds-r (halves .1))) n hs t e
 
 -- ---- the powered lamps
 

@@ -3,3 +3,4 @@ pub mod BuiltTrees
 pub mod RecordsOfTree
 pub mod LeafLaws
 pub mod PlaceLaws
+pub mod AcceptedTree

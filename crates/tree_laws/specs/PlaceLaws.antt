@@ -2,7 +2,7 @@
 -- (`nodeIn-some`, `place-at`, `place-read`). The handle table has, at a label that stands once among the leaves, the place of its leaf, and at a number that is
 -- no label what it had (`tabled-at`, `placeOf-node`, `tabled-other`), the invalid index where it was filled so (`table-leaf`, `table-other`). Assumes nothing.
 use Prim.Native.Nat.{ℕ, zero, suc, _+_, _*_, _-_, _≤_, _<_}
-use mathlib.Core.Path.{_≡_, refl, subst, sym, _∙_}
+use mathlib.Core.Path.{_≡_, refl, ap, subst, sym, _∙_}
 use mathlib.Core.Bool.{Bool, true, false, cond}
 use mathlib.Core.List.{List, [], _∷_, _++_, append-assoc, append-nil}
 use mathlib.Core.Logic.{_⊎_, inl, inr, ⊎-elim}
@@ -20,6 +20,7 @@ use Rattle.light_nodes.specs.Nodes.{LightBVHNode, leaf as leafNode, interior, i
 use Rattle.light_nodes.specs.Tree.{Tree, leaf, fork, bounds, leaves, leafHandles, rightPlace, flatten, treeWords}
 use Rattle.light_nodes.specs.TreeLaws.{headFits, leaves-pos, root, root-at, root-bounds-at, left-place, right-place}
 use Rattle.light_bvh.specs.Build.{tabled}
+use Rattle.tree_laws.specs.LeafLaws.{LeavesBy}
 use Rattle.tree_laws.specs.RecordsOfTree.{Sound}
 use Rattle.tree_laws.specs.StretchLaws.{Each, each-parts, once, count, count-append}
 
@@ -99,6 +100,30 @@ nodeIn-some at p (fork b l r) i low high =
         let (x, is) = right above (omega (arith, leaves-pos l, leaves-pos r)) in
         (x, rw (nodeIn-right at p b l r i above) is)
 
+abbrev labelIn : LightBVHNode → ℕ
+labelIn (leafNode h p) = h
+labelIn (interior l r p) = 0
+
+abbrev IsInterior : LightBVHNode → Type 0
+IsInterior (leafNode h p) = ⊥
+IsInterior (interior l r p) = Unit
+
+interior-leaf : {l r p h q : ℕ} {c b : LightBounds} → _≡_ {A = LightBVHNode × LightBounds} (interior l r p, c) (leafNode h q, b) → ⊥
+interior-leaf e = subst (λ (x : LightBVHNode × LightBounds). IsInterior (x .0)) e tt
+
+-- where each leaf's record is its label's, so is that of a leaf at a place
+pub nodeIn-record : (f : ℕ → LightBounds) (at p : ℕ) (t : Tree) (i h q : ℕ) (b : LightBounds) → LeavesBy f t
+    → nodeIn at p t i ≡ some (leafNode h q, b) → b ≡ f h
+nodeIn-record f at p (leaf k c) i h q b is e =
+    let same = Option·some-injective (leafNode k p, c) (leafNode h q, b) (nodeIn-leaf at p k c i (leafNode h q, b) e .1) in
+    let label : k ≡ h = ap (λ (x : LightBVHNode × LightBounds). labelIn (x .0)) same in
+    sym (ap (λ (x : LightBVHNode × LightBounds). x .1) same) ∙ is ∙ ap f label
+nodeIn-record f at p (fork c l r) i h q b is e =
+    ⊎-elim
+    (λ here. absurd (interior-leaf (Option·some-injective (interior (at + 1) (rightPlace at l) p, c) (leafNode h q, b) (here .1))))
+    (λ under. ⊎-elim (λ g. nodeIn-record f (at + 1) at l i h q b (is .0) g) (λ g. nodeIn-record f (rightPlace at l) at r i h q b (is .1) g) under)
+    (nodeIn-fork at p c l r i (leafNode h q, b) e)
+
 -- ---- read from words
 
 abbrev pub RecordsFit : Tree → Type 0
@@ -160,11 +185,15 @@ place-at (fork b l r) ps ss at p i x place low labels fit e =
     (nodeIn-fork at p b l r i x e)
 
 -- each node of a tree is read from the tree's words, and its record
-pub place-read : (t : Tree) (i : ℕ) → i < 2 * leaves t - 1 → 2 * leaves t - 1 ≤ headEnd → LabelsFit t → RecordsFit t
-    → (x : LightBVHNode × LightBounds) × (nodeIn 0 invalidIndex t i ≡ some x) × Reads (treeWords t) i x
-place-read t i below low labels fit =
-    let (x, is) = nodeIn-some 0 invalidIndex t i (omega arith) (omega arith) in
-    (x, is, subst (λ (ws : List ℕ). Reads ws i x) (append-nil (treeWords t)) (place-at t [] [] 0 invalidIndex i x refl (omega arith) labels fit is))
+module _ (t : Tree) (low : 2 * leaves t - 1 ≤ headEnd) (labels : LabelsFit t) (fit : RecordsFit t) (i : ℕ) where
+  pub node-read : (x : LightBVHNode × LightBounds) → nodeIn 0 invalidIndex t i ≡ some x → Reads (treeWords t) i x
+  node-read x is =
+      subst (λ (ws : List ℕ). Reads ws i x) (append-nil (treeWords t)) (place-at t [] [] 0 invalidIndex i x refl (omega arith) labels fit is)
+
+  pub place-read : i < 2 * leaves t - 1 → (x : LightBVHNode × LightBounds) × (nodeIn 0 invalidIndex t i ≡ some x) × Reads (treeWords t) i x
+  place-read below =
+      let (x, is) = nodeIn-some 0 invalidIndex t i (omega arith) (omega arith) in
+      (x, is, node-read x is)
 
 -- ---- the place of a leaf
 

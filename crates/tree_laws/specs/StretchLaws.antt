@@ -1,14 +1,14 @@
 -- Laws of stretches of handles. The handles of the powered lamps ascend and are below the number of rows (`bounded-ascends`, `bounded-below`), and both halves
--- of an ascending stretch ascend (`partition-ascends`), so the Rust's sort before a cut at the middle changes nothing (`sort-changes-nothing`). Each half of
--- two handles or more has one at least, and each handle stands in the halves as often as in the stretch (`halves-some`, `halves-length`, `halves-count`).
--- Assumes nothing.
+-- of an ascending stretch ascend (`partition-ascends`), so the Rust's sort before a cut at the middle changes nothing in any stretch of a build
+-- (`sort-changes-nothing`, `build-sorts-nothing`). Each half of two handles or more has one at least, and each handle stands in the halves as often as in the
+-- stretch (`halves-some`, `halves-length`, `halves-count`). Assumes nothing.
 use Prim.Native.Nat.{ℕ, zero, suc, _+_, _/_, _≤_, _<_}
 use mathlib.Core.Path.{_≡_, refl, ap, sym, _∙_}
 use mathlib.Core.Bool.{Bool, true, false, cond, not, _||_}
 use mathlib.Core.List.{List, [], _∷_, _++_, append-nil}
 use mathlib.Core.Logic.{_⊎_, inl, inr}
 use native.Mathlib.Omega.{arith}
-use borrow.Author.Tests.{le-leb, eqb-true, eqb-false, eq-eqb}
+use borrow.Author.Tests.{le-leb, leb-true, leb-false, eqb-true, eqb-false, eq-eqb}
 use lib.Dec.{leb, eqb}
 use lib.ListN.{length, take, drop, length-append, length-drop}
 use lib.Seq.{length-take-le}
@@ -139,6 +139,15 @@ bounded-ascends ws (suc n) = one (isPowered ws n) (bounded-ascends ws n)
     one true h = ascends-snoc n (boundedHandles ws n) (bounded-below ws n) h
     one false h = rw (append-nil (boundedHandles ws n)) h
 
+pub bounded-length : (ws : List ℕ) (m : ℕ) → length (boundedHandles ws m) ≤ m
+unfolding boundedHandles
+bounded-length ws zero = omega arith
+bounded-length ws (suc n) = rw (length-append (boundedHandles ws n) (cond (isPowered ws n) (n ∷ []) [])) (one (isPowered ws n) (bounded-length ws n))
+  where
+    one : (b : Bool) → length (boundedHandles ws n) ≤ n → length (boundedHandles ws n) + length (cond b (n ∷ []) []) ≤ suc n
+    one true h = omega arith
+    one false h = omega arith
+
 -- ---- the halves
 
 no-length : (xs : List ℕ) → length xs ≡ 0 → xs ≡ []
@@ -222,6 +231,22 @@ pub sort-changes-nothing : (ws hs : List ℕ) (s : Split) → Ascends hs → (le
     → sorted (lefts ws hs s ++ rights ws hs s) ≡ lefts ws hs s ++ rights ws hs s
 sort-changes-nothing ws hs s h empty = sorted-ascending (lefts ws hs s ++ rights ws hs s) (sides-ascend ws hs s h empty)
 
+-- the stretches of a build: the whole, and the halves of each, wherever it is split
+pub data Stretch (ws hs : List ℕ) : List ℕ → Type 0 where
+  whole : Stretch ws hs hs
+  left-half : {xs : List ℕ} (s : Split) → Stretch ws hs xs → Stretch ws hs (partitionHandles ws xs s .0)
+  right-half : {xs : List ℕ} (s : Split) → Stretch ws hs xs → Stretch ws hs (partitionHandles ws xs s .1)
+
+pub stretch-ascends : {ws hs xs : List ℕ} → Ascends hs → Stretch ws hs xs → Ascends xs
+stretch-ascends h whole = h
+stretch-ascends {ws} h (left-half {xs} s p) = partition-ascends ws xs s (stretch-ascends h p) .0
+stretch-ascends {ws} h (right-half {xs} s p) = partition-ascends ws xs s (stretch-ascends h p) .1
+
+-- so no stretch of the powered lamps' build is changed by it
+pub build-sorts-nothing : {ws xs : List ℕ} (m : ℕ) (s : Split) → Stretch ws (boundedHandles ws m) xs → (lefts ws xs s ≡ []) ⊎ (rights ws xs s ≡ [])
+    → sorted (lefts ws xs s ++ rights ws xs s) ≡ lefts ws xs s ++ rights ws xs s
+build-sorts-nothing {ws} {xs} m s p empty = sort-changes-nothing ws xs s (stretch-ascends (bounded-ascends ws m) p) empty
+
 -- ---- how often a number stands in a list
 
 abbrev pub once : ℕ → ℕ → ℕ
@@ -262,6 +287,57 @@ pub count-kept : (l r : ℕ → Bool) → ((h : ℕ) → r h ≡ not (l h)) → 
 unfolding kept count
 count-kept l r other x [] = refl
 count-kept l r other x (y ∷ ys) = rw (other y) (count-sides (l y) x y (kept l ys) (kept r ys) (count x ys) (count-kept l r other x ys))
+
+-- ---- the sort is one: of the same numbers, none above the next
+
+count-swap : (b : Bool) (x z y : ℕ) (ys zs : List ℕ) → count x zs ≡ once x z + count x ys → count x (cond b (z ∷ y ∷ ys) (y ∷ zs)) ≡ once x z + count x (y ∷ ys)
+unfolding count
+count-swap true x z y ys zs e = refl
+count-swap false x z y ys zs e = omega arith
+
+count-insert : (x z : ℕ) (xs : List ℕ) → count x (insert z xs) ≡ once x z + count x xs
+unfolding insert count
+count-insert x z [] = refl
+count-insert x z (y ∷ ys) = count-swap (leb z y) x z y ys (insert z ys) (count-insert x z ys)
+
+pub sorted-count : (x : ℕ) (xs : List ℕ) → count x (sorted xs) ≡ count x xs
+unfolding sorted count
+sorted-count x [] = refl
+sorted-count x (y ∷ ys) = count-insert x y (sorted ys) ∙ ap (λ (n : ℕ). once x y + n) (sorted-count x ys)
+
+-- at most the first, and none above the next
+abbrev pub From : ℕ → List ℕ → Type 0
+From x [] = Unit
+From x (y ∷ ys) = (x ≤ y) × From y ys
+
+abbrev pub Rises : List ℕ → Type 0
+Rises [] = Unit
+Rises (x ∷ xs) = From x xs
+
+from-insert : (w z : ℕ) (xs : List ℕ) → w ≤ z → From w xs → From w (insert z xs)
+unfolding insert
+from-insert w z [] l h = (l, tt)
+from-insert w z (y ∷ ys) l h = go (leb z y) refl (λ k. from-insert y z ys k (h .1))
+  where
+    go : (b : Bool) → leb z y ≡ b → (y ≤ z → From y (insert z ys)) → From w (cond b (z ∷ y ∷ ys) (y ∷ insert z ys))
+    go true e later = (l, (leb-true z y e, h .1))
+    go false e later = (h .0, later (omega (arith, leb-false z y e)))
+
+rises-insert : (z : ℕ) (xs : List ℕ) → Rises xs → Rises (insert z xs)
+unfolding insert
+rises-insert z [] h = tt
+rises-insert z (y ∷ ys) h = go (leb z y) refl
+  where
+    go : (b : Bool) → leb z y ≡ b → Rises (cond b (z ∷ y ∷ ys) (y ∷ insert z ys))
+    go true e = (leb-true z y e, h)
+    go false e = from-insert y z ys (omega (arith, leb-false z y e)) h
+
+pub sorted-rises : (xs : List ℕ) → Rises (sorted xs)
+unfolding sorted
+sorted-rises [] = tt
+sorted-rises (x ∷ xs) = rises-insert x (sorted xs) (sorted-rises xs)
+
+-- ---- how often in the halves
 
 module _ (ws hs : List ℕ) (s : Split) where
   pub sides-count : (x : ℕ) → count x (lefts ws hs s) + count x (rights ws hs s) ≡ count x hs
