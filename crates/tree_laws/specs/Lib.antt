@@ -1,0 +1,6 @@
+pub mod StretchLaws
+pub mod BuiltTrees
+pub mod RecordsOfTree
+pub mod LeafLaws
+pub mod PlaceLaws
+pub mod AcceptedTree

@@ -1,0 +1,1 @@
+// Laws of the built light tree that no code cites: specs/.
