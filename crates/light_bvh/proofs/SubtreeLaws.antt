@@ -7,7 +7,7 @@ use mathlib.Core.Bool.{Bool, true, false, cond, _&&_}
 use mathlib.Core.List.{List, [], _∷_, _++_, append-nil, append-assoc}
 use mathlib.Core.Logic.{_⊎_, inl, inr}
 use native.Mathlib.Omega.{arith}
-use borrow.Author.Tests.{eqb-true, eqb-false}
+use borrow.Author.Tests.{eqb-true, eqb-false, le-ltb}
 use lib.Dec.{eqb, leb}
 use lib.ListN.{length, getD, length-append}
 use lib.Seq.{sets-eq, drop-at}
@@ -24,7 +24,7 @@ use Rattle.light_nodes.specs.Tree.{Tree, leaf, fork, bounds, leaves, flatten, r
 use Rattle.light_nodes.specs.TreeLaws.{length-nodeList, length-flatten, root-bounds-at, leaves-pos}
 use Rattle.light_nodes.proofs.NodePlaces.{nodeWritten-room}
 use Rattle.light_split.specs.Lights.{lightOf}
-use Rattle.light_split.specs.Partition.{lefts, rights, partitionHandles}
+use Rattle.light_split.specs.Partition.{lefts, rights, partitionHandles, partedCount, partedHandles}
 use Rattle.light_split.specs.Split.{chooseSplit}
 use Rattle.light_split.specs.declared.split.Split.{Split}
 use Rattle.light_split.proofs.PartitionLaws.{both-lengths, partition-joined, partition-half, partition-both}
@@ -219,3 +219,14 @@ module _ (root : List ℕ) (at p : ℕ) (l r : Tree) (room : length root ≡ nod
       ∙ sets-eq node (root ++ rest) 0 (omega arith)
       ∙ ap (λ (xs : List ℕ). node ++ xs) (drop-at root rest (0 + length node) (omega arith))
       ∙ sym (append-assoc node (flatten (at + 1) at l) (flatten (rightPlace at l) at r)))
+
+-- ---- the stretch as it is parted, by a work that is as long
+
+module _ (ws hs : List ℕ) (s : Split) (room : ℕ) (e : chooseSplit ws hs ≡ given s) (h : length hs ≤ room) where
+  pub parted-count : partedCount ws hs s room ≡ splitCount ws hs
+  unfolding partedCount splitCount _then_
+  parted-count = rw (e, le-ltb room (length hs) h)
+
+  pub parted-handles : partedHandles ws hs s room ≡ splitHandles ws hs
+  unfolding partedHandles splitHandles
+  parted-handles = rw (e, le-ltb room (length hs) h)
