@@ -1,7 +1,7 @@
 -- The tree of a stretch by those of its halves. Each half has a handle, and both together have the stretch's (`halves`), so the depth that bounds a build is
 -- enough at the stretch's length (`depth`, `build-fork`, `build-leaf`); a tree has as many leaves as its stretch has handles and a record of floats of the
 -- format (`build-sized`), so its root is read back from its words as it is (`union-read`, `joined-read`). Assumes nothing.
-use Prim.Native.Nat.{ℕ, zero, suc, _+_, _-_, _*_, _/_, _≤_, _<_}
+use Prim.Native.Nat.{ℕ, zero, suc, _+_, _-_, _*_, _/_, _^_, _≤_, _<_}
 use mathlib.Core.Path.{_≡_, refl, ap, sym, _∙_}
 use mathlib.Core.Bool.{Bool, true, false, cond, _&&_, true≢false}
 use mathlib.Core.List.{List, [], _∷_, _++_, append-nil, append-assoc}
@@ -317,3 +317,142 @@ module _ {ws hs hs′ : List ℕ} {left : ℕ} (cut : Cut ws hs hs′ left) (at 
       let (l, x) = given-of (whole ws (take left hs′)) e in
       let (n, y) = refused-of (whole ws (drop left hs′)) e′ in
       refused-left at p (whole ws hs) n nodes (forked-cut ∙ then-is (whole ws (take left hs′)) _ l x ∙ then-refused (whole ws (drop left hs′)) _ n y)
+
+-- ---- one handle
+
+node-alone : (nodes : List ℕ) (n : LightBVHNode) (b : LightBounds) → length nodes ≡ nodeWords → nodeWritten nodes 0 n b ≡ nodeList n b
+node-alone nodes n b room =
+    let node = nodeList n b in
+    let size = length-nodeList n b in
+    let past : drop (0 + length node) nodes ≡ [] = drop-of-length-le nodes {i = 0 + length node} (omega arith) in
+    nodeWritten-room nodes 0 n b (omega arith) ∙ sets-eq node nodes 0 (omega arith) ∙ ap (λ (xs : List ℕ). node ++ xs) past ∙ append-nil node
+
+pub leaf-left : (ws hs nodes nodes′ : List ℕ) (at p label : ℕ) (light : LightBounds) → length hs ≡ 1 → length nodes + nodeWords ≡ nodeWords * (2 * length hs)
+    → label ≡ labelOf ws (getD hs 0 0) → light ≡ lightOf ws (getD hs 0 0) → nodes′ ≡ nodeWritten nodes 0 (leafNode label p) light
+    → Left at p (whole ws hs) true nodes′
+unfolding flatten
+leaf-left ws hs nodes nodes′ at p label light one size is-label is-light e =
+    rw (build-leaf ws hs one) (refl, e ∙ rw (is-label, is-light) (node-alone nodes _ _ (omega arith)))
+
+-- ---- more than one
+
+joined-left : (at p right : ℕ) (nodes nodes′ : List ℕ) (l r : Tree) (x : Answer LightBounds) (res : Bool)
+    → ((b : LightBounds) → nodeWritten nodes 0 (interior (at + 1) (at + right) p) b ≡ flatten at p (fork b l r)) → res ≡ isGiven x
+    → nodes′ ≡ joinedWords at p right nodes x → Left at p (x then λ (b : LightBounds). given (fork b l r)) res nodes′
+unfolding _then_
+joined-left at p right nodes nodes′ l r (given b) res j e e′ = (e, e′ ∙ j b)
+joined-left at p right nodes nodes′ l r (refused n) res j e e′ = (e, refl)
+
+module _ {ws hs hs′ : List ℕ} {left : ℕ} (cut : Cut ws hs hs′ left) (at p : ℕ) where
+  pub both-left : (root n1 n2 nodes : List ℕ) → length root ≡ nodeWords
+      → isGiven (whole ws (take left hs′)) ≡ true → n1 ≡ subtreeWords (at + 1) at (whole ws (take left hs′)) n1
+      → isGiven (whole ws (drop left hs′)) ≡ true → n2 ≡ subtreeWords (at + 2 * left) at (whole ws (drop left hs′)) n2 → nodes ≡ root ++ n1 ++ n2
+      → (res : Bool) (nodes′ : List ℕ) → res ≡ isGiven (unionAt nodes (2 * left))
+      → nodes′ ≡ joinedWords at p (2 * left) nodes (unionAt nodes (2 * left)) → Left at p (whole ws hs) res nodes′
+  both-left root n1 n2 nodes room e w e′ w′ laid res nodes′ told told′ =
+      let (l, x) = given-of (whole ws (take left hs′)) e in
+      let (r, y) = given-of (whole ws (drop left hs′)) e′ in
+      let size : left ≡ leaves l = cut .count ∙ ap length (sym (cut .front)) ∙ sym (build-size ws (length (take left hs′)) (take left hs′) l x) in
+      let first : n1 ≡ flatten (at + 1) at l = w ∙ ap (λ (a : Answer Tree). subtreeWords (at + 1) at a n1) x in
+      let second : n2 ≡ flatten (at + 2 * left) at r = w′ ∙ ap (λ (a : Answer Tree). subtreeWords (at + 2 * left) at a n2) y in
+      let place : at + 2 * left ≡ rightPlace at l = ap (λ (k : ℕ). at + 2 * k) size in
+      let out = laidOut root at p l r room in
+      let is : nodes ≡ out =
+      laid ∙ ap (λ (a : List ℕ). root ++ a ++ n2) first
+      ∙ ap (λ (a : List ℕ). root ++ flatten (at + 1) at l ++ a) (second ∙ ap (λ (k : ℕ). flatten k at r) place) in
+      let fit = build-fits ws (length (take left hs′)) (take left hs′) l x in
+      let fit′ = build-fits ws (length (drop left hs′)) (drop left hs′) r y in
+      let u : unionAt nodes (2 * left) ≡ union (bounds l) (bounds r) =
+      ap (λ (a : List ℕ). unionAt a (2 * left)) is ∙ ap (λ (k : ℕ). unionAt out (2 * k)) size ∙ union-read root at p l r room fit fit′ in
+      let j : (b : LightBounds) → nodeWritten nodes 0 (interior (at + 1) (at + 2 * left) p) b ≡ flatten at p (fork b l r) =
+      λ b. ap (λ (a : List ℕ). nodeWritten a 0 (interior (at + 1) (at + 2 * left) p) b) is
+      ∙ ap (λ (k : ℕ). nodeWritten out 0 (interior (at + 1) k p) b) place ∙ joined-read root at p l r room b in
+      let whole-is = forked-cut cut at p ∙ then-is (whole ws (take left hs′)) _ l x ∙ then-is (whole ws (drop left hs′)) _ r y in
+      rw whole-is (joined-left at p (2 * left) nodes nodes′ l r (union (bounds l) (bounds r)) res j (told ∙ ap isGiven u)
+      (told′ ∙ ap (joinedWords at p (2 * left) nodes) u))
+
+-- ---- the parts that are lent: where the build of a stretch stands once it is parted
+
+pub record Stand (ws hs work nodes : List ℕ) (at : ℕ) (hs′ : List ℕ) (left : ℕ) : Type 0 where
+  pub cut : Cut ws hs hs′ left
+  pub room : length hs ≤ length work
+  pub size : length nodes + nodeWords ≡ nodeWords * (2 * length hs)
+  pub fits : at + 2 * length hs < 2 ^ 30
+
+-- what a build asks
+abbrev pub Asks : List ℕ → List ℕ → List ℕ → ℕ → Type 0
+Asks hs work nodes at =
+    (1 ≤ length hs) × ((length hs ≤ length work) × ((length nodes + nodeWords ≡ nodeWords * (2 * length hs)) × (at + 2 * length hs < 2 ^ 30)))
+
+module _ {ws hs work nodes hs′ : List ℕ} {at left : ℕ} (s : Stand ws hs work nodes at hs′ left) where
+  pub front-is : take (left - 0) hs′ ≡ take left hs′
+  front-is = let e : left - 0 ≡ left = omega arith in rw e
+
+  pub front-length : length (take (left - 0) hs′) ≡ left
+  front-length = ap length front-is ∙ ap length (s .cut .front) ∙ sym (s .cut .count)
+
+  pub words-length : length (midOf 16 (32 * left - 16) nodes) ≡ 32 * left - 16
+  words-length = mid-len 16 (32 * left) nodes (omega (arith, s .size, s .cut .rest))
+
+  pub left-asks : (work′ : List ℕ) → length work′ ≡ length work → Asks (take (left - 0) hs′) work′ (midOf 16 (32 * left - 16) nodes) (at + 1)
+  left-asks work′ same =
+      let some = s .cut .some in
+      let rest = s .cut .rest in
+      let n = front-length in
+      let m = words-length in
+      (omega (arith, n), (omega (arith, n, s .room), (omega (arith, n, m), omega (arith, n, s .fits))))
+
+  module _ (h1 n1 : List ℕ) (same-h : length h1 ≡ length (take (left - 0) hs′)) (same-n : length n1 ≡ length (midOf 16 (32 * left - 16) nodes)) where
+    abbrev pub handles1 : List ℕ
+    handles1 = h1 ++ drop (left - 0) hs′
+
+    abbrev pub nodes1 : List ℕ
+    nodes1 = putMid 16 (32 * left - 16) nodes n1
+
+    pub handles1-length : length handles1 ≡ length hs
+    handles1-length = same-len-mid 0 (left - 0) hs′ h1 same-h ∙ s .cut .same
+
+    pub nodes1-length : length nodes1 ≡ length nodes
+    nodes1-length = same-len-mid 16 (32 * left - 16) nodes n1 same-n
+
+    pub back-is : midOf left (length hs - left) handles1 ≡ drop left hs′
+    back-is =
+        let e : left - 0 ≡ left = omega arith in
+        let gone : drop left handles1 ≡ drop left hs′ =
+        drop-at h1 (drop (left - 0) hs′) left (same-h ∙ front-length) ∙ ap (λ (k : ℕ). drop k hs′) e in
+        let short = length-drop left hs′ in
+        ap (take (length hs - left)) gone ∙ take-all (length hs - left) (drop left hs′) (omega (arith, short, s .cut .same))
+
+    pub back-length : length (midOf left (length hs - left) handles1) ≡ length hs - left
+    back-length = ap length back-is ∙ length-drop left hs′ ∙ ap (λ (k : ℕ). k - left) (s .cut .same)
+
+    pub words1-length : length (midOf (32 * left) (length nodes1 - 32 * left) nodes1) ≡ length nodes - 32 * left
+    words1-length = mid-len (32 * left) (length nodes1) nodes1 (omega arith) ∙ ap (λ (k : ℕ). k - 32 * left) nodes1-length
+
+    pub right-asks : (work′ : List ℕ) → length work′ ≡ length work
+        → Asks (midOf left (length hs - left) handles1) work′ (midOf (32 * left) (length nodes1 - 32 * left) nodes1) (at + 2 * left)
+    right-asks work′ same =
+        let some = s .cut .some in
+        let rest = s .cut .rest in
+        let n = back-length in
+        let m = words1-length in
+        let size = s .size in
+        (omega (arith, n), (omega (arith, n, s .room), (omega (arith, n, m), omega (arith, n, s .fits))))
+
+    pub root-length : length (take 16 nodes) ≡ nodeWords
+    root-length = length-take-le 16 nodes (omega (arith, s .size, s .cut .some, s .cut .rest))
+
+    -- the root's words, those of the left tree and those of the right one
+    pub nodes-are : (n2 : List ℕ) → putMid (32 * left) (length nodes1 - 32 * left) nodes1 n2 ≡ take 16 nodes ++ n1 ++ n2
+    nodes-are n2 =
+        let some = s .cut .some in
+        let rest = s .cut .rest in
+        let size = s .size in
+        let m = words-length in
+        let front = take 16 nodes ++ n1 in
+        let long : length front ≡ 32 * left = length-append (take 16 nodes) n1 ∙ omega (arith, root-length, same-n, m) in
+        let is : nodes1 ≡ front ++ drop (32 * left - 16) (drop 16 nodes) = sym (append-assoc (take 16 nodes) n1 (drop (32 * left - 16) (drop 16 nodes))) in
+        let before : take (32 * left) nodes1 ≡ front = ap (take (32 * left)) is ∙ take-at front _ (32 * left) long in
+        let after : drop (length nodes1 - 32 * left) (drop (32 * left) nodes1) ≡ [] =
+        drop-of-length-le (drop (32 * left) nodes1) {i = length nodes1 - 32 * left} (omega (arith, length-drop (32 * left) nodes1)) in
+        rw (before, after, append-nil n2)

@@ -1,7 +1,18 @@
 -- The proof of the cycle of calls {build_subtree}. The measure is the stretch's length: each half is shorter. Assumes nothing.
-use Prim.Native.Nat.{ℕ, _<_}
+use Prim.Native.Nat.{ℕ, _+_, _*_, _-_, _^_, _≤_, _<_, zero-le}
+use mathlib.Core.Path.{_≡_, refl, sym, ap, _∙_}
+use mathlib.Core.List.{List}
+use native.Mathlib.Nat.{le-refl}
 use native.Mathlib.Omega.{arith}
-use lib.ListN.{length}
+use denote.Ref.{now}
+use lib.ListN.{length, take, drop}
+use Rattle.words.specs.Answers.{Answer, given, counted}
+use Rattle.light_nodes.specs.Nodes.{nodeWords}
+use Rattle.light_nodes.specs.Tree.{Tree}
+use Rattle.light_bvh.specs.Subtree.{isGiven, subtreeWords, splitCount}
+use Rattle.light_bvh.proofs.SubtreeLaws.{Cut, cut-of, Stand, whole, leaf-left, lost-left, no-left, no-right, both-left, front-is, front-length}
+use Rattle.light_bvh.proofs.SubtreeLaws.{left-asks, right-asks, handles1, nodes1, handles1-length, nodes1-length, back-is, back-length, root-length, nodes-are}
+use borrow.Rule.Slice.PartMut.{midOf, putMid, same-len-mid}
 use borrow.Author.Needs.{needs}
 use borrow.Fn.Kinds.{In}
 use borrow.Fn.PlainCycle.{Measures, is, falls, and}
@@ -42,113 +53,209 @@ calls t = (
   join-children-reads.Learnt,
 )
 
-slice-read-label : (t : ℕ) → lts.Need-slice-read-label (calls t) (before t) build-subtree.Post
-slice-read-label t c = ?
+module _ (t : ℕ) where
+  -- the places: the stretch is parted, the left tree is built, and the right one
+  abbrev Start : Type 0
+  Start = lts.Start (calls t) (before t) build-subtree.Post
 
-label-requires : (t : ℕ) → lts.Need-label-requires (calls t) (before t) build-subtree.Post
-label-requires t c κs = ?
+  abbrev Told : Type 0
+  Told = lts.After-known-told (calls t) (before t) build-subtree.Post
 
-slice-read-light : (t : ℕ) → lts.Need-slice-read-light (calls t) (before t) build-subtree.Post
-slice-read-light t c = ?
+  abbrev First : Type 0
+  First = lts.After-build-subtree (calls t) (before t) build-subtree.Post
 
-light-requires : (t : ℕ) → lts.Need-light-requires (calls t) (before t) build-subtree.Post
-light-requires t c κs = ?
+  abbrev Second : Type 0
+  Second = lts.After-build-subtree2 (calls t) (before t) build-subtree.Post
 
-write-leaf-requires : (t : ℕ) → lts.Need-write-leaf-requires (calls t) (before t) build-subtree.Post
-write-leaf-requires t c κs = ?
+  abbrev start : Told → Start
+  start c = c .before .before .before .before .before .before .before .before .before .before .before .before .before .before .before
 
-same-length : (t : ℕ) → lts.Need-same-length (calls t) (before t) build-subtree.Post
-same-length t c = ?
+  abbrev told : First → Told
+  told f = f .before .before .before .before
 
-returns : (t : ℕ) → lts.Need-returns (calls t) (before t) build-subtree.Post
-returns t c = ?
+  abbrev first : Second → First
+  first s = s .before .before .before .before .before .before .before .before .before .before .before
 
-split-stretch-requires : (t : ℕ) → lts.Need-split-stretch-requires (calls t) (before t) build-subtree.Post
-split-stretch-requires t c κs = ?
+  abbrev left : Told → ℕ
+  left c = c .before .left .given .0 .0
 
-enum-known-left : (t : ℕ) → lts.Need-enum-known-left (calls t) (before t) build-subtree.Post
-enum-known-left t c = ?
+  abbrev blockOf : Told → List ℕ
+  blockOf c = now (start c .args .block)
 
-sub-build-subtree : (t : ℕ) → lts.Need-sub-build-subtree (calls t) (before t) build-subtree.Post
-sub-build-subtree t c = ?
+  abbrev stretch : Told → List ℕ
+  stretch c = now (start c .args .handles)
 
-part-build-subtree-start : (t : ℕ) → lts.Need-part-build-subtree-start (calls t) (before t) build-subtree.Post
-part-build-subtree-start t c = ?
+  abbrev parted : Told → List ℕ
+  parted c = c .before .before .before .before .before .before .before .split-stretch .last .1 .0
 
-part-build-subtree-end : (t : ℕ) → lts.Need-part-build-subtree-end (calls t) (before t) build-subtree.Post
-part-build-subtree-end t c = ?
+  abbrev tray : Told → List ℕ
+  tray c = c .before .before .before .before .before .before .before .split-stretch .last .1 .1 .0
 
-mul-build-subtree : (t : ℕ) → lts.Need-mul-build-subtree (calls t) (before t) build-subtree.Post
-mul-build-subtree t c = ?
+  abbrev nodesOf : Told → List ℕ
+  nodesOf c = now (start c .args .nodes)
 
-mul-build-subtree-2 : (t : ℕ) → lts.Need-mul-build-subtree-2 (calls t) (before t) build-subtree.Post
-mul-build-subtree-2 t c = ?
+  stand : (c : Told) → Stand (blockOf c) (stretch c) (tray c) (nodesOf c) (start c .args .at) (parted c) (left c)
+  stand c =
+      let split = c .before .before .before .before .before .before .before in
+      let pre = start c .pre .1 in
+      let two : 2 ≤ length (stretch c) = omega (arith, pre .0, split .before .before .before .if1 .left) in
+      let kept : length (tray c) ≡ length (now (start c .args .work)) = split .split-stretch .kept .1 .1 .0 in
+      let count : splitCount (blockOf c) (stretch c) ≡ given (left c) = sym (split .split-stretch .ensures .0) ∙ ap counted (c .before .left .given .1) in
+      record {
+        cut = cut-of (blockOf c) (stretch c) (parted c) (left c) count (split .split-stretch .ensures .1) two;
+        room = omega (arith, pre .1 .0, kept);
+        size = pre .1 .1 .0;
+        fits = pre .1 .1 .1;
+      }
 
-sub-build-subtree-2 : (t : ℕ) → lts.Need-sub-build-subtree-2 (calls t) (before t) build-subtree.Post
-sub-build-subtree-2 t c = ?
+  -- the numbers of it
+  record Numbers (n m at left : ℕ) : Type 0 where
+    some : 1 ≤ left
+    rest : left < n
+    size : m + 16 ≡ 16 * (2 * n)
+    fits : at + 2 * n < 2 ^ 30
 
-part-build-subtree-start-2 : (t : ℕ) → lts.Need-part-build-subtree-start-2 (calls t) (before t) build-subtree.Post
-part-build-subtree-start-2 t c = ?
+  numbers : (c : Told) → Numbers (length (stretch c)) (length (nodesOf c)) (start c .args .at) (left c)
+  numbers c = let s = stand c in record { some = s .cut .some; rest = s .cut .rest; size = s .size; fits = s .fits }
 
-part-build-subtree-end-2 : (t : ℕ) → lts.Need-part-build-subtree-end-2 (calls t) (before t) build-subtree.Post
-part-build-subtree-end-2 t c = ?
+  -- ---- one handle
 
-add-build-subtree : (t : ℕ) → lts.Need-add-build-subtree (calls t) (before t) build-subtree.Post
-add-build-subtree t c = ?
+  slice-read-label : lts.Need-slice-read-label (calls t) (before t) build-subtree.Post
+  slice-read-label c = c .before .before .before .before .before .before .before .pre .1 .0
 
-build-subtree-requires : (t : ℕ) → lts.Need-build-subtree-requires (calls t) (before t) build-subtree.Post
-build-subtree-requires t c κs = ?
+  slice-read-light : lts.Need-slice-read-light (calls t) (before t) build-subtree.Post
+  slice-read-light c = c .before .before .before .before .before .before .before .before .before .pre .1 .0
 
-mul-build-subtree-3 : (t : ℕ) → lts.Need-mul-build-subtree-3 (calls t) (before t) build-subtree.Post
-mul-build-subtree-3 t c = ?
+  returns : lts.Need-returns (calls t) (before t) build-subtree.Post
+  returns c =
+      let wrote = c .before .before in
+      let label = wrote .before .before .before in
+      let one = label .before .before .before in
+      let start = one .before .before .before .before .before in
+      leaf-left (now (start .args .block)) (now (start .args .handles)) (now (start .args .nodes)) (wrote .write-leaf .last .0) (start .args .at)
+      (start .args .parent) (label .label .result) (wrote .before .light .result) (one .if1 .taken) (start .pre .1 .1 .1 .0) (label .label .ensures)
+      (wrote .before .light .ensures) (wrote .write-leaf .ensures)
 
-sub-build-subtree-3 : (t : ℕ) → lts.Need-sub-build-subtree-3 (calls t) (before t) build-subtree.Post
-sub-build-subtree-3 t c = ?
+  -- ---- the left tree
 
-part-build-subtree-start-3 : (t : ℕ) → lts.Need-part-build-subtree-start-3 (calls t) (before t) build-subtree.Post
-part-build-subtree-start-3 t c = ?
+  split-stretch-requires : lts.Need-split-stretch-requires (calls t) (before t) build-subtree.Post
+  split-stretch-requires c κs = c .before .before .before .before .before .before .before .pre .1 .1 .0
 
-part-build-subtree-end-3 : (t : ℕ) → lts.Need-part-build-subtree-end-3 (calls t) (before t) build-subtree.Post
-part-build-subtree-end-3 t c = ?
+  part-build-subtree-end : lts.Need-part-build-subtree-end (calls t) (before t) build-subtree.Post
+  part-build-subtree-end c =
+      let s = stand c in
+      let e : left c ≤ length (parted c) = omega (arith, s .cut .rest, s .cut .same) in
+      e
 
-mul-build-subtree-4 : (t : ℕ) → lts.Need-mul-build-subtree-4 (calls t) (before t) build-subtree.Post
-mul-build-subtree-4 t c = ?
+  mul-build-subtree-2 : lts.Need-mul-build-subtree-2 (calls t) (before t) build-subtree.Post
+  mul-build-subtree-2 c = let n = numbers (c .before .before) in omega arith
 
-mul-build-subtree-5 : (t : ℕ) → lts.Need-mul-build-subtree-5 (calls t) (before t) build-subtree.Post
-mul-build-subtree-5 t c = ?
+  sub-build-subtree-2 : lts.Need-sub-build-subtree-2 (calls t) (before t) build-subtree.Post
+  sub-build-subtree-2 c = let n = numbers (c .before .before) in omega arith
 
-mul-build-subtree-6 : (t : ℕ) → lts.Need-mul-build-subtree-6 (calls t) (before t) build-subtree.Post
-mul-build-subtree-6 t c = ?
+  part-build-subtree-start-2 : lts.Need-part-build-subtree-start-2 (calls t) (before t) build-subtree.Post
+  part-build-subtree-start-2 c =
+      let n = numbers (c .before .before) in
+      let e : 16 ≤ 32 * left (c .before .before) = omega arith in
+      e
 
-sub-build-subtree-4 : (t : ℕ) → lts.Need-sub-build-subtree-4 (calls t) (before t) build-subtree.Post
-sub-build-subtree-4 t c = ?
+  part-build-subtree-end-2 : lts.Need-part-build-subtree-end-2 (calls t) (before t) build-subtree.Post
+  part-build-subtree-end-2 c =
+      let n = numbers (c .before .before) in
+      let e : 32 * left (c .before .before) ≤ length (nodesOf (c .before .before)) = omega arith in
+      e
 
-part-build-subtree-start-4 : (t : ℕ) → lts.Need-part-build-subtree-start-4 (calls t) (before t) build-subtree.Post
-part-build-subtree-start-4 t c = ?
+  add-build-subtree : lts.Need-add-build-subtree (calls t) (before t) build-subtree.Post
+  add-build-subtree c = let n = numbers (c .before .before .before) in omega arith
 
-part-build-subtree-end-4 : (t : ℕ) → lts.Need-part-build-subtree-end-4 (calls t) (before t) build-subtree.Post
-part-build-subtree-end-4 t c = ?
+  build-subtree-requires : lts.Need-build-subtree-requires (calls t) (before t) build-subtree.Post
+  build-subtree-requires c κs =
+      let s = stand (c .before .before .before) in
+      (omega (arith, front-length s, s .cut .rest, start (c .before .before .before) .pre .0), left-asks s (tray (c .before .before .before)) refl)
 
-cast-build-subtree : (t : ℕ) → lts.Need-cast-build-subtree (calls t) (before t) build-subtree.Post
-cast-build-subtree t c = ?
+  -- ---- the right tree
 
-mul-build-subtree-7 : (t : ℕ) → lts.Need-mul-build-subtree-7 (calls t) (before t) build-subtree.Post
-mul-build-subtree-7 t c = ?
+  abbrev h1 : First → List ℕ
+  h1 f = f .build-subtree .last .1 .0
 
-add-build-subtree-2 : (t : ℕ) → lts.Need-add-build-subtree-2 (calls t) (before t) build-subtree.Post
-add-build-subtree-2 t c = ?
+  abbrev n1 : First → List ℕ
+  n1 f = f .build-subtree .last .1 .1 .1 .0
 
-build-subtree-requires-2 : (t : ℕ) → lts.Need-build-subtree-requires-2 (calls t) (before t) build-subtree.Post
-build-subtree-requires-2 t c κs = ?
+  same-h : (f : First) → length (h1 f) ≡ length (take (left (told f) - 0) (parted (told f)))
+  same-h f = f .build-subtree .kept .1 .0
 
-mul-join-children : (t : ℕ) → lts.Need-mul-join-children (calls t) (before t) build-subtree.Post
-mul-join-children t c = ?
+  same-n : (f : First) → length (n1 f) ≡ length (midOf 16 (32 * left (told f) - 16) (nodesOf (told f)))
+  same-n f = f .build-subtree .kept .1 .1 .1 .0
 
-join-children-requires : (t : ℕ) → lts.Need-join-children-requires (calls t) (before t) build-subtree.Post
-join-children-requires t c κs = ?
+  same-tray : (f : First) → length (f .build-subtree .last .1 .1 .0) ≡ length (tray (told f))
+  same-tray f = f .build-subtree .kept .1 .1 .0
 
-enum-told : (t : ℕ) → lts.Need-enum-told (calls t) (before t) build-subtree.Post
-enum-told t c = ?
+  abbrev handles : First → List ℕ
+  handles f = handles1 (stand (told f)) (h1 f) (n1 f) (same-h f) (same-n f)
+
+  abbrev nodes : First → List ℕ
+  nodes f = nodes1 (stand (told f)) (h1 f) (n1 f) (same-h f) (same-n f)
+
+  handles-length : (f : First) → length (handles f) ≡ length (stretch (told f))
+  handles-length f = handles1-length (stand (told f)) (h1 f) (n1 f) (same-h f) (same-n f)
+
+  nodes-length : (f : First) → length (nodes f) ≡ length (nodesOf (told f))
+  nodes-length f = nodes1-length (stand (told f)) (h1 f) (n1 f) (same-h f) (same-n f)
+
+  mul-build-subtree-3 : lts.Need-mul-build-subtree-3 (calls t) (before t) build-subtree.Post
+  mul-build-subtree-3 c = let n = numbers (told (c .before .before .before .before .before .before .before)) in omega arith
+
+  sub-build-subtree-3 : lts.Need-sub-build-subtree-3 (calls t) (before t) build-subtree.Post
+  sub-build-subtree-3 c = let n = numbers (told (c .before .before .before .before .before .before .before)) in omega arith
+
+  part-build-subtree-start-3 : lts.Need-part-build-subtree-start-3 (calls t) (before t) build-subtree.Post
+  part-build-subtree-start-3 c =
+      let f = c .before .before .before .before .before .before .before in
+      let n = numbers (told f) in
+      let e : left (told f) ≤ length (stretch (told f)) = omega arith in
+      e
+
+  part-build-subtree-end-3 : lts.Need-part-build-subtree-end-3 (calls t) (before t) build-subtree.Post
+  part-build-subtree-end-3 c =
+      let f = c .before .before .before .before .before .before .before in
+      let e : length (stretch (told f)) ≤ length (handles f) = omega (arith, handles-length f) in
+      e
+
+  mul-build-subtree-5 : lts.Need-mul-build-subtree-5 (calls t) (before t) build-subtree.Post
+  mul-build-subtree-5 c = let n = numbers (told (c .before .before .before .before .before .before .before .before .before)) in omega arith
+
+  mul-build-subtree-6 : lts.Need-mul-build-subtree-6 (calls t) (before t) build-subtree.Post
+  mul-build-subtree-6 c = let n = numbers (told (c .before .before .before .before .before .before .before .before .before)) in omega arith
+
+  words-within : (f : First) → 32 * left (told f) ≤ length (nodes f)
+  words-within f = let n = numbers (told f) in omega (arith, nodes-length f)
+
+  cast-build-subtree : lts.Need-cast-build-subtree (calls t) (before t) build-subtree.Post
+  cast-build-subtree c = let n = numbers (told (c .before .before .before .before .before .before .before .before .before .before)) in omega arith
+
+  mul-build-subtree-7 : lts.Need-mul-build-subtree-7 (calls t) (before t) build-subtree.Post
+  mul-build-subtree-7 c = let n = numbers (told (c .before .before .before .before .before .before .before .before .before .before)) in omega arith
+
+  add-build-subtree-2 : lts.Need-add-build-subtree-2 (calls t) (before t) build-subtree.Post
+  add-build-subtree-2 c = let n = numbers (told (c .before .before .before .before .before .before .before .before .before .before)) in omega arith
+
+  build-subtree-requires-2 : lts.Need-build-subtree-requires-2 (calls t) (before t) build-subtree.Post
+  build-subtree-requires-2 c κs =
+      let f = c .before .before .before .before .before .before .before .before .before .before in
+      let s = stand (told f) in
+      (
+        omega (arith, back-length s (h1 f) (n1 f) (same-h f) (same-n f), s .cut .some, s .cut .rest, start (told f) .pre .0),
+        right-asks s (h1 f) (n1 f) (same-h f) (same-n f) (f .build-subtree .last .1 .1 .0) (same-tray f),
+      )
+
+  -- ---- the node over both
+
+  mul-join-children : lts.Need-mul-join-children (calls t) (before t) build-subtree.Post
+  mul-join-children c = let n = numbers (told (first (c .before .before .before .before .before .before .before .before))) in omega arith
+
+  join-children-requires : lts.Need-join-children-requires (calls t) (before t) build-subtree.Post
+  join-children-requires c κs = let n = numbers (told (first (c .before .before .before .before .before .before .before .before))) in omega arith
+
 
 same-length-2 : (t : ℕ) → lts.Need-same-length-2 (calls t) (before t) build-subtree.Post
 same-length-2 t c = ?
@@ -186,16 +293,19 @@ same-length-10 t c = ?
 returns-4 : (t : ℕ) → lts.Need-returns-4 (calls t) (before t) build-subtree.Post
 returns-4 t c = ?
 
-same-length-11 : (t : ℕ) → lts.Need-same-length-11 (calls t) (before t) build-subtree.Post
-same-length-11 t c = ?
-
-same-length-12 : (t : ℕ) → lts.Need-same-length-12 (calls t) (before t) build-subtree.Post
-same-length-12 t c = ?
-
 returns-5 : (t : ℕ) → lts.Need-returns-5 (calls t) (before t) build-subtree.Post
 returns-5 t c = ?
 
 pub +build-subtree-spec : {M : Type 1} → statement M
 +build-subtree-spec =
     close μ (λ t. lts.spec (calls t) (before t) build-subtree.Post
-    (slice-read-label t) (label-requires t) (slice-read-light t) (light-requires t) (write-leaf-requires t) (same-length t) (returns t) (split-stretch-requires t) (enum-known-left t) (sub-build-subtree t) (part-build-subtree-start t) (part-build-subtree-end t) (mul-build-subtree t) (mul-build-subtree-2 t) (sub-build-subtree-2 t) (part-build-subtree-start-2 t) (part-build-subtree-end-2 t) (add-build-subtree t) (build-subtree-requires t) (mul-build-subtree-3 t) (sub-build-subtree-3 t) (part-build-subtree-start-3 t) (part-build-subtree-end-3 t) (mul-build-subtree-4 t) (mul-build-subtree-5 t) (mul-build-subtree-6 t) (sub-build-subtree-4 t) (part-build-subtree-start-4 t) (part-build-subtree-end-4 t) (cast-build-subtree t) (mul-build-subtree-7 t) (add-build-subtree-2 t) (build-subtree-requires-2 t) (mul-join-children t) (join-children-requires t) (enum-told t) (same-length-2 t) (same-length-3 t) (same-length-4 t) (returns-2 t) (same-length-5 t) (same-length-6 t) (same-length-7 t) (returns-3 t) (same-length-8 t) (same-length-9 t) (same-length-10 t) (returns-4 t) (same-length-11 t) (same-length-12 t) (returns-5 t))
+    (slice-read-label t) (λ c κs. tt) (slice-read-light t) (λ c κs. tt) (λ c κs. tt) (λ c. c .before .before .write-leaf .kept .0) (returns t)
+    (split-stretch-requires t) (λ c. search needs) (λ c. zero-le) (λ c. zero-le) (part-build-subtree-end t) (λ c. search needs) (mul-build-subtree-2 t)
+    (sub-build-subtree-2 t) (part-build-subtree-start-2 t) (part-build-subtree-end-2 t) (add-build-subtree t) (build-subtree-requires t)
+    (mul-build-subtree-3 t) (sub-build-subtree-3 t) (part-build-subtree-start-3 t) (part-build-subtree-end-3 t) (λ c. search needs) (mul-build-subtree-5 t)
+    (mul-build-subtree-6 t) (λ c. words-within t (c .before .before .before .before .before .before .before .before .before))
+    (λ c. words-within t (c .before .before .before .before .before .before .before .before .before)) (λ c. le-refl _) (cast-build-subtree t)
+    (mul-build-subtree-7 t) (add-build-subtree-2 t) (build-subtree-requires-2 t) (mul-join-children t) (join-children-requires t) (λ c. search needs)
+    (same-length-2 t) (same-length-3 t) (same-length-4 t) (returns-2 t) (same-length-5 t) (same-length-6 t) (same-length-7 t) (returns-3 t) (same-length-8 t)
+    (same-length-9 t) (same-length-10 t) (returns-4 t) (λ c. c .before .before .before .before .before .before .split-stretch .kept .1 .0)
+    (λ c. c .before .before .before .before .before .before .split-stretch .kept .1 .1 .0) (returns-5 t))
