@@ -1,6 +1,7 @@
 -- The proof of the cycle of calls {build_subtree}. The measure is the stretch's length: each half is shorter. Assumes nothing.
 use Prim.Native.Nat.{ℕ, _+_, _*_, _-_, _^_, _≤_, _<_, zero-le}
 use mathlib.Core.Path.{_≡_, refl, sym, ap, _∙_}
+use mathlib.Core.Bool.{Bool, true, false}
 use mathlib.Core.List.{List}
 use native.Mathlib.Nat.{le-refl}
 use native.Mathlib.Omega.{arith}
@@ -256,45 +257,96 @@ module _ (t : ℕ) where
   join-children-requires : lts.Need-join-children-requires (calls t) (before t) build-subtree.Post
   join-children-requires c κs = let n = numbers (told (first (c .before .before .before .before .before .before .before .before))) in omega arith
 
+  -- ---- what is left: the lengths
 
-same-length-2 : (t : ℕ) → lts.Need-same-length-2 (calls t) (before t) build-subtree.Post
-same-length-2 t c = ?
+  abbrev h2 : Second → List ℕ
+  h2 s = s .build-subtree2 .last .1 .0
 
-same-length-3 : (t : ℕ) → lts.Need-same-length-3 (calls t) (before t) build-subtree.Post
-same-length-3 t c = ?
+  abbrev n2 : Second → List ℕ
+  n2 s = s .build-subtree2 .last .1 .1 .1 .0
 
-same-length-4 : (t : ℕ) → lts.Need-same-length-4 (calls t) (before t) build-subtree.Post
-same-length-4 t c = ?
+  handles2-length : (s : Second) → let c = told (first s) in
+      length (putMid (left c) (length (stretch c) - left c) (handles (first s)) (h2 s)) ≡ length (stretch c)
+  handles2-length s =
+      let c = told (first s) in
+      same-len-mid (left c) (length (stretch c) - left c) (handles (first s)) (h2 s) (s .build-subtree2 .kept .1 .0) ∙ handles-length (first s)
 
-returns-2 : (t : ℕ) → lts.Need-returns-2 (calls t) (before t) build-subtree.Post
-returns-2 t c = ?
+  abbrev nodes2 : Second → List ℕ
+  nodes2 s = let c = told (first s) in putMid (32 * left c) (length (nodes (first s)) - 32 * left c) (nodes (first s)) (n2 s)
 
-same-length-5 : (t : ℕ) → lts.Need-same-length-5 (calls t) (before t) build-subtree.Post
-same-length-5 t c = ?
+  nodes2-length : (s : Second) → length (nodes2 s) ≡ length (nodesOf (told (first s)))
+  nodes2-length s =
+      let c = told (first s) in
+      same-len-mid (32 * left c) (length (nodes (first s)) - 32 * left c) (nodes (first s)) (n2 s) (s .build-subtree2 .kept .1 .1 .1 .0)
+      ∙ nodes-length (first s)
 
-same-length-6 : (t : ℕ) → lts.Need-same-length-6 (calls t) (before t) build-subtree.Post
-same-length-6 t c = ?
+  tray-length : (c : Told) → length (tray c) ≡ length (now (start c .args .work))
+  tray-length c = c .before .before .before .before .before .before .before .split-stretch .kept .1 .1 .0
 
-same-length-7 : (t : ℕ) → lts.Need-same-length-7 (calls t) (before t) build-subtree.Post
-same-length-7 t c = ?
+  tray2-length : (s : Second) → length (s .build-subtree2 .last .1 .1 .0) ≡ length (now (start (told (first s)) .args .work))
+  tray2-length s = s .build-subtree2 .kept .1 .1 .0 ∙ same-tray (first s) ∙ tray-length (told (first s))
 
-returns-3 : (t : ℕ) → lts.Need-returns-3 (calls t) (before t) build-subtree.Post
-returns-3 t c = ?
+  -- ---- and the trees
 
-same-length-8 : (t : ℕ) → lts.Need-same-length-8 (calls t) (before t) build-subtree.Post
-same-length-8 t c = ?
+  told-left : (f : First) (b : Bool) → f .build-subtree .result ≡ b → isGiven (whole (blockOf (told f)) (take (left (told f)) (parted (told f)))) ≡ b
+  told-left f b e =
+      ap (λ (l : List ℕ). isGiven (whole (blockOf (told f)) l)) (sym (front-is (stand (told f)))) ∙ sym (f .build-subtree .ensures .0) ∙ e
 
-same-length-9 : (t : ℕ) → lts.Need-same-length-9 (calls t) (before t) build-subtree.Post
-same-length-9 t c = ?
+  words-left : (f : First) → let c = told f in
+      n1 f ≡ subtreeWords (start c .args .at + 1) (start c .args .at) (whole (blockOf c) (take (left c) (parted c))) (n1 f)
+  words-left f =
+      let c = told f in
+      f .build-subtree .ensures .1
+      ∙ ap (λ (l : List ℕ). subtreeWords (start c .args .at + 1) (start c .args .at) (whole (blockOf c) l) (n1 f)) (front-is (stand c))
 
-same-length-10 : (t : ℕ) → lts.Need-same-length-10 (calls t) (before t) build-subtree.Post
-same-length-10 t c = ?
+  back : (s : Second) → let c = told (first s) in midOf (left c) (length (stretch c) - left c) (handles (first s)) ≡ drop (left c) (parted c)
+  back s = let f = first s in back-is (stand (told f)) (h1 f) (n1 f) (same-h f) (same-n f)
 
-returns-4 : (t : ℕ) → lts.Need-returns-4 (calls t) (before t) build-subtree.Post
-returns-4 t c = ?
+  told-right : (s : Second) (b : Bool) → s .build-subtree2 .result ≡ b
+      → isGiven (whole (blockOf (told (first s))) (drop (left (told (first s))) (parted (told (first s))))) ≡ b
+  told-right s b e =
+      ap (λ (l : List ℕ). isGiven (whole (blockOf (told (first s))) l)) (sym (back s)) ∙ sym (s .build-subtree2 .ensures .0) ∙ e
 
-returns-5 : (t : ℕ) → lts.Need-returns-5 (calls t) (before t) build-subtree.Post
-returns-5 t c = ?
+  words-right : (s : Second) → let c = told (first s) in
+      n2 s ≡ subtreeWords (start c .args .at + 2 * left c) (start c .args .at) (whole (blockOf c) (drop (left c) (parted c))) (n2 s)
+  words-right s =
+      let c = told (first s) in
+      s .build-subtree2 .ensures .1
+      ∙ ap (λ (l : List ℕ). subtreeWords (start c .args .at + 2 * left c) (start c .args .at) (whole (blockOf c) l) (n2 s)) (back s)
+
+  returns-2 : lts.Need-returns-2 (calls t) (before t) build-subtree.Post
+  returns-2 c =
+      let joined = c .before .before in
+      let s = joined .before .before .before .before .before .before .before .before .before in
+      let f = first s in
+      let p = told f in
+      let st = stand p in
+      both-left (st .cut) (start p .args .at) (start p .args .parent) (take 16 (nodesOf p)) (n1 f) (n2 s) (nodes2 s)
+      (root-length st (h1 f) (n1 f) (same-h f) (same-n f)) (told-left f true (s .before .before .before .before .if2 .taken)) (words-left f)
+      (told-right s true (joined .before .before .if3 .taken)) (words-right s) (nodes-are st (h1 f) (n1 f) (same-h f) (same-n f) (n2 s))
+      (joined .join-children .result) (joined .join-children .last .0) (joined .join-children .ensures .0) (joined .join-children .ensures .1)
+
+  returns-3 : lts.Need-returns-3 (calls t) (before t) build-subtree.Post
+  returns-3 c =
+      let s = c .before .before .before .before .before .before .before in
+      let p = told (first s) in
+      no-right (stand p .cut) (start p .args .at) (start p .args .parent) (nodes2 s) (told-left (first s) true (s .before .before .before .before .if2 .taken))
+      (told-right s false (c .if3 .left))
+
+  returns-4 : lts.Need-returns-4 (calls t) (before t) build-subtree.Post
+  returns-4 c =
+      let f = c .before .before .before .before .before .before .before in
+      let p = told f in
+      no-left (stand p .cut) (start p .args .at) (start p .args .parent) (nodes f) (told-left f false (c .if2 .left))
+
+  returns-5 : lts.Need-returns-5 (calls t) (before t) build-subtree.Post
+  returns-5 c =
+      let split = c .before .before .before .before .before .before in
+      let one = split .before .before .before in
+      let start = one .before .before .before .before .before in
+      let two : 2 ≤ length (now (start .args .handles)) = omega (arith, start .pre .1 .0, one .if1 .left) in
+      lost-left (now (start .args .block)) (now (start .args .handles)) (start .args .at) (start .args .parent) _ (now (start .args .nodes))
+      (sym (split .split-stretch .ensures .0) ∙ ap counted (c .enum-told .given .1)) two
 
 pub +build-subtree-spec : {M : Type 1} → statement M
 +build-subtree-spec =
@@ -306,6 +358,14 @@ pub +build-subtree-spec : {M : Type 1} → statement M
     (mul-build-subtree-6 t) (λ c. words-within t (c .before .before .before .before .before .before .before .before .before))
     (λ c. words-within t (c .before .before .before .before .before .before .before .before .before)) (λ c. le-refl _) (cast-build-subtree t)
     (mul-build-subtree-7 t) (add-build-subtree-2 t) (build-subtree-requires-2 t) (mul-join-children t) (join-children-requires t) (λ c. search needs)
-    (same-length-2 t) (same-length-3 t) (same-length-4 t) (returns-2 t) (same-length-5 t) (same-length-6 t) (same-length-7 t) (returns-3 t) (same-length-8 t)
-    (same-length-9 t) (same-length-10 t) (returns-4 t) (λ c. c .before .before .before .before .before .before .split-stretch .kept .1 .0)
+    (λ c. handles2-length t (c .before .before .before .before .before .before .before .before .before .before .before))
+    (λ c. tray2-length t (c .before .before .before .before .before .before .before .before .before .before .before))
+    (λ c. c .before .before .join-children .kept .0 ∙ nodes2-length t (c .before .before .before .before .before .before .before .before .before .before .before))
+    (returns-2 t) (λ c. handles2-length t (c .before .before .before .before .before .before .before))
+    (λ c. tray2-length t (c .before .before .before .before .before .before .before))
+    (λ c. nodes2-length t (c .before .before .before .before .before .before .before)) (returns-3 t)
+    (λ c. handles-length t (c .before .before .before .before .before .before .before))
+    (λ c. same-tray t (c .before .before .before .before .before .before .before) ∙ tray-length t (c .before .before .before .before .before .before .before .before .before .before .before))
+    (λ c. nodes-length t (c .before .before .before .before .before .before .before)) (returns-4 t)
+    (λ c. c .before .before .before .before .before .before .split-stretch .kept .1 .0)
     (λ c. c .before .before .before .before .before .before .split-stretch .kept .1 .1 .0) (returns-5 t))
