@@ -7,12 +7,11 @@ use native.Mathlib.Nat.{le-refl}
 use native.Mathlib.Omega.{arith}
 use denote.Ref.{now}
 use lib.ListN.{length, take, drop}
-use Rattle.words.specs.Answers.{Answer, given, counted}
-use Rattle.light_nodes.specs.Nodes.{nodeWords}
-use Rattle.light_nodes.specs.Tree.{Tree}
+use Rattle.words.specs.Answers.{given, counted}
 use Rattle.light_bvh.specs.Subtree.{isGiven, subtreeWords, splitCount}
-use Rattle.light_bvh.proofs.SubtreeLaws.{Cut, cut-of, Stand, whole, leaf-left, lost-left, no-left, no-right, both-left, front-is, front-length}
-use Rattle.light_bvh.proofs.SubtreeLaws.{left-asks, right-asks, handles1, nodes1, handles1-length, nodes1-length, back-is, back-length, root-length, nodes-are}
+use Rattle.light_bvh.proofs.SubtreeLaws.{cut-of, Stand, whole, leaf-left, lost-left, no-left, no-right, both-left, front-is, given-moved, words-moved}
+use Rattle.light_bvh.proofs.SubtreeLaws.{left-asks, right-asks, handlesLeft, nodesLeft, handles-left, nodes-left, front-length}
+use Rattle.light_bvh.proofs.SubtreeLaws.{back-is, back-length, root-length, nodes-are}
 use borrow.Rule.Slice.PartMut.{midOf, putMid, same-len-mid}
 use borrow.Author.Needs.{needs}
 use borrow.Fn.Kinds.{In}
@@ -192,16 +191,16 @@ module _ (t : ℕ) where
   same-tray f = f .build-subtree .kept .1 .1 .0
 
   abbrev handles : First → List ℕ
-  handles f = handles1 (stand (told f)) (h1 f) (n1 f) (same-h f) (same-n f)
+  handles f = handlesLeft (left (told f)) (parted (told f)) (h1 f)
 
   abbrev nodes : First → List ℕ
-  nodes f = nodes1 (stand (told f)) (h1 f) (n1 f) (same-h f) (same-n f)
+  nodes f = nodesLeft (left (told f)) (nodesOf (told f)) (n1 f)
 
   handles-length : (f : First) → length (handles f) ≡ length (stretch (told f))
-  handles-length f = handles1-length (stand (told f)) (h1 f) (n1 f) (same-h f) (same-n f)
+  handles-length f = handles-left (stand (told f)) (h1 f) (n1 f) (same-h f) (same-n f)
 
   nodes-length : (f : First) → length (nodes f) ≡ length (nodesOf (told f))
-  nodes-length f = nodes1-length (stand (told f)) (h1 f) (n1 f) (same-h f) (same-n f)
+  nodes-length f = nodes-left (stand (told f)) (h1 f) (n1 f) (same-h f) (same-n f)
 
   mul-build-subtree-3 : lts.Need-mul-build-subtree-3 (calls t) (before t) build-subtree.Post
   mul-build-subtree-3 c = let n = numbers (told (c .before .before .before .before .before .before .before)) in omega arith
@@ -243,8 +242,7 @@ module _ (t : ℕ) where
   build-subtree-requires-2 : lts.Need-build-subtree-requires-2 (calls t) (before t) build-subtree.Post
   build-subtree-requires-2 c κs =
       let f = c .before .before .before .before .before .before .before .before .before .before in
-      let s = stand (told f) in
-      (
+      let s = stand (told f) in (
         omega (arith, back-length s (h1 f) (n1 f) (same-h f) (same-n f), s .cut .some, s .cut .rest, start (told f) .pre .0),
         right-asks s (h1 f) (n1 f) (same-h f) (same-n f) (f .build-subtree .last .1 .1 .0) (same-tray f),
       )
@@ -289,30 +287,22 @@ module _ (t : ℕ) where
   -- ---- and the trees
 
   told-left : (f : First) (b : Bool) → f .build-subtree .result ≡ b → isGiven (whole (blockOf (told f)) (take (left (told f)) (parted (told f)))) ≡ b
-  told-left f b e =
-      ap (λ (l : List ℕ). isGiven (whole (blockOf (told f)) l)) (sym (front-is (stand (told f)))) ∙ sym (f .build-subtree .ensures .0) ∙ e
+  told-left f b e = given-moved (blockOf (told f)) _ _ (f .build-subtree .result) b (front-is (stand (told f))) (f .build-subtree .ensures .0) e
 
   words-left : (f : First) → let c = told f in
       n1 f ≡ subtreeWords (start c .args .at + 1) (start c .args .at) (whole (blockOf c) (take (left c) (parted c))) (n1 f)
-  words-left f =
-      let c = told f in
-      f .build-subtree .ensures .1
-      ∙ ap (λ (l : List ℕ). subtreeWords (start c .args .at + 1) (start c .args .at) (whole (blockOf c) l) (n1 f)) (front-is (stand c))
+  words-left f = words-moved (blockOf (told f)) _ _ _ _ (n1 f) (front-is (stand (told f))) (f .build-subtree .ensures .1)
 
   back : (s : Second) → let c = told (first s) in midOf (left c) (length (stretch c) - left c) (handles (first s)) ≡ drop (left c) (parted c)
   back s = let f = first s in back-is (stand (told f)) (h1 f) (n1 f) (same-h f) (same-n f)
 
   told-right : (s : Second) (b : Bool) → s .build-subtree2 .result ≡ b
       → isGiven (whole (blockOf (told (first s))) (drop (left (told (first s))) (parted (told (first s))))) ≡ b
-  told-right s b e =
-      ap (λ (l : List ℕ). isGiven (whole (blockOf (told (first s))) l)) (sym (back s)) ∙ sym (s .build-subtree2 .ensures .0) ∙ e
+  told-right s b e = given-moved (blockOf (told (first s))) _ _ (s .build-subtree2 .result) b (back s) (s .build-subtree2 .ensures .0) e
 
   words-right : (s : Second) → let c = told (first s) in
       n2 s ≡ subtreeWords (start c .args .at + 2 * left c) (start c .args .at) (whole (blockOf c) (drop (left c) (parted c))) (n2 s)
-  words-right s =
-      let c = told (first s) in
-      s .build-subtree2 .ensures .1
-      ∙ ap (λ (l : List ℕ). subtreeWords (start c .args .at + 2 * left c) (start c .args .at) (whole (blockOf c) l) (n2 s)) (back s)
+  words-right s = words-moved (blockOf (told (first s))) _ _ _ _ (n2 s) (back s) (s .build-subtree2 .ensures .1)
 
   returns-2 : lts.Need-returns-2 (calls t) (before t) build-subtree.Post
   returns-2 c =
@@ -360,12 +350,14 @@ pub +build-subtree-spec : {M : Type 1} → statement M
     (mul-build-subtree-7 t) (add-build-subtree-2 t) (build-subtree-requires-2 t) (mul-join-children t) (join-children-requires t) (λ c. search needs)
     (λ c. handles2-length t (c .before .before .before .before .before .before .before .before .before .before .before))
     (λ c. tray2-length t (c .before .before .before .before .before .before .before .before .before .before .before))
-    (λ c. c .before .before .join-children .kept .0 ∙ nodes2-length t (c .before .before .before .before .before .before .before .before .before .before .before))
+    (λ c. c .before .before .join-children .kept .0
+    ∙ nodes2-length t (c .before .before .before .before .before .before .before .before .before .before .before))
     (returns-2 t) (λ c. handles2-length t (c .before .before .before .before .before .before .before))
     (λ c. tray2-length t (c .before .before .before .before .before .before .before))
     (λ c. nodes2-length t (c .before .before .before .before .before .before .before)) (returns-3 t)
     (λ c. handles-length t (c .before .before .before .before .before .before .before))
-    (λ c. same-tray t (c .before .before .before .before .before .before .before) ∙ tray-length t (c .before .before .before .before .before .before .before .before .before .before .before))
+    (λ c. same-tray t (c .before .before .before .before .before .before .before)
+    ∙ tray-length t (c .before .before .before .before .before .before .before .before .before .before .before))
     (λ c. nodes-length t (c .before .before .before .before .before .before .before)) (returns-4 t)
     (λ c. c .before .before .before .before .before .before .split-stretch .kept .1 .0)
     (λ c. c .before .before .before .before .before .before .split-stretch .kept .1 .1 .0) (returns-5 t))
