@@ -1,3 +1,4 @@
+pub mod BuiltLaws
 pub mod RowsLaws
 pub mod SubtreeLaws
 pub mod TableLaws

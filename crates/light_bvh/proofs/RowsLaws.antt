@@ -1,16 +1,16 @@
--- The tree that `build_rows` comes to. Its labels are the rows' handles, which are their places (`labels-below`); it refuses by 10 alone (`tree-refused`); it
--- has a leaf for each powered row (`tree-leaves`); and the box is there where a powered row is (`bounds-some`). By induction on the depth, over what a stretch's
--- halves hold. Assumes nothing.
-use Prim.Native.Nat.{ℕ, zero, suc, _+_, _-_, _/_, _≤_, _<_}
+-- The tree that `build_rows` comes to. Its labels are the rows' handles, which are their places (`labels-below`); it refuses by 10 alone (`tree-refused`), by
+-- induction on the depth, over what a stretch's halves hold; and the box of the powered rows is there where one of them is (`bounds-some`, `bounds-none`).
+-- Assumes nothing.
+use Prim.Native.Nat.{ℕ, zero, suc, _/_, _≤_, _<_}
 use mathlib.Core.Path.{_≡_, refl, ap, subst, sym, _∙_}
 use mathlib.Core.Bool.{Bool, true, false, cond, _||_}
 use mathlib.Core.List.{List, [], _∷_, _++_, append-nil}
 use mathlib.Core.Option.{Option, none, some, IsSome}
 use native.Mathlib.Omega.{arith}
-use borrow.Author.Tests.{eqb-true, eqb-false}
+use borrow.Author.Tests.{eqb-true}
 use lib.Dec.{eqb}
 use lib.Ieee.{eq}
-use lib.ListN.{length, getD, set, take, drop, length-append, length-take, length-drop}
+use lib.ListN.{length, getD, set, take, drop, length-append}
 use Rattle.words.specs.Answers.{Answer, given, refused, _then_}
 use Rattle.words.specs.Rows.{below}
 use Rattle.words.proofs.AnswerLaws.{Only, only-given, only-refused, only-cond, only-then, only-number, refused-injective, given-injective, not-both}
@@ -21,7 +21,7 @@ use Rattle.light_bounds.specs.LightBounds.{union}
 use Rattle.light_bounds.specs.declared.bounds.Bounds3.{Bounds3}
 use Rattle.light_bounds.specs.declared.light_bounds.LightBounds.{LightBounds}
 use Rattle.lamps.specs.Block.{handleAt, blockHandles}
-use Rattle.light_nodes.specs.Tree.{Tree, leaf, fork, bounds, leaves}
+use Rattle.light_nodes.specs.Tree.{Tree, leaf, fork, bounds}
 use Rattle.light_split.specs.Buckets.{Bucket, joinTo, fillBuckets, emptyBuckets, unionRange, unionBucketRange, cutCost}
 use Rattle.light_split.specs.Lights.{lightOf, component, centroidEnds, bucketOf}
 use Rattle.light_split.specs.Partition.{kept, goesLeft, goesRight, lefts, rights, partitionHandles}
@@ -29,10 +29,10 @@ use Rattle.light_split.specs.Split.{noBest, combinedBounds, cuts, axis, chooseS
 use Rattle.light_split.specs.declared.split.Best.{Best}
 use Rattle.light_split.specs.declared.split.Split.{Split}
 use Rattle.light_split.proofs.BucketLaws.{union-refused}
-use Rattle.light_split.proofs.PartitionLaws.{both-lengths}
 use Rattle.light_bvh.specs.Subtree.{labelOf, forked, treeBy, buildSubtree}
-use Rattle.light_bvh.specs.Build.{isPowered, boundedHandles, grown, allBounds, LightBVH, treeOf, builtBvh, overall}
+use Rattle.light_bvh.specs.Build.{isPowered, boundedHandles, grown, allBounds, overall}
 use Rattle.light_bvh.specs.declared.build.Overall.{Overall}
+use Rattle.light_bvh.proofs.SubtreeLaws.{halves}
 use Rattle.light_bvh.proofs.TableLaws.{Labels}
 
 -- ---- every item of a list has the property
@@ -233,42 +233,6 @@ ten-split ws hs =
     only-then (ten-axis ws hs ends parent 0 noBest) (λ b. only-then (ten-axis ws hs ends parent 1 b) (λ b. only-then (ten-axis ws hs ends parent 2 b) (λ b.
     only-given)))
 
--- ---- both halves of a stretch of two or more have handles
-
-cut-lengths : (a b : Bool) (l r : List ℕ) → 2 ≤ length l + length r → eqb (length l) 0 ≡ a → eqb (length r) 0 ≡ b
-    → let p : List ℕ × List ℕ = cond (a || b) (take (length (l ++ r) / 2) (l ++ r), drop (length (l ++ r) / 2) (l ++ r)) (l, r) in
-    (1 ≤ length (p .0)) × (1 ≤ length (p .1)) × (length (p .0) + length (p .1) ≡ length l + length r)
-cut-lengths a b l r h e f = go a b e f
-  where
-    middle : (1 ≤ length (take (length (l ++ r) / 2) (l ++ r))) × (1 ≤ length (drop (length (l ++ r) / 2) (l ++ r)))
-        × (length (take (length (l ++ r) / 2) (l ++ r)) + length (drop (length (l ++ r) / 2) (l ++ r)) ≡ length l + length r)
-    middle =
-        let sum = length-append l r in
-        let x = length-take (length (l ++ r) / 2) (l ++ r) in
-        let y = length-drop (length (l ++ r) / 2) (l ++ r) in
-        (omega arith, omega arith, omega arith)
-
-    go : (a b : Bool) → eqb (length l) 0 ≡ a → eqb (length r) 0 ≡ b
-        → let p : List ℕ × List ℕ = cond (a || b) (take (length (l ++ r) / 2) (l ++ r), drop (length (l ++ r) / 2) (l ++ r)) (l, r) in
-        (1 ≤ length (p .0)) × (1 ≤ length (p .1)) × (length (p .0) + length (p .1) ≡ length l + length r)
-    go true b e f = middle
-    go false true e f = middle
-    go false false e f =
-        let i : 1 ≤ length l = omega (arith, eqb-false (length l) 0 e) in
-        let j : 1 ≤ length r = omega (arith, eqb-false (length r) 0 f) in
-        (i, j, refl)
-
-pub half-lengths : (ws hs : List ℕ) (s : Split) → 2 ≤ length hs
-    → (1 ≤ length (partitionHandles ws hs s .0)) × (1 ≤ length (partitionHandles ws hs s .1))
-    × (length (partitionHandles ws hs s .0) + length (partitionHandles ws hs s .1) ≡ length hs)
-unfolding partitionHandles
-half-lengths ws hs s h =
-    let l = lefts ws hs s in
-    let r = rights ws hs s in
-    rw (both-lengths ws hs s) at (cut-lengths (eqb (length l) 0) (eqb (length r) 0) l r (omega (arith, both-lengths ws hs s)) refl refl)
-
--- ---- what is refused, and how many leaves there are
-
 module _ (ws : List ℕ) where
   ten-by : (n : ℕ) (build : List ℕ → Answer Tree) → ((hs : List ℕ) → 1 ≤ length hs → length hs ≤ n → Ten (build hs))
       → (hs : List ℕ) → 1 ≤ length hs → length hs ≤ suc n → Ten (treeBy ws hs build)
@@ -278,9 +242,9 @@ module _ (ws : List ℕ) where
   ten-by n build each (x ∷ y ∷ hs) h k =
       let all = x ∷ y ∷ hs in
       only-then (ten-split ws all) (λ s.
-      let (i, j, sum) = half-lengths ws all s (omega arith) in
-      only-then (each (partitionHandles ws all s .0) i (omega arith)) (λ l.
-      only-then (each (partitionHandles ws all s .1) j (omega arith)) (λ r.
+      let w = halves ws all s (omega arith) in
+      only-then (each (partitionHandles ws all s .0) (w .left) (omega arith)) (λ l.
+      only-then (each (partitionHandles ws all s .1) (w .right) (omega arith)) (λ r.
       only-then (ten-union (bounds l) (bounds r)) (λ b. only-given))))
 
   ten-tree : (n : ℕ) (hs : List ℕ) → 1 ≤ length hs → length hs ≤ n → Ten (buildSubtree ws n hs)
@@ -290,25 +254,3 @@ module _ (ws : List ℕ) where
 
   pub tree-refused : (n : ℕ) (hs : List ℕ) (k : ℕ) → 1 ≤ length hs → length hs ≤ n → buildSubtree ws n hs ≡ refused k → k ≡ 10
   tree-refused n hs k h l e = only-number (ten-tree n hs h l) e
-
-  -- whatever the depth
-  leaves-by : (build : List ℕ → Answer Tree) → ((hs : List ℕ) → Gives (λ (t : Tree). leaves t ≡ length hs) (build hs))
-      → (hs : List ℕ) → Gives (λ (t : Tree). leaves t ≡ length hs) (treeBy ws hs build)
-  unfolding treeBy forked leaves
-  leaves-by build each [] = gives-none
-  leaves-by build each (x ∷ []) = gives refl
-  leaves-by build each (x ∷ y ∷ hs) =
-      let all = x ∷ y ∷ hs in
-      gives-then (gives-any (chooseSplit ws all)) (λ s _.
-      let (i, j, sum) = half-lengths ws all s (omega arith) in
-      gives-then (each (partitionHandles ws all s .0)) (λ l p.
-      gives-then (each (partitionHandles ws all s .1)) (λ r q.
-      gives-then (gives-any (union (bounds l) (bounds r))) (λ b _. gives (omega arith)))))
-
-  leaves-of : (n : ℕ) (hs : List ℕ) → Gives (λ (t : Tree). leaves t ≡ length hs) (buildSubtree ws n hs)
-  unfolding buildSubtree
-  leaves-of zero hs = leaves-by (λ (_ : List ℕ). refused 12) (λ _. gives-none) hs
-  leaves-of (suc n) hs = leaves-by (λ (hs : List ℕ). buildSubtree ws n hs) (λ hs. leaves-of n hs) hs
-
-  pub tree-leaves : (n : ℕ) (hs : List ℕ) (t : Tree) → buildSubtree ws n hs ≡ given t → leaves t ≡ length hs
-  tree-leaves n hs t e = gives-value (leaves-of n hs) e
