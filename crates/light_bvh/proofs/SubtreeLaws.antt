@@ -1,25 +1,26 @@
 -- The tree of a stretch by those of its halves. Each half has a handle, and both together have the stretch's (`halves`), so the depth that bounds a build is
 -- enough at the stretch's length (`depth`, `build-fork`, `build-leaf`); a tree has as many leaves as its stretch has handles and a record of floats of the
 -- format (`build-sized`), so its root is read back from its words as it is (`union-read`, `joined-read`). Assumes nothing.
-use Prim.Native.Nat.{ℕ, zero, suc, _+_, _*_, _/_, _≤_, _<_}
+use Prim.Native.Nat.{ℕ, zero, suc, _+_, _-_, _*_, _/_, _≤_, _<_}
 use mathlib.Core.Path.{_≡_, refl, ap, sym, _∙_}
-use mathlib.Core.Bool.{Bool, true, false, cond, _&&_}
+use mathlib.Core.Bool.{Bool, true, false, cond, _&&_, true≢false}
 use mathlib.Core.List.{List, [], _∷_, _++_, append-nil, append-assoc}
 use mathlib.Core.Logic.{_⊎_, inl, inr}
 use native.Mathlib.Omega.{arith}
 use borrow.Author.Tests.{eqb-true, eqb-false, le-ltb}
 use lib.Dec.{eqb, leb}
-use lib.ListN.{length, getD, length-append}
-use lib.Seq.{sets-eq, drop-at}
+use lib.ListN.{length, getD, take, drop, length-append, length-take, length-drop, drop-of-length-le}
+use lib.Seq.{sets-eq, take-at, drop-at, take-all, length-take-le}
+use borrow.Rule.Slice.PartMut.{midOf, putMid, post-is, mid-len, take-put, drop-put, same-len-mid}
 use Rattle.words.specs.Answers.{Answer, given, refused, _then_}
-use Rattle.words.proofs.AnswerLaws.{Gives, gives, gives-none, gives-any, gives-then, gives-value, given-injective, not-both}
+use Rattle.words.proofs.AnswerLaws.{Gives, gives, gives-none, gives-any, gives-then, gives-value, given-injective, refused-injective, then-given, not-both}
 use Rattle.light_bounds.specs.BoundsLaws.{union-given}
 use Rattle.light_bounds.specs.LightBounds.{union, join}
 use Rattle.light_bounds.specs.RecordLaws.{RecordFits, join-fits, record-fits-read}
 use Rattle.light_bounds.specs.RecordWords.{readRecord, recordAt, recordWords, sidePlace}
 use Rattle.light_bounds.specs.Side.{sideKnown}
 use Rattle.light_bounds.specs.declared.light_bounds.LightBounds.{LightBounds}
-use Rattle.light_nodes.specs.Nodes.{LightBVHNode, interior, nodeWords, nodePlace, boundsPlace, boundsAt, nodeList, nodeWritten}
+use Rattle.light_nodes.specs.Nodes.{LightBVHNode, leaf as leafNode, interior, nodeWords, nodePlace, boundsPlace, boundsAt, nodeList, nodeWritten}
 use Rattle.light_nodes.specs.Tree.{Tree, leaf, fork, bounds, leaves, flatten, rightPlace}
 use Rattle.light_nodes.specs.TreeLaws.{length-nodeList, length-flatten, root-bounds-at, leaves-pos}
 use Rattle.light_nodes.proofs.NodePlaces.{nodeWritten-room}
@@ -73,6 +74,14 @@ then-same : {A B : Type 0} (x : Answer A) (f g : A → Answer B) → ((a : A) �
 unfolding _then_
 then-same (given a) f g h = h a
 then-same (refused n) f g h = refl
+
+then-refused : {A B : Type 0} (x : Answer A) (f : A → Answer B) (n : ℕ) → x ≡ refused n → x then f ≡ refused n
+unfolding _then_
+then-refused x f n e = rw e
+
+then-is : {A B : Type 0} (x : Answer A) (f : A → Answer B) (a : A) → x ≡ given a → x then f ≡ f a
+unfolding _then_
+then-is x f a e = rw e
 
 -- builds that agree on shorter stretches
 abbrev Agree : ℕ → (List ℕ → Answer Tree) → (List ℕ → Answer Tree) → Type 0
@@ -230,3 +239,81 @@ module _ (ws hs : List ℕ) (s : Split) (room : ℕ) (e : chooseSplit ws hs ≡ 
   pub parted-handles : partedHandles ws hs s room ≡ splitHandles ws hs
   unfolding partedHandles splitHandles
   parted-handles = rw (e, le-ltb room (length hs) h)
+
+-- ---- as the code goes
+
+refused-of : {A : Type 0} (x : Answer A) → isGiven x ≡ false → (n : ℕ) × (x ≡ refused n)
+refused-of (given a) e = absurd (true≢false e)
+refused-of (refused n) e = (n, refl)
+
+given-of : {A : Type 0} (x : Answer A) → isGiven x ≡ true → (a : A) × (x ≡ given a)
+given-of (given a) e = (a, refl)
+given-of (refused n) e = absurd (true≢false (sym e))
+
+-- a stretch that is parted, hs′ with its halves one behind the other
+pub record Cut (ws hs hs′ : List ℕ) (left : ℕ) : Type 0 where
+  pub split : Split
+  pub chosen : chooseSplit ws hs ≡ given split
+  pub count : left ≡ length (partitionHandles ws hs split .0)
+  pub front : take left hs′ ≡ partitionHandles ws hs split .0
+  pub back : drop left hs′ ≡ partitionHandles ws hs split .1
+  pub same : length hs′ ≡ length hs
+  pub some : 1 ≤ left
+  pub rest : left < length hs
+
+pub cut-of : (ws hs hs′ : List ℕ) (left : ℕ) → splitCount ws hs ≡ given left → hs′ ≡ splitHandles ws hs → 2 ≤ length hs → Cut ws hs hs′ left
+unfolding splitCount splitHandles
+cut-of ws hs hs′ left e e′ h =
+    let (s, chosen, count) = then-given (chooseSplit ws hs) (λ (s : Split). given (length (partitionHandles ws hs s .0))) left e in
+    let l = partitionHandles ws hs s .0 in
+    let r = partitionHandles ws hs s .1 in
+    let is : hs′ ≡ l ++ r = rw chosen at e′ in
+    let size : length l ≡ left = given-injective count in
+    let w = halves ws hs s h in
+    record {
+      split = s;
+      chosen = chosen;
+      count = sym size;
+      front = rw is (take-at l r left size);
+      back = rw is (drop-at l r left size);
+      same = ap length is ∙ length-append l r ∙ w .sum;
+      some = omega arith;
+      rest = omega arith;
+    }
+
+-- what a build answers and leaves
+abbrev pub Left : ℕ → ℕ → Answer Tree → Bool → List ℕ → Type 0
+Left at p x r nodes = (r ≡ isGiven x) × (nodes ≡ subtreeWords at p x nodes)
+
+refused-left : (at p : ℕ) (x : Answer Tree) (n : ℕ) (nodes : List ℕ) → x ≡ refused n → Left at p x false nodes
+refused-left at p x n nodes e = rw e (refl, refl)
+
+pub lost-left : (ws hs : List ℕ) (at p n : ℕ) (nodes : List ℕ) → splitCount ws hs ≡ refused n → 2 ≤ length hs → Left at p (whole ws hs) false nodes
+unfolding splitCount forked _then_
+lost-left ws hs at p n nodes e h = refused-left at p (whole ws hs) _ nodes (build-fork ws hs h ∙ lost (chooseSplit ws hs) _ _ n e)
+  where
+    lost : {B : Type 0} (x : Answer Split) (f : Split → ℕ) (g : Split → Answer B) (n : ℕ) → x then (λ (s : Split). given (f s)) ≡ refused n
+        → x then g ≡ refused n
+    lost (given s) f g n e = absurd (not-both refl e)
+    lost (refused m) f g n e = ap refused (refused-injective e)
+
+module _ {ws hs hs′ : List ℕ} {left : ℕ} (cut : Cut ws hs hs′ left) (at p : ℕ) where
+  -- the forked tree, of halves that are read off the parted stretch
+  forked-cut : whole ws hs ≡ (whole ws (take left hs′) then λ (l : Tree). whole ws (drop left hs′) then λ (r : Tree).
+      union (bounds l) (bounds r) then λ (b : LightBounds). given (fork b l r))
+  unfolding forked _then_
+  forked-cut =
+      rw (cut .front, cut .back) (build-fork ws hs (omega (arith, cut .some, cut .rest))
+      ∙ ap (λ (x : Answer Split). x then λ (s : Split). whole ws (partitionHandles ws hs s .0) then λ (l : Tree). whole ws (partitionHandles ws hs s .1) then
+      λ (r : Tree). union (bounds l) (bounds r) then λ (b : LightBounds). given (fork b l r)) (cut .chosen))
+
+  pub no-left : (nodes : List ℕ) → isGiven (whole ws (take left hs′)) ≡ false → Left at p (whole ws hs) false nodes
+  no-left nodes e =
+      let (n, x) = refused-of (whole ws (take left hs′)) e in
+      refused-left at p (whole ws hs) n nodes (forked-cut ∙ then-refused (whole ws (take left hs′)) _ n x)
+
+  pub no-right : (nodes : List ℕ) → isGiven (whole ws (take left hs′)) ≡ true → isGiven (whole ws (drop left hs′)) ≡ false → Left at p (whole ws hs) false nodes
+  no-right nodes e e′ =
+      let (l, x) = given-of (whole ws (take left hs′)) e in
+      let (n, y) = refused-of (whole ws (drop left hs′)) e′ in
+      refused-left at p (whole ws hs) n nodes (forked-cut ∙ then-is (whole ws (take left hs′)) _ l x ∙ then-refused (whole ws (drop left hs′)) _ n y)
