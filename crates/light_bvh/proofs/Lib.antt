@@ -1,4 +1,5 @@
-pub mod BuiltLaws
+pub mod BuildLaws
+pub mod RowTrays
 pub mod RowsLaws
 pub mod SubtreeLaws
 pub mod TableLaws
