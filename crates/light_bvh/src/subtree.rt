@@ -89,7 +89,7 @@ pub(crate) fn build_subtree(
     }
     match split_stretch(block, handles, work) {
         Counted::Count(left) => {
-            if !build_subtree(
+            if build_subtree(
                 block,
                 &mut handles[0..left],
                 work,
@@ -97,19 +97,21 @@ pub(crate) fn build_subtree(
                 at + 1,
                 at,
             ) {
-                return false;
+                if build_subtree(
+                    block,
+                    &mut handles[left..n],
+                    work,
+                    &mut nodes[2 * NODE_WORDS * left..],
+                    at + 2 * left as u32,
+                    at,
+                ) {
+                    join_children(nodes, 2 * left, at, parent)
+                } else {
+                    false
+                }
+            } else {
+                false
             }
-            if !build_subtree(
-                block,
-                &mut handles[left..n],
-                work,
-                &mut nodes[2 * NODE_WORDS * left..],
-                at + 2 * left as u32,
-                at,
-            ) {
-                return false;
-            }
-            join_children(nodes, 2 * left, at, parent)
         }
         Counted::Refused(_) => false,
     }
