@@ -1,1 +1,5 @@
+pub mod BuildLaws
+pub mod RowTrays
+pub mod RowsLaws
 pub mod SubtreeLaws
+pub mod TableLaws

@@ -220,7 +220,7 @@ fn build_rows(
     if build_subtree(
         block,
         &mut table[0..k],
-        work,
+        &mut work[0..k],
         &mut nodes[0..end],
         0,
         INVALID_INDEX,
