@@ -201,15 +201,6 @@ module _ {ws hs hs′ : List ℕ} {m k i : ℕ} (g : Gathering ws m hs hs′ k i
       let e : i ≡ m = omega arith in
       (g .count ∙ rw e, g .is ∙ rw e)
 
-pub bounded-few : (ws : List ℕ) (m : ℕ) → length (boundedHandles ws m) ≤ m
-unfolding boundedHandles
-bounded-few ws zero = zero-le
-bounded-few ws (suc m) = go (isPowered ws m) (bounded-few ws m)
-  where
-    go : (b : Bool) → length (boundedHandles ws m) ≤ m → length (boundedHandles ws m ++ cond b (m ∷ []) []) ≤ suc m
-    go true h = rw (length-append (boundedHandles ws m) (m ∷ [])) (omega arith)
-    go false h = rw (length-append (boundedHandles ws m) []) (omega arith)
-
 -- ---- the handle table
 
 module _ (ws : List ℕ) (i : ℕ) (table : List ℕ) where

@@ -1,7 +1,7 @@
 -- The tree of a stretch by those of its halves. Each half has a handle, and both together have the stretch's (`halves`), so the depth that bounds a build is
 -- enough at the stretch's length (`depth`, `build-fork`, `build-leaf`); a tree has as many leaves as its stretch has handles and a record of floats of the
 -- format (`build-sized`), so its root is read back from its words as it is (`union-read`, `joined-read`). Assumes nothing.
-use Prim.Native.Nat.{ℕ, zero, suc, _+_, _-_, _*_, _/_, _≤_, _<_}
+use Prim.Native.Nat.{ℕ, zero, suc, _+_, _-_, _*_, _/_, _^_, _≤_, _<_}
 use mathlib.Core.Path.{_≡_, refl, ap, sym, _∙_}
 use mathlib.Core.Bool.{Bool, true, false, cond, _&&_, true≢false}
 use mathlib.Core.List.{List, [], _∷_, _++_, append-nil, append-assoc}
@@ -9,20 +9,20 @@ use mathlib.Core.Logic.{_⊎_, inl, inr}
 use native.Mathlib.Omega.{arith}
 use borrow.Author.Tests.{eqb-true, eqb-false, le-ltb}
 use lib.Dec.{eqb, leb}
-use lib.ListN.{length, getD, take, drop, length-append, length-take, length-drop, drop-of-length-le}
+use lib.ListN.{length, getD, take, drop, length-append, length-drop, drop-of-length-le}
 use lib.Seq.{sets-eq, take-at, drop-at, take-all, length-take-le}
-use borrow.Rule.Slice.PartMut.{midOf, putMid, post-is, mid-len, take-put, drop-put, same-len-mid}
+use borrow.Rule.Slice.PartMut.{midOf, putMid, mid-len, same-len-mid}
 use Rattle.words.specs.Answers.{Answer, given, refused, _then_}
 use Rattle.words.proofs.AnswerLaws.{Gives, gives, gives-none, gives-any, gives-then, gives-value, given-injective, refused-injective, then-given, not-both}
 use Rattle.light_bounds.specs.BoundsLaws.{union-given}
-use Rattle.light_bounds.specs.LightBounds.{union, join}
+use Rattle.light_bounds.specs.LightBounds.{union}
 use Rattle.light_bounds.specs.RecordLaws.{RecordFits, join-fits, record-fits-read}
 use Rattle.light_bounds.specs.RecordWords.{readRecord, recordAt, recordWords, sidePlace}
 use Rattle.light_bounds.specs.Side.{sideKnown}
 use Rattle.light_bounds.specs.declared.light_bounds.LightBounds.{LightBounds}
 use Rattle.light_nodes.specs.Nodes.{LightBVHNode, leaf as leafNode, interior, nodeWords, nodePlace, boundsPlace, boundsAt, nodeList, nodeWritten}
 use Rattle.light_nodes.specs.Tree.{Tree, leaf, fork, bounds, leaves, flatten, rightPlace}
-use Rattle.light_nodes.specs.TreeLaws.{length-nodeList, length-flatten, root-bounds-at, leaves-pos}
+use Rattle.light_nodes.specs.TreeLaws.{length-nodeList, length-flatten, root-bounds-at}
 use Rattle.light_nodes.proofs.NodePlaces.{nodeWritten-room}
 use Rattle.light_split.specs.Lights.{lightOf}
 use Rattle.light_split.specs.Partition.{lefts, rights, partitionHandles, partedCount, partedHandles}
@@ -197,32 +197,34 @@ bounds-read-back ws i b e =
     cond-given (leb (boundsPlace i + recordWords) (length ws) && sideKnown (getD ws (sidePlace (boundsPlace i)) 0)) (readRecord ws (boundsPlace i)) b 12 e
 
 -- any words of a node, then two trees
-module _ (root : List ℕ) (at p : ℕ) (l r : Tree) (room : length root ≡ nodeWords) where
-  abbrev pub laidOut : List ℕ
-  laidOut = root ++ flatten (at + 1) at l ++ flatten (rightPlace at l) at r
+abbrev pub laidOut : List ℕ → ℕ → Tree → Tree → List ℕ
+laidOut root at l r = root ++ flatten (at + 1) at l ++ flatten (rightPlace at l) at r
 
-  left-read : RecordFits (bounds l) → readRecord laidOut (boundsPlace 1) ≡ bounds l
-  left-read f = bounds-read-back laidOut 1 (bounds l) (root-bounds-at root (flatten (rightPlace at l) at r) 1 (at + 1) at l room f)
+module _ (root : List ℕ) (at : ℕ) (l r : Tree) (room : length root ≡ nodeWords) where
+  left-read : RecordFits (bounds l) → readRecord (laidOut root at l r) (boundsPlace 1) ≡ bounds l
+  left-read f = bounds-read-back (laidOut root at l r) 1 (bounds l) (root-bounds-at root (flatten (rightPlace at l) at r) 1 (at + 1) at l room f)
 
   right-start : length (root ++ flatten (at + 1) at l) ≡ nodePlace (2 * leaves l)
   right-start = length-append root (flatten (at + 1) at l) ∙ omega (arith, room, length-flatten (at + 1) at l)
 
-  right-read : RecordFits (bounds r) → readRecord laidOut (boundsPlace (2 * leaves l)) ≡ bounds r
+  right-read : RecordFits (bounds r) → readRecord (laidOut root at l r) (boundsPlace (2 * leaves l)) ≡ bounds r
   right-read f =
-      bounds-read-back laidOut (2 * leaves l) (bounds r)
+      bounds-read-back (laidOut root at l r) (2 * leaves l) (bounds r)
       (rw append-nil at (root-bounds-at (root ++ flatten (at + 1) at l) [] (2 * leaves l) (rightPlace at l) at r right-start f))
 
-  pub union-read : RecordFits (bounds l) → RecordFits (bounds r) → unionAt laidOut (2 * leaves l) ≡ union (bounds l) (bounds r)
+  pub union-read : RecordFits (bounds l) → RecordFits (bounds r) → unionAt (laidOut root at l r) (2 * leaves l) ≡ union (bounds l) (bounds r)
   unfolding unionAt
-  union-read f g = ap (λ (b : LightBounds). union b (readRecord laidOut (boundsPlace (2 * leaves l)))) (left-read f) ∙ ap (union (bounds l)) (right-read g)
+  union-read f g =
+      ap (λ (b : LightBounds). union b (readRecord (laidOut root at l r) (boundsPlace (2 * leaves l)))) (left-read f)
+      ∙ ap (union (bounds l)) (right-read g)
 
-  pub joined-read : (b : LightBounds) → nodeWritten laidOut 0 (interior (at + 1) (rightPlace at l) p) b ≡ flatten at p (fork b l r)
+  pub joined-read : (p : ℕ) (b : LightBounds) → nodeWritten (laidOut root at l r) 0 (interior (at + 1) (rightPlace at l) p) b ≡ flatten at p (fork b l r)
   unfolding flatten
-  joined-read b =
+  joined-read p b =
       let rest = flatten (at + 1) at l ++ flatten (rightPlace at l) at r in
       let node = nodeList (interior (at + 1) (rightPlace at l) p) b in
       let long = length-append root rest in
-      let is : laidOut ≡ root ++ rest = append-assoc root (flatten (at + 1) at l) (flatten (rightPlace at l) at r) in
+      let is : laidOut root at l r ≡ root ++ rest = append-assoc root (flatten (at + 1) at l) (flatten (rightPlace at l) at r) in
       let size = length-nodeList (interior (at + 1) (rightPlace at l) p) b in
       rw is (nodeWritten-room (root ++ rest) 0 (interior (at + 1) (rightPlace at l) p) b (omega arith)
       ∙ sets-eq node (root ++ rest) 0 (omega arith)
@@ -231,14 +233,12 @@ module _ (root : List ℕ) (at p : ℕ) (l r : Tree) (room : length root ≡ nod
 
 -- ---- the stretch as it is parted, by a work that is as long
 
-module _ (ws hs : List ℕ) (s : Split) (room : ℕ) (e : chooseSplit ws hs ≡ given s) (h : length hs ≤ room) where
-  pub parted-count : partedCount ws hs s room ≡ splitCount ws hs
-  unfolding partedCount splitCount _then_
-  parted-count = rw (e, le-ltb room (length hs) h)
-
-  pub parted-handles : partedHandles ws hs s room ≡ splitHandles ws hs
-  unfolding partedHandles splitHandles
-  parted-handles = rw (e, le-ltb room (length hs) h)
+pub parted-is : (ws hs : List ℕ) (s : Split) (room : ℕ) → chooseSplit ws hs ≡ given s → length hs ≤ room → (x : Answer ℕ) (l : List ℕ)
+    → x ≡ partedCount ws hs s room → l ≡ partedHandles ws hs s room → (x ≡ splitCount ws hs) × (l ≡ splitHandles ws hs)
+unfolding partedCount partedHandles splitCount splitHandles _then_
+parted-is ws hs s room e h x l count is =
+    let t = le-ltb room (length hs) h in
+    (rw e (rw t at count), rw e (rw t at is))
 
 -- ---- as the code goes
 
@@ -285,6 +285,13 @@ cut-of ws hs hs′ left e e′ h =
 abbrev pub Left : ℕ → ℕ → Answer Tree → Bool → List ℕ → Type 0
 Left at p x r nodes = (r ≡ isGiven x) × (nodes ≡ subtreeWords at p x nodes)
 
+-- of one list, it is so of a list that is the same
+pub given-moved : (ws l l′ : List ℕ) (r b : Bool) → l ≡ l′ → r ≡ isGiven (whole ws l) → r ≡ b → isGiven (whole ws l′) ≡ b
+given-moved ws l l′ r b e h k = ap (λ (l : List ℕ). isGiven (whole ws l)) (sym e) ∙ sym h ∙ k
+
+pub words-moved : (ws l l′ : List ℕ) (at p : ℕ) (n : List ℕ) → l ≡ l′ → n ≡ subtreeWords at p (whole ws l) n → n ≡ subtreeWords at p (whole ws l′) n
+words-moved ws l l′ at p n e h = h ∙ ap (λ (l : List ℕ). subtreeWords at p (whole ws l) n) e
+
 refused-left : (at p : ℕ) (x : Answer Tree) (n : ℕ) (nodes : List ℕ) → x ≡ refused n → Left at p x false nodes
 refused-left at p x n nodes e = rw e (refl, refl)
 
@@ -297,7 +304,7 @@ lost-left ws hs at p n nodes e h = refused-left at p (whole ws hs) _ nodes (buil
     lost (given s) f g n e = absurd (not-both refl e)
     lost (refused m) f g n e = ap refused (refused-injective e)
 
-module _ {ws hs hs′ : List ℕ} {left : ℕ} (cut : Cut ws hs hs′ left) (at p : ℕ) where
+module _ {ws hs hs′ : List ℕ} {left : ℕ} (cut : Cut ws hs hs′ left) where
   -- the forked tree, of halves that are read off the parted stretch
   forked-cut : whole ws hs ≡ (whole ws (take left hs′) then λ (l : Tree). whole ws (drop left hs′) then λ (r : Tree).
       union (bounds l) (bounds r) then λ (b : LightBounds). given (fork b l r))
@@ -307,13 +314,157 @@ module _ {ws hs hs′ : List ℕ} {left : ℕ} (cut : Cut ws hs hs′ left) (at 
       ∙ ap (λ (x : Answer Split). x then λ (s : Split). whole ws (partitionHandles ws hs s .0) then λ (l : Tree). whole ws (partitionHandles ws hs s .1) then
       λ (r : Tree). union (bounds l) (bounds r) then λ (b : LightBounds). given (fork b l r)) (cut .chosen))
 
-  pub no-left : (nodes : List ℕ) → isGiven (whole ws (take left hs′)) ≡ false → Left at p (whole ws hs) false nodes
-  no-left nodes e =
+  pub no-left : (at p : ℕ) (nodes : List ℕ) → isGiven (whole ws (take left hs′)) ≡ false → Left at p (whole ws hs) false nodes
+  no-left at p nodes e =
       let (n, x) = refused-of (whole ws (take left hs′)) e in
       refused-left at p (whole ws hs) n nodes (forked-cut ∙ then-refused (whole ws (take left hs′)) _ n x)
 
-  pub no-right : (nodes : List ℕ) → isGiven (whole ws (take left hs′)) ≡ true → isGiven (whole ws (drop left hs′)) ≡ false → Left at p (whole ws hs) false nodes
-  no-right nodes e e′ =
+  pub no-right : (at p : ℕ) (nodes : List ℕ) → isGiven (whole ws (take left hs′)) ≡ true → isGiven (whole ws (drop left hs′)) ≡ false
+      → Left at p (whole ws hs) false nodes
+  no-right at p nodes e e′ =
       let (l, x) = given-of (whole ws (take left hs′)) e in
       let (n, y) = refused-of (whole ws (drop left hs′)) e′ in
       refused-left at p (whole ws hs) n nodes (forked-cut ∙ then-is (whole ws (take left hs′)) _ l x ∙ then-refused (whole ws (drop left hs′)) _ n y)
+
+-- ---- one handle
+
+node-alone : (nodes : List ℕ) (n : LightBVHNode) (b : LightBounds) → length nodes ≡ nodeWords → nodeWritten nodes 0 n b ≡ nodeList n b
+node-alone nodes n b room =
+    let node = nodeList n b in
+    let size = length-nodeList n b in
+    let past : drop (0 + length node) nodes ≡ [] = drop-of-length-le nodes {i = 0 + length node} (omega arith) in
+    nodeWritten-room nodes 0 n b (omega arith) ∙ sets-eq node nodes 0 (omega arith) ∙ ap (λ (xs : List ℕ). node ++ xs) past ∙ append-nil node
+
+pub leaf-left : (ws hs nodes nodes′ : List ℕ) (at p label : ℕ) (light : LightBounds) → length hs ≡ 1 → length nodes + nodeWords ≡ nodeWords * (2 * length hs)
+    → label ≡ labelOf ws (getD hs 0 0) → light ≡ lightOf ws (getD hs 0 0) → nodes′ ≡ nodeWritten nodes 0 (leafNode label p) light
+    → Left at p (whole ws hs) true nodes′
+unfolding flatten
+leaf-left ws hs nodes nodes′ at p label light one size is-label is-light e =
+    rw (build-leaf ws hs one) (refl, e ∙ rw (is-label, is-light) (node-alone nodes _ _ (omega arith)))
+
+-- ---- more than one
+
+joined-left : (at p right : ℕ) (nodes nodes′ : List ℕ) (l r : Tree) (x : Answer LightBounds) (res : Bool)
+    → ((b : LightBounds) → nodeWritten nodes 0 (interior (at + 1) (at + right) p) b ≡ flatten at p (fork b l r)) → res ≡ isGiven x
+    → nodes′ ≡ joinedWords at p right nodes x → Left at p (x then λ (b : LightBounds). given (fork b l r)) res nodes′
+unfolding _then_
+joined-left at p right nodes nodes′ l r (given b) res j e e′ = (e, e′ ∙ j b)
+joined-left at p right nodes nodes′ l r (refused n) res j e e′ = (e, refl)
+
+module _ {ws hs hs′ : List ℕ} {left : ℕ} (cut : Cut ws hs hs′ left) (at p : ℕ) where
+  pub both-left : (root n1 n2 nodes : List ℕ) → length root ≡ nodeWords
+      → isGiven (whole ws (take left hs′)) ≡ true → n1 ≡ subtreeWords (at + 1) at (whole ws (take left hs′)) n1
+      → isGiven (whole ws (drop left hs′)) ≡ true → n2 ≡ subtreeWords (at + 2 * left) at (whole ws (drop left hs′)) n2 → nodes ≡ root ++ n1 ++ n2
+      → (res : Bool) (nodes′ : List ℕ) → res ≡ isGiven (unionAt nodes (2 * left))
+      → nodes′ ≡ joinedWords at p (2 * left) nodes (unionAt nodes (2 * left)) → Left at p (whole ws hs) res nodes′
+  both-left root n1 n2 nodes room e w e′ w′ laid res nodes′ told told′ =
+      let (l, x) = given-of (whole ws (take left hs′)) e in
+      let (r, y) = given-of (whole ws (drop left hs′)) e′ in
+      let size : left ≡ leaves l = cut .count ∙ ap length (sym (cut .front)) ∙ sym (build-size ws (length (take left hs′)) (take left hs′) l x) in
+      let first : n1 ≡ flatten (at + 1) at l = w ∙ ap (λ (a : Answer Tree). subtreeWords (at + 1) at a n1) x in
+      let second : n2 ≡ flatten (at + 2 * left) at r = w′ ∙ ap (λ (a : Answer Tree). subtreeWords (at + 2 * left) at a n2) y in
+      let place : at + 2 * left ≡ rightPlace at l = ap (λ (k : ℕ). at + 2 * k) size in
+      let out = laidOut root at l r in
+      let is : nodes ≡ out =
+      laid ∙ ap (λ (a : List ℕ). root ++ a ++ n2) first
+      ∙ ap (λ (a : List ℕ). root ++ flatten (at + 1) at l ++ a) (second ∙ ap (λ (k : ℕ). flatten k at r) place) in
+      let fit = build-fits ws (length (take left hs′)) (take left hs′) l x in
+      let fit′ = build-fits ws (length (drop left hs′)) (drop left hs′) r y in
+      let u : unionAt nodes (2 * left) ≡ union (bounds l) (bounds r) =
+      ap (λ (a : List ℕ). unionAt a (2 * left)) is ∙ ap (λ (k : ℕ). unionAt out (2 * k)) size ∙ union-read root at l r room fit fit′ in
+      let j : (b : LightBounds) → nodeWritten nodes 0 (interior (at + 1) (at + 2 * left) p) b ≡ flatten at p (fork b l r) =
+      λ b. ap (λ (a : List ℕ). nodeWritten a 0 (interior (at + 1) (at + 2 * left) p) b) is
+      ∙ ap (λ (k : ℕ). nodeWritten out 0 (interior (at + 1) k p) b) place ∙ joined-read root at l r room p b in
+      let whole-is = forked-cut cut ∙ then-is (whole ws (take left hs′)) _ l x ∙ then-is (whole ws (drop left hs′)) _ r y in
+      rw whole-is (joined-left at p (2 * left) nodes nodes′ l r (union (bounds l) (bounds r)) res j (told ∙ ap isGiven u)
+      (told′ ∙ ap (joinedWords at p (2 * left) nodes) u))
+
+-- ---- the parts that are lent: where the build of a stretch stands once it is parted
+
+pub record Stand (ws hs work nodes : List ℕ) (at : ℕ) (hs′ : List ℕ) (left : ℕ) : Type 0 where
+  pub cut : Cut ws hs hs′ left
+  pub room : length hs ≤ length work
+  pub size : length nodes + nodeWords ≡ nodeWords * (2 * length hs)
+  pub fits : at + 2 * length hs < 2 ^ 30
+
+-- what a build asks
+abbrev pub Asks : List ℕ → List ℕ → List ℕ → ℕ → Type 0
+Asks hs work nodes at =
+    (1 ≤ length hs) × ((length hs ≤ length work) × ((length nodes + nodeWords ≡ nodeWords * (2 * length hs)) × (at + 2 * length hs < 2 ^ 30)))
+
+-- the parted stretch and the nodes, with what the first build leaves of the left parts
+abbrev pub handlesLeft : ℕ → List ℕ → List ℕ → List ℕ
+handlesLeft left hs h1 = h1 ++ drop (left - 0) hs
+
+abbrev pub nodesLeft : ℕ → List ℕ → List ℕ → List ℕ
+nodesLeft left nodes n1 = putMid 16 (32 * left - 16) nodes n1
+
+module _ {ws hs work nodes hs′ : List ℕ} {at left : ℕ} (s : Stand ws hs work nodes at hs′ left) where
+  pub front-is : take (left - 0) hs′ ≡ take left hs′
+  front-is = let e : left - 0 ≡ left = omega arith in rw e
+
+  pub front-length : length (take (left - 0) hs′) ≡ left
+  front-length = ap length front-is ∙ ap length (s .cut .front) ∙ sym (s .cut .count)
+
+  pub words-length : length (midOf 16 (32 * left - 16) nodes) ≡ 32 * left - 16
+  words-length = mid-len 16 (32 * left) nodes (omega (arith, s .size, s .cut .rest))
+
+  pub left-asks : (work′ : List ℕ) → length work′ ≡ length work → Asks (take (left - 0) hs′) work′ (midOf 16 (32 * left - 16) nodes) (at + 1)
+  left-asks work′ same =
+      let some = s .cut .some in
+      let rest = s .cut .rest in
+      let n = front-length in
+      let m = words-length in
+      (omega (arith, n), (omega (arith, n, s .room), (omega (arith, n, m), omega (arith, n, s .fits))))
+
+  module _ (h1 n1 : List ℕ) (same-h : length h1 ≡ length (take (left - 0) hs′)) (same-n : length n1 ≡ length (midOf 16 (32 * left - 16) nodes)) where
+    pub handles-left : length (handlesLeft left hs′ h1) ≡ length hs
+    handles-left = same-len-mid 0 (left - 0) hs′ h1 same-h ∙ s .cut .same
+
+    pub nodes-left : length (nodesLeft left nodes n1) ≡ length nodes
+    nodes-left = same-len-mid 16 (32 * left - 16) nodes n1 same-n
+
+    pub back-is : midOf left (length hs - left) (handlesLeft left hs′ h1) ≡ drop left hs′
+    back-is =
+        let e : left - 0 ≡ left = omega arith in
+        let gone : drop left (handlesLeft left hs′ h1) ≡ drop left hs′ =
+        drop-at h1 (drop (left - 0) hs′) left (same-h ∙ front-length) ∙ ap (λ (k : ℕ). drop k hs′) e in
+        let short = length-drop left hs′ in
+        ap (take (length hs - left)) gone ∙ take-all (length hs - left) (drop left hs′) (omega (arith, short, s .cut .same))
+
+    pub back-length : length (midOf left (length hs - left) (handlesLeft left hs′ h1)) ≡ length hs - left
+    back-length = ap length back-is ∙ length-drop left hs′ ∙ ap (λ (k : ℕ). k - left) (s .cut .same)
+
+    pub words-right : length (midOf (32 * left) (length (nodesLeft left nodes n1) - 32 * left) (nodesLeft left nodes n1)) ≡ length nodes - 32 * left
+    words-right = mid-len (32 * left) (length (nodesLeft left nodes n1)) (nodesLeft left nodes n1) (omega arith) ∙ ap (λ (k : ℕ). k - 32 * left) nodes-left
+
+    pub right-asks : (work′ : List ℕ) → length work′ ≡ length work
+        → Asks (midOf left (length hs - left) (handlesLeft left hs′ h1)) work′
+        (midOf (32 * left) (length (nodesLeft left nodes n1) - 32 * left) (nodesLeft left nodes n1)) (at + 2 * left)
+    right-asks work′ same =
+        let some = s .cut .some in
+        let rest = s .cut .rest in
+        let n = back-length in
+        let m = words-right in
+        let size = s .size in
+        (omega (arith, n), (omega (arith, n, s .room), (omega (arith, n, m), omega (arith, n, s .fits))))
+
+    pub root-length : length (take 16 nodes) ≡ nodeWords
+    root-length = length-take-le 16 nodes (omega (arith, s .size, s .cut .some, s .cut .rest))
+
+    -- the root's words, those of the left tree and those of the right one
+    pub nodes-are : (n2 : List ℕ) → putMid (32 * left) (length (nodesLeft left nodes n1) - 32 * left) (nodesLeft left nodes n1) n2 ≡ take 16 nodes ++ n1 ++ n2
+    nodes-are n2 =
+        let some = s .cut .some in
+        let rest = s .cut .rest in
+        let size = s .size in
+        let m = words-length in
+        let front = take 16 nodes ++ n1 in
+        let long : length front ≡ 32 * left = length-append (take 16 nodes) n1 ∙ omega (arith, root-length, same-n, m) in
+        let back = drop (32 * left - 16) (drop 16 nodes) in
+        let all = nodesLeft left nodes n1 in
+        let is : all ≡ front ++ back = sym (append-assoc (take 16 nodes) n1 back) in
+        let before : take (32 * left) all ≡ front = ap (take (32 * left)) is ∙ take-at front back (32 * left) long in
+        let after : drop (length all - 32 * left) (drop (32 * left) all) ≡ [] =
+        drop-of-length-le (drop (32 * left) all) {i = length all - 32 * left} (omega (arith, length-drop (32 * left) all)) in
+        rw (before, after, append-nil n2)

@@ -27,7 +27,8 @@ loop-again : tie.Need-loop-again Inv-loop μ-loop
 loop-again c =
     let at = c .before .before .before .before .before .before in
     let block = now (at .before .before .args .block) in
-    let one = ap validate (sym (c .before .before .before .light .ensures)) ∙ sym (c .before .before .validate .ensures) ∙ ap validity (c .enum-told .given .1) in (
+    let one = ap validate (sym (c .before .before .before .light .ensures)) ∙ sym (c .before .before .validate .ensures)
+    ∙ ap validity (c .enum-told .given .1) in (
       omega arith,
       validated-next block (at .loop .i) (at .loop .inv .1) one,
     )

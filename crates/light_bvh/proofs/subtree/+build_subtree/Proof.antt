@@ -1,7 +1,18 @@
 -- The proof of the cycle of calls {build_subtree}. The measure is the stretch's length: each half is shorter. Assumes nothing.
-use Prim.Native.Nat.{ℕ, _<_}
+use Prim.Native.Nat.{ℕ, _+_, _*_, _-_, _^_, _≤_, _<_, zero-le}
+use mathlib.Core.Path.{_≡_, refl, sym, ap, _∙_}
+use mathlib.Core.Bool.{Bool, true, false}
+use mathlib.Core.List.{List}
+use native.Mathlib.Nat.{le-refl}
 use native.Mathlib.Omega.{arith}
-use lib.ListN.{length}
+use denote.Ref.{now}
+use lib.ListN.{length, take, drop}
+use Rattle.words.specs.Answers.{given, counted}
+use Rattle.light_bvh.specs.Subtree.{isGiven, subtreeWords, splitCount}
+use Rattle.light_bvh.proofs.SubtreeLaws.{cut-of, Stand, whole, leaf-left, lost-left, no-left, no-right, both-left, front-is, given-moved, words-moved}
+use Rattle.light_bvh.proofs.SubtreeLaws.{left-asks, right-asks, handlesLeft, nodesLeft, handles-left, nodes-left, front-length}
+use Rattle.light_bvh.proofs.SubtreeLaws.{back-is, back-length, root-length, nodes-are}
+use borrow.Rule.Slice.PartMut.{midOf, putMid, same-len-mid}
 use borrow.Author.Needs.{needs}
 use borrow.Fn.Kinds.{In}
 use borrow.Fn.PlainCycle.{Measures, is, falls, and}
@@ -42,160 +53,311 @@ calls t = (
   join-children-reads.Learnt,
 )
 
-slice-read-label : (t : ℕ) → lts.Need-slice-read-label (calls t) (before t) build-subtree.Post
-slice-read-label t c = ?
+module _ (t : ℕ) where
+  -- the places: the stretch is parted, the left tree is built, and the right one
+  abbrev Start : Type 0
+  Start = lts.Start (calls t) (before t) build-subtree.Post
 
-label-requires : (t : ℕ) → lts.Need-label-requires (calls t) (before t) build-subtree.Post
-label-requires t c κs = ?
+  abbrev Told : Type 0
+  Told = lts.After-known-told (calls t) (before t) build-subtree.Post
 
-slice-read-light : (t : ℕ) → lts.Need-slice-read-light (calls t) (before t) build-subtree.Post
-slice-read-light t c = ?
+  abbrev First : Type 0
+  First = lts.After-build-subtree (calls t) (before t) build-subtree.Post
 
-light-requires : (t : ℕ) → lts.Need-light-requires (calls t) (before t) build-subtree.Post
-light-requires t c κs = ?
+  abbrev Second : Type 0
+  Second = lts.After-build-subtree2 (calls t) (before t) build-subtree.Post
 
-write-leaf-requires : (t : ℕ) → lts.Need-write-leaf-requires (calls t) (before t) build-subtree.Post
-write-leaf-requires t c κs = ?
+  abbrev start : Told → Start
+  start c = c .before .before .before .before .before .before .before .before .before .before .before .before .before .before .before
 
-same-length : (t : ℕ) → lts.Need-same-length (calls t) (before t) build-subtree.Post
-same-length t c = ?
+  abbrev told : First → Told
+  told f = f .before .before .before .before
 
-returns : (t : ℕ) → lts.Need-returns (calls t) (before t) build-subtree.Post
-returns t c = ?
+  abbrev first : Second → First
+  first s = s .before .before .before .before .before .before .before .before .before .before .before
 
-split-stretch-requires : (t : ℕ) → lts.Need-split-stretch-requires (calls t) (before t) build-subtree.Post
-split-stretch-requires t c κs = ?
+  abbrev left : Told → ℕ
+  left c = c .before .left .given .0 .0
 
-enum-known-left : (t : ℕ) → lts.Need-enum-known-left (calls t) (before t) build-subtree.Post
-enum-known-left t c = ?
+  abbrev blockOf : Told → List ℕ
+  blockOf c = now (start c .args .block)
 
-sub-build-subtree : (t : ℕ) → lts.Need-sub-build-subtree (calls t) (before t) build-subtree.Post
-sub-build-subtree t c = ?
+  abbrev stretch : Told → List ℕ
+  stretch c = now (start c .args .handles)
 
-part-build-subtree-start : (t : ℕ) → lts.Need-part-build-subtree-start (calls t) (before t) build-subtree.Post
-part-build-subtree-start t c = ?
+  abbrev parted : Told → List ℕ
+  parted c = c .before .before .before .before .before .before .before .split-stretch .last .1 .0
 
-part-build-subtree-end : (t : ℕ) → lts.Need-part-build-subtree-end (calls t) (before t) build-subtree.Post
-part-build-subtree-end t c = ?
+  abbrev tray : Told → List ℕ
+  tray c = c .before .before .before .before .before .before .before .split-stretch .last .1 .1 .0
 
-mul-build-subtree : (t : ℕ) → lts.Need-mul-build-subtree (calls t) (before t) build-subtree.Post
-mul-build-subtree t c = ?
+  abbrev nodesOf : Told → List ℕ
+  nodesOf c = now (start c .args .nodes)
 
-mul-build-subtree-2 : (t : ℕ) → lts.Need-mul-build-subtree-2 (calls t) (before t) build-subtree.Post
-mul-build-subtree-2 t c = ?
+  stand : (c : Told) → Stand (blockOf c) (stretch c) (tray c) (nodesOf c) (start c .args .at) (parted c) (left c)
+  stand c =
+      let split = c .before .before .before .before .before .before .before in
+      let pre = start c .pre .1 in
+      let two : 2 ≤ length (stretch c) = omega (arith, pre .0, split .before .before .before .if1 .left) in
+      let kept : length (tray c) ≡ length (now (start c .args .work)) = split .split-stretch .kept .1 .1 .0 in
+      let count : splitCount (blockOf c) (stretch c) ≡ given (left c) = sym (split .split-stretch .ensures .0) ∙ ap counted (c .before .left .given .1) in
+      record {
+        cut = cut-of (blockOf c) (stretch c) (parted c) (left c) count (split .split-stretch .ensures .1) two;
+        room = omega (arith, pre .1 .0, kept);
+        size = pre .1 .1 .0;
+        fits = pre .1 .1 .1;
+      }
 
-sub-build-subtree-2 : (t : ℕ) → lts.Need-sub-build-subtree-2 (calls t) (before t) build-subtree.Post
-sub-build-subtree-2 t c = ?
+  -- the numbers of it
+  record Numbers (n m at left : ℕ) : Type 0 where
+    some : 1 ≤ left
+    rest : left < n
+    size : m + 16 ≡ 16 * (2 * n)
+    fits : at + 2 * n < 2 ^ 30
 
-part-build-subtree-start-2 : (t : ℕ) → lts.Need-part-build-subtree-start-2 (calls t) (before t) build-subtree.Post
-part-build-subtree-start-2 t c = ?
+  numbers : (c : Told) → Numbers (length (stretch c)) (length (nodesOf c)) (start c .args .at) (left c)
+  numbers c = let s = stand c in record { some = s .cut .some; rest = s .cut .rest; size = s .size; fits = s .fits }
 
-part-build-subtree-end-2 : (t : ℕ) → lts.Need-part-build-subtree-end-2 (calls t) (before t) build-subtree.Post
-part-build-subtree-end-2 t c = ?
+  -- ---- one handle
 
-add-build-subtree : (t : ℕ) → lts.Need-add-build-subtree (calls t) (before t) build-subtree.Post
-add-build-subtree t c = ?
+  slice-read-label : lts.Need-slice-read-label (calls t) (before t) build-subtree.Post
+  slice-read-label c = c .before .before .before .before .before .before .before .pre .1 .0
 
-build-subtree-requires : (t : ℕ) → lts.Need-build-subtree-requires (calls t) (before t) build-subtree.Post
-build-subtree-requires t c κs = ?
+  slice-read-light : lts.Need-slice-read-light (calls t) (before t) build-subtree.Post
+  slice-read-light c = c .before .before .before .before .before .before .before .before .before .pre .1 .0
 
-mul-build-subtree-3 : (t : ℕ) → lts.Need-mul-build-subtree-3 (calls t) (before t) build-subtree.Post
-mul-build-subtree-3 t c = ?
+  returns : lts.Need-returns (calls t) (before t) build-subtree.Post
+  returns c =
+      let wrote = c .before .before in
+      let label = wrote .before .before .before in
+      let one = label .before .before .before in
+      let start = one .before .before .before .before .before in
+      leaf-left (now (start .args .block)) (now (start .args .handles)) (now (start .args .nodes)) (wrote .write-leaf .last .0) (start .args .at)
+      (start .args .parent) (label .label .result) (wrote .before .light .result) (one .if1 .taken) (start .pre .1 .1 .1 .0) (label .label .ensures)
+      (wrote .before .light .ensures) (wrote .write-leaf .ensures)
 
-sub-build-subtree-3 : (t : ℕ) → lts.Need-sub-build-subtree-3 (calls t) (before t) build-subtree.Post
-sub-build-subtree-3 t c = ?
+  -- ---- the left tree
 
-part-build-subtree-start-3 : (t : ℕ) → lts.Need-part-build-subtree-start-3 (calls t) (before t) build-subtree.Post
-part-build-subtree-start-3 t c = ?
+  split-stretch-requires : lts.Need-split-stretch-requires (calls t) (before t) build-subtree.Post
+  split-stretch-requires c κs = c .before .before .before .before .before .before .before .pre .1 .1 .0
 
-part-build-subtree-end-3 : (t : ℕ) → lts.Need-part-build-subtree-end-3 (calls t) (before t) build-subtree.Post
-part-build-subtree-end-3 t c = ?
+  part-build-subtree-end : lts.Need-part-build-subtree-end (calls t) (before t) build-subtree.Post
+  part-build-subtree-end c =
+      let s = stand c in
+      let e : left c ≤ length (parted c) = omega (arith, s .cut .rest, s .cut .same) in
+      e
 
-mul-build-subtree-4 : (t : ℕ) → lts.Need-mul-build-subtree-4 (calls t) (before t) build-subtree.Post
-mul-build-subtree-4 t c = ?
+  mul-build-subtree-2 : lts.Need-mul-build-subtree-2 (calls t) (before t) build-subtree.Post
+  mul-build-subtree-2 c = let n = numbers (c .before .before) in omega arith
 
-mul-build-subtree-5 : (t : ℕ) → lts.Need-mul-build-subtree-5 (calls t) (before t) build-subtree.Post
-mul-build-subtree-5 t c = ?
+  sub-build-subtree-2 : lts.Need-sub-build-subtree-2 (calls t) (before t) build-subtree.Post
+  sub-build-subtree-2 c = let n = numbers (c .before .before) in omega arith
 
-mul-build-subtree-6 : (t : ℕ) → lts.Need-mul-build-subtree-6 (calls t) (before t) build-subtree.Post
-mul-build-subtree-6 t c = ?
+  part-build-subtree-start-2 : lts.Need-part-build-subtree-start-2 (calls t) (before t) build-subtree.Post
+  part-build-subtree-start-2 c =
+      let n = numbers (c .before .before) in
+      let e : 16 ≤ 32 * left (c .before .before) = omega arith in
+      e
 
-sub-build-subtree-4 : (t : ℕ) → lts.Need-sub-build-subtree-4 (calls t) (before t) build-subtree.Post
-sub-build-subtree-4 t c = ?
+  part-build-subtree-end-2 : lts.Need-part-build-subtree-end-2 (calls t) (before t) build-subtree.Post
+  part-build-subtree-end-2 c =
+      let n = numbers (c .before .before) in
+      let e : 32 * left (c .before .before) ≤ length (nodesOf (c .before .before)) = omega arith in
+      e
 
-part-build-subtree-start-4 : (t : ℕ) → lts.Need-part-build-subtree-start-4 (calls t) (before t) build-subtree.Post
-part-build-subtree-start-4 t c = ?
+  add-build-subtree : lts.Need-add-build-subtree (calls t) (before t) build-subtree.Post
+  add-build-subtree c = let n = numbers (c .before .before .before) in omega arith
 
-part-build-subtree-end-4 : (t : ℕ) → lts.Need-part-build-subtree-end-4 (calls t) (before t) build-subtree.Post
-part-build-subtree-end-4 t c = ?
+  build-subtree-requires : lts.Need-build-subtree-requires (calls t) (before t) build-subtree.Post
+  build-subtree-requires c κs =
+      let s = stand (c .before .before .before) in
+      (omega (arith, front-length s, s .cut .rest, start (c .before .before .before) .pre .0), left-asks s (tray (c .before .before .before)) refl)
 
-cast-build-subtree : (t : ℕ) → lts.Need-cast-build-subtree (calls t) (before t) build-subtree.Post
-cast-build-subtree t c = ?
+  -- ---- the right tree
 
-mul-build-subtree-7 : (t : ℕ) → lts.Need-mul-build-subtree-7 (calls t) (before t) build-subtree.Post
-mul-build-subtree-7 t c = ?
+  abbrev h1 : First → List ℕ
+  h1 f = f .build-subtree .last .1 .0
 
-add-build-subtree-2 : (t : ℕ) → lts.Need-add-build-subtree-2 (calls t) (before t) build-subtree.Post
-add-build-subtree-2 t c = ?
+  abbrev n1 : First → List ℕ
+  n1 f = f .build-subtree .last .1 .1 .1 .0
 
-build-subtree-requires-2 : (t : ℕ) → lts.Need-build-subtree-requires-2 (calls t) (before t) build-subtree.Post
-build-subtree-requires-2 t c κs = ?
+  same-h : (f : First) → length (h1 f) ≡ length (take (left (told f) - 0) (parted (told f)))
+  same-h f = f .build-subtree .kept .1 .0
 
-mul-join-children : (t : ℕ) → lts.Need-mul-join-children (calls t) (before t) build-subtree.Post
-mul-join-children t c = ?
+  same-n : (f : First) → length (n1 f) ≡ length (midOf 16 (32 * left (told f) - 16) (nodesOf (told f)))
+  same-n f = f .build-subtree .kept .1 .1 .1 .0
 
-join-children-requires : (t : ℕ) → lts.Need-join-children-requires (calls t) (before t) build-subtree.Post
-join-children-requires t c κs = ?
+  same-tray : (f : First) → length (f .build-subtree .last .1 .1 .0) ≡ length (tray (told f))
+  same-tray f = f .build-subtree .kept .1 .1 .0
 
-enum-told : (t : ℕ) → lts.Need-enum-told (calls t) (before t) build-subtree.Post
-enum-told t c = ?
+  abbrev handles : First → List ℕ
+  handles f = handlesLeft (left (told f)) (parted (told f)) (h1 f)
 
-same-length-2 : (t : ℕ) → lts.Need-same-length-2 (calls t) (before t) build-subtree.Post
-same-length-2 t c = ?
+  abbrev nodes : First → List ℕ
+  nodes f = nodesLeft (left (told f)) (nodesOf (told f)) (n1 f)
 
-same-length-3 : (t : ℕ) → lts.Need-same-length-3 (calls t) (before t) build-subtree.Post
-same-length-3 t c = ?
+  handles-length : (f : First) → length (handles f) ≡ length (stretch (told f))
+  handles-length f = handles-left (stand (told f)) (h1 f) (n1 f) (same-h f) (same-n f)
 
-same-length-4 : (t : ℕ) → lts.Need-same-length-4 (calls t) (before t) build-subtree.Post
-same-length-4 t c = ?
+  nodes-length : (f : First) → length (nodes f) ≡ length (nodesOf (told f))
+  nodes-length f = nodes-left (stand (told f)) (h1 f) (n1 f) (same-h f) (same-n f)
 
-returns-2 : (t : ℕ) → lts.Need-returns-2 (calls t) (before t) build-subtree.Post
-returns-2 t c = ?
+  mul-build-subtree-3 : lts.Need-mul-build-subtree-3 (calls t) (before t) build-subtree.Post
+  mul-build-subtree-3 c = let n = numbers (told (c .before .before .before .before .before .before .before)) in omega arith
 
-same-length-5 : (t : ℕ) → lts.Need-same-length-5 (calls t) (before t) build-subtree.Post
-same-length-5 t c = ?
+  sub-build-subtree-3 : lts.Need-sub-build-subtree-3 (calls t) (before t) build-subtree.Post
+  sub-build-subtree-3 c = let n = numbers (told (c .before .before .before .before .before .before .before)) in omega arith
 
-same-length-6 : (t : ℕ) → lts.Need-same-length-6 (calls t) (before t) build-subtree.Post
-same-length-6 t c = ?
+  part-build-subtree-start-3 : lts.Need-part-build-subtree-start-3 (calls t) (before t) build-subtree.Post
+  part-build-subtree-start-3 c =
+      let f = c .before .before .before .before .before .before .before in
+      let n = numbers (told f) in
+      let e : left (told f) ≤ length (stretch (told f)) = omega arith in
+      e
 
-same-length-7 : (t : ℕ) → lts.Need-same-length-7 (calls t) (before t) build-subtree.Post
-same-length-7 t c = ?
+  part-build-subtree-end-3 : lts.Need-part-build-subtree-end-3 (calls t) (before t) build-subtree.Post
+  part-build-subtree-end-3 c =
+      let f = c .before .before .before .before .before .before .before in
+      let e : length (stretch (told f)) ≤ length (handles f) = omega (arith, handles-length f) in
+      e
 
-returns-3 : (t : ℕ) → lts.Need-returns-3 (calls t) (before t) build-subtree.Post
-returns-3 t c = ?
+  mul-build-subtree-5 : lts.Need-mul-build-subtree-5 (calls t) (before t) build-subtree.Post
+  mul-build-subtree-5 c = let n = numbers (told (c .before .before .before .before .before .before .before .before .before)) in omega arith
 
-same-length-8 : (t : ℕ) → lts.Need-same-length-8 (calls t) (before t) build-subtree.Post
-same-length-8 t c = ?
+  mul-build-subtree-6 : lts.Need-mul-build-subtree-6 (calls t) (before t) build-subtree.Post
+  mul-build-subtree-6 c = let n = numbers (told (c .before .before .before .before .before .before .before .before .before)) in omega arith
 
-same-length-9 : (t : ℕ) → lts.Need-same-length-9 (calls t) (before t) build-subtree.Post
-same-length-9 t c = ?
+  words-within : (f : First) → 32 * left (told f) ≤ length (nodes f)
+  words-within f = let n = numbers (told f) in omega (arith, nodes-length f)
 
-same-length-10 : (t : ℕ) → lts.Need-same-length-10 (calls t) (before t) build-subtree.Post
-same-length-10 t c = ?
+  cast-build-subtree : lts.Need-cast-build-subtree (calls t) (before t) build-subtree.Post
+  cast-build-subtree c = let n = numbers (told (c .before .before .before .before .before .before .before .before .before .before)) in omega arith
 
-returns-4 : (t : ℕ) → lts.Need-returns-4 (calls t) (before t) build-subtree.Post
-returns-4 t c = ?
+  mul-build-subtree-7 : lts.Need-mul-build-subtree-7 (calls t) (before t) build-subtree.Post
+  mul-build-subtree-7 c = let n = numbers (told (c .before .before .before .before .before .before .before .before .before .before)) in omega arith
 
-same-length-11 : (t : ℕ) → lts.Need-same-length-11 (calls t) (before t) build-subtree.Post
-same-length-11 t c = ?
+  add-build-subtree-2 : lts.Need-add-build-subtree-2 (calls t) (before t) build-subtree.Post
+  add-build-subtree-2 c = let n = numbers (told (c .before .before .before .before .before .before .before .before .before .before)) in omega arith
 
-same-length-12 : (t : ℕ) → lts.Need-same-length-12 (calls t) (before t) build-subtree.Post
-same-length-12 t c = ?
+  build-subtree-requires-2 : lts.Need-build-subtree-requires-2 (calls t) (before t) build-subtree.Post
+  build-subtree-requires-2 c κs =
+      let f = c .before .before .before .before .before .before .before .before .before .before in
+      let s = stand (told f) in (
+        omega (arith, back-length s (h1 f) (n1 f) (same-h f) (same-n f), s .cut .some, s .cut .rest, start (told f) .pre .0),
+        right-asks s (h1 f) (n1 f) (same-h f) (same-n f) (f .build-subtree .last .1 .1 .0) (same-tray f),
+      )
 
-returns-5 : (t : ℕ) → lts.Need-returns-5 (calls t) (before t) build-subtree.Post
-returns-5 t c = ?
+  -- ---- the node over both
+
+  mul-join-children : lts.Need-mul-join-children (calls t) (before t) build-subtree.Post
+  mul-join-children c = let n = numbers (told (first (c .before .before .before .before .before .before .before .before))) in omega arith
+
+  join-children-requires : lts.Need-join-children-requires (calls t) (before t) build-subtree.Post
+  join-children-requires c κs = let n = numbers (told (first (c .before .before .before .before .before .before .before .before))) in omega arith
+
+  -- ---- what is left: the lengths
+
+  abbrev h2 : Second → List ℕ
+  h2 s = s .build-subtree2 .last .1 .0
+
+  abbrev n2 : Second → List ℕ
+  n2 s = s .build-subtree2 .last .1 .1 .1 .0
+
+  handles2-length : (s : Second) → let c = told (first s) in
+      length (putMid (left c) (length (stretch c) - left c) (handles (first s)) (h2 s)) ≡ length (stretch c)
+  handles2-length s =
+      let c = told (first s) in
+      same-len-mid (left c) (length (stretch c) - left c) (handles (first s)) (h2 s) (s .build-subtree2 .kept .1 .0) ∙ handles-length (first s)
+
+  abbrev nodes2 : Second → List ℕ
+  nodes2 s = let c = told (first s) in putMid (32 * left c) (length (nodes (first s)) - 32 * left c) (nodes (first s)) (n2 s)
+
+  nodes2-length : (s : Second) → length (nodes2 s) ≡ length (nodesOf (told (first s)))
+  nodes2-length s =
+      let c = told (first s) in
+      same-len-mid (32 * left c) (length (nodes (first s)) - 32 * left c) (nodes (first s)) (n2 s) (s .build-subtree2 .kept .1 .1 .1 .0)
+      ∙ nodes-length (first s)
+
+  tray-length : (c : Told) → length (tray c) ≡ length (now (start c .args .work))
+  tray-length c = c .before .before .before .before .before .before .before .split-stretch .kept .1 .1 .0
+
+  tray2-length : (s : Second) → length (s .build-subtree2 .last .1 .1 .0) ≡ length (now (start (told (first s)) .args .work))
+  tray2-length s = s .build-subtree2 .kept .1 .1 .0 ∙ same-tray (first s) ∙ tray-length (told (first s))
+
+  -- ---- and the trees
+
+  told-left : (f : First) (b : Bool) → f .build-subtree .result ≡ b → isGiven (whole (blockOf (told f)) (take (left (told f)) (parted (told f)))) ≡ b
+  told-left f b e = given-moved (blockOf (told f)) _ _ (f .build-subtree .result) b (front-is (stand (told f))) (f .build-subtree .ensures .0) e
+
+  words-left : (f : First) → let c = told f in
+      n1 f ≡ subtreeWords (start c .args .at + 1) (start c .args .at) (whole (blockOf c) (take (left c) (parted c))) (n1 f)
+  words-left f = words-moved (blockOf (told f)) _ _ _ _ (n1 f) (front-is (stand (told f))) (f .build-subtree .ensures .1)
+
+  back : (s : Second) → let c = told (first s) in midOf (left c) (length (stretch c) - left c) (handles (first s)) ≡ drop (left c) (parted c)
+  back s = let f = first s in back-is (stand (told f)) (h1 f) (n1 f) (same-h f) (same-n f)
+
+  told-right : (s : Second) (b : Bool) → s .build-subtree2 .result ≡ b
+      → isGiven (whole (blockOf (told (first s))) (drop (left (told (first s))) (parted (told (first s))))) ≡ b
+  told-right s b e = given-moved (blockOf (told (first s))) _ _ (s .build-subtree2 .result) b (back s) (s .build-subtree2 .ensures .0) e
+
+  words-right : (s : Second) → let c = told (first s) in
+      n2 s ≡ subtreeWords (start c .args .at + 2 * left c) (start c .args .at) (whole (blockOf c) (drop (left c) (parted c))) (n2 s)
+  words-right s = words-moved (blockOf (told (first s))) _ _ _ _ (n2 s) (back s) (s .build-subtree2 .ensures .1)
+
+  returns-2 : lts.Need-returns-2 (calls t) (before t) build-subtree.Post
+  returns-2 c =
+      let joined = c .before .before in
+      let s = joined .before .before .before .before .before .before .before .before .before in
+      let f = first s in
+      let p = told f in
+      let st = stand p in
+      both-left (st .cut) (start p .args .at) (start p .args .parent) (take 16 (nodesOf p)) (n1 f) (n2 s) (nodes2 s)
+      (root-length st (h1 f) (n1 f) (same-h f) (same-n f)) (told-left f true (s .before .before .before .before .if2 .taken)) (words-left f)
+      (told-right s true (joined .before .before .if3 .taken)) (words-right s) (nodes-are st (h1 f) (n1 f) (same-h f) (same-n f) (n2 s))
+      (joined .join-children .result) (joined .join-children .last .0) (joined .join-children .ensures .0) (joined .join-children .ensures .1)
+
+  returns-3 : lts.Need-returns-3 (calls t) (before t) build-subtree.Post
+  returns-3 c =
+      let s = c .before .before .before .before .before .before .before in
+      let p = told (first s) in
+      no-right (stand p .cut) (start p .args .at) (start p .args .parent) (nodes2 s) (told-left (first s) true (s .before .before .before .before .if2 .taken))
+      (told-right s false (c .if3 .left))
+
+  returns-4 : lts.Need-returns-4 (calls t) (before t) build-subtree.Post
+  returns-4 c =
+      let f = c .before .before .before .before .before .before .before in
+      let p = told f in
+      no-left (stand p .cut) (start p .args .at) (start p .args .parent) (nodes f) (told-left f false (c .if2 .left))
+
+  returns-5 : lts.Need-returns-5 (calls t) (before t) build-subtree.Post
+  returns-5 c =
+      let split = c .before .before .before .before .before .before in
+      let one = split .before .before .before in
+      let start = one .before .before .before .before .before in
+      let two : 2 ≤ length (now (start .args .handles)) = omega (arith, start .pre .1 .0, one .if1 .left) in
+      lost-left (now (start .args .block)) (now (start .args .handles)) (start .args .at) (start .args .parent) _ (now (start .args .nodes))
+      (sym (split .split-stretch .ensures .0) ∙ ap counted (c .enum-told .given .1)) two
 
 pub +build-subtree-spec : {M : Type 1} → statement M
 +build-subtree-spec =
     close μ (λ t. lts.spec (calls t) (before t) build-subtree.Post
-    (slice-read-label t) (label-requires t) (slice-read-light t) (light-requires t) (write-leaf-requires t) (same-length t) (returns t) (split-stretch-requires t) (enum-known-left t) (sub-build-subtree t) (part-build-subtree-start t) (part-build-subtree-end t) (mul-build-subtree t) (mul-build-subtree-2 t) (sub-build-subtree-2 t) (part-build-subtree-start-2 t) (part-build-subtree-end-2 t) (add-build-subtree t) (build-subtree-requires t) (mul-build-subtree-3 t) (sub-build-subtree-3 t) (part-build-subtree-start-3 t) (part-build-subtree-end-3 t) (mul-build-subtree-4 t) (mul-build-subtree-5 t) (mul-build-subtree-6 t) (sub-build-subtree-4 t) (part-build-subtree-start-4 t) (part-build-subtree-end-4 t) (cast-build-subtree t) (mul-build-subtree-7 t) (add-build-subtree-2 t) (build-subtree-requires-2 t) (mul-join-children t) (join-children-requires t) (enum-told t) (same-length-2 t) (same-length-3 t) (same-length-4 t) (returns-2 t) (same-length-5 t) (same-length-6 t) (same-length-7 t) (returns-3 t) (same-length-8 t) (same-length-9 t) (same-length-10 t) (returns-4 t) (same-length-11 t) (same-length-12 t) (returns-5 t))
+    (slice-read-label t) (λ c κs. tt) (slice-read-light t) (λ c κs. tt) (λ c κs. tt) (λ c. c .before .before .write-leaf .kept .0) (returns t)
+    (split-stretch-requires t) (λ c. search needs) (λ c. zero-le) (λ c. zero-le) (part-build-subtree-end t) (λ c. search needs) (mul-build-subtree-2 t)
+    (sub-build-subtree-2 t) (part-build-subtree-start-2 t) (part-build-subtree-end-2 t) (add-build-subtree t) (build-subtree-requires t)
+    (mul-build-subtree-3 t) (sub-build-subtree-3 t) (part-build-subtree-start-3 t) (part-build-subtree-end-3 t) (λ c. search needs) (mul-build-subtree-5 t)
+    (mul-build-subtree-6 t) (λ c. words-within t (c .before .before .before .before .before .before .before .before .before))
+    (λ c. words-within t (c .before .before .before .before .before .before .before .before .before)) (λ c. le-refl _) (cast-build-subtree t)
+    (mul-build-subtree-7 t) (add-build-subtree-2 t) (build-subtree-requires-2 t) (mul-join-children t) (join-children-requires t) (λ c. search needs)
+    (λ c. handles2-length t (c .before .before .before .before .before .before .before .before .before .before .before))
+    (λ c. tray2-length t (c .before .before .before .before .before .before .before .before .before .before .before))
+    (λ c. c .before .before .join-children .kept .0
+    ∙ nodes2-length t (c .before .before .before .before .before .before .before .before .before .before .before))
+    (returns-2 t) (λ c. handles2-length t (c .before .before .before .before .before .before .before))
+    (λ c. tray2-length t (c .before .before .before .before .before .before .before))
+    (λ c. nodes2-length t (c .before .before .before .before .before .before .before)) (returns-3 t)
+    (λ c. handles-length t (c .before .before .before .before .before .before .before))
+    (λ c. same-tray t (c .before .before .before .before .before .before .before)
+    ∙ tray-length t (c .before .before .before .before .before .before .before .before .before .before .before))
+    (λ c. nodes-length t (c .before .before .before .before .before .before .before)) (returns-4 t)
+    (λ c. c .before .before .before .before .before .before .split-stretch .kept .1 .0)
+    (λ c. c .before .before .before .before .before .before .split-stretch .kept .1 .1 .0) (returns-5 t))

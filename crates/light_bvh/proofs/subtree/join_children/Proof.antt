@@ -1,7 +1,7 @@
 -- `light_bvh::subtree::join_children` meets its contract: the union of the records at both places, written in front. Assumes nothing.
 use mathlib.Core.Path.{_≡_, refl, sym, ap, _∙_}
 use denote.Ref.{now}
-use Rattle.words.specs.Answers.{given, refused}
+use Rattle.words.specs.Answers.{given}
 use Rattle.light_bounds.specs.LightBounds.{bounded}
 use Rattle.light_bvh.specs.Subtree.{unionAt}
 use borrow.Author.Needs.{needs}

@@ -5,7 +5,7 @@ use lib.ListN.{length}
 use Rattle.words.specs.Answers.{given, refused, _then_}
 use Rattle.light_split.specs.Split.{chooseSplit, chosen}
 use Rattle.light_bvh.specs.Subtree.{splitCount, splitHandles}
-use Rattle.light_bvh.proofs.SubtreeLaws.{parted-count, parted-handles}
+use Rattle.light_bvh.proofs.SubtreeLaws.{parted-is}
 use borrow.Author.Needs.{needs}
 use Rattle.light_bvh.proofs.subtree.split_stretch.Statement.{statement}
 use Rattle.light_bvh.proofs.subtree.split_stretch.Tie as tie
@@ -19,10 +19,8 @@ returns c =
     let hs = now (start .args .handles) in
     let e : chooseSplit ws hs ≡ given (split .split .given .0 .0) =
     sym (split .before .before .choose-split .ensures) ∙ ap chosen (split .split .given .1) in
-    let told = parting .partition-handles .ensures in (
-      told .0 ∙ parted-count ws hs _ (length (now (start .args .work))) e (start .pre),
-      told .1 .0 ∙ parted-handles ws hs _ (length (now (start .args .work))) e (start .pre),
-    )
+    let told = parting .partition-handles .ensures in
+    parted-is ws hs _ (length (now (start .args .work))) e (start .pre) _ _ (told .0) (told .1 .0)
 
 returns-2 : tie.Need-returns-2
 unfolding splitCount splitHandles _then_
