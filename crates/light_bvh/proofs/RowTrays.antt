@@ -25,8 +25,8 @@ use Rattle.light_bvh.specs.Subtree.{buildSubtree, isGiven, subtreeWords}
 use Rattle.light_bvh.specs.Build.{boundedHandles, allBounds, LightBVH, treeOf, builtBvh, nodesReserve, workReserve, nodesWritten, tabled, tableWritten}
 use Rattle.light_bvh.specs.Build.{isShort, workWritten, tabledBelow, summary, overall}
 use Rattle.light_bvh.specs.declared.build.Overall.{Overall}
-use Rattle.light_bvh.proofs.BuildLaws.{reserves-fit, bounded-few}
-use Rattle.light_bvh.proofs.RowsLaws.{bounds-none, bounds-some, bounded-below, labels-below, tree-refused}
+use Rattle.light_bvh.proofs.BuildLaws.{reserves-fit}
+use Rattle.light_bvh.proofs.RowsLaws.{bounds-none, bounds-some, bounded-few, bounded-below, labels-below, tree-refused}
 use Rattle.light_bvh.proofs.SubtreeLaws.{build-size}
 use Rattle.light_bvh.proofs.TableLaws.{Labels, labels-map, Thirty, tabled-front-tree, tabled-front, length-tabled}
 

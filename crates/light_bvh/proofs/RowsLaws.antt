@@ -10,7 +10,7 @@ use native.Mathlib.Omega.{arith}
 use borrow.Author.Tests.{eqb-true}
 use lib.Dec.{eqb}
 use lib.Ieee.{eq}
-use lib.ListN.{length, getD, set, take, drop}
+use lib.ListN.{length, getD, set, take, drop, length-append}
 use Rattle.words.specs.Answers.{Answer, given, refused, _then_}
 use Rattle.words.specs.Rows.{below}
 use Rattle.words.proofs.AnswerLaws.{Only, only-given, only-refused, only-cond, only-then, only-number, refused-injective, given-injective, not-both}
@@ -128,6 +128,16 @@ bounded-below ws (suc n) =
     all-append (λ (h : ℕ). h < suc n) (boundedHandles ws n) (cond (isPowered ws n) (n ∷ []) [])
     (all-map {P = λ (h : ℕ). h < n} (λ h l. omega arith) (boundedHandles ws n) (bounded-below ws n))
     (all-cond (λ (h : ℕ). h < suc n) (isPowered ws n) (n ∷ []) [] (omega arith, tt) tt)
+
+one-at-most : (b : Bool) (n : ℕ) → length (cond b (n ∷ []) []) ≤ 1
+one-at-most true n = omega arith
+one-at-most false n = omega arith
+
+pub bounded-few : (ws : List ℕ) (m : ℕ) → length (boundedHandles ws m) ≤ m
+unfolding boundedHandles
+bounded-few ws zero = omega arith
+bounded-few ws (suc n) =
+    rw (length-append (boundedHandles ws n) (cond (isPowered ws n) (n ∷ []) [])) (omega (arith, bounded-few ws n, one-at-most (isPowered ws n) n))
 
 -- their box is there where one of them is
 abbrev BoxOf : List ℕ → Option Bounds3 → Type 0
