@@ -133,11 +133,11 @@ one-at-most : (b : Bool) (n : ℕ) → length (cond b (n ∷ []) []) ≤ 1
 one-at-most true n = omega arith
 one-at-most false n = omega arith
 
-pub bounded-length : (ws : List ℕ) (m : ℕ) → length (boundedHandles ws m) ≤ m
+pub bounded-few : (ws : List ℕ) (m : ℕ) → length (boundedHandles ws m) ≤ m
 unfolding boundedHandles
-bounded-length ws zero = omega arith
-bounded-length ws (suc n) =
-    rw (length-append (boundedHandles ws n) (cond (isPowered ws n) (n ∷ []) [])) (omega (arith, bounded-length ws n, one-at-most (isPowered ws n) n))
+bounded-few ws zero = omega arith
+bounded-few ws (suc n) =
+    rw (length-append (boundedHandles ws n) (cond (isPowered ws n) (n ∷ []) [])) (omega (arith, bounded-few ws n, one-at-most (isPowered ws n) n))
 
 -- their box is there where one of them is
 abbrev BoxOf : List ℕ → Option Bounds3 → Type 0
