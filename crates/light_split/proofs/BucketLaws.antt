@@ -1,12 +1,14 @@
 -- Laws of the twelve buckets: as the code has them, one more record, and the refusal of a union. Assumes nothing.
 use Prim.Native.Nat.{ℕ, zero, suc, _+_, _≤_, _<_}
-use mathlib.Core.Path.{_≡_, refl, ap, _∙_}
+use mathlib.Core.Path.{_≡_, refl, ap, subst, sym, _∙_}
 use mathlib.Core.Bool.{true, false}
 use mathlib.Core.List.{List, [], _∷_}
 use mathlib.Core.Option.{none}
 use native.Mathlib.Numerals.{add-one}
 use native.Mathlib.Omega.{arith}
-use lib.Ieee.{nan}
+use lib.Dec.{T}
+use lib.Ieee.{Float, binary32, fits, ofBits, toBits, nan}
+use lib.Ieee.Bits.{ofBits-toBits}
 use lib.ListN.{length, getD, set, drop, replicate, drop-of-length-le}
 use lib.Seq.{drop-cons}
 use Rattle.words.specs.Answers.{Answer, given, refused, _then_}
@@ -97,3 +99,9 @@ union-empty b ss i h e = rw (union-next b ss i h, e)
 pub union-end : (b : Bucket) (ss : List Slot) (i : ℕ) → length ss ≤ i → unionRange b (drop i (slotList ss)) ≡ given b
 unfolding unionRange
 union-end b ss i h = rw (drop-of-length-le (slotList ss) {i = i} (omega (arith, slots-length ss)))
+
+-- ---- floats of one word are equal
+
+pub same-word : (x y : Float) → fits binary32 x ≡ true → fits binary32 y ≡ true → toBits binary32 x ≡ toBits binary32 y → x ≡ y
+same-word x y f g e =
+    sym (ofBits-toBits binary32 x (subst T (sym f) tt)) ∙ ap (ofBits binary32) e ∙ ofBits-toBits binary32 y (subst T (sym g) tt)

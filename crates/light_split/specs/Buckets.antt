@@ -1,6 +1,7 @@
 -- The twelve buckets of an axis, as `choose_split` of `light_bvh.rs` fills them and `union_bucket_range` joins them, and the cost of a cut. Where the Rust's
 -- `unwrap` of a union panics, the answer is refusal 10, whichever cut the union belongs to. Definitions only. Assumes nothing.
 use Prim.Native.Nat.{ℕ, zero, suc, _-_}
+use mathlib.Core.Path.{_≡_}
 use mathlib.Core.Bool.{cond, _&&_}
 use mathlib.Core.List.{List, [], _∷_}
 use mathlib.Core.Option.{Option, none, some}
@@ -16,6 +17,7 @@ use Rattle.light_bounds.specs.LightBounds.{union}
 use Rattle.light_bounds.specs.declared.bounds.Bounds3.{Bounds3}
 use Rattle.light_bounds.specs.declared.light_bounds.LightBounds.{LightBounds}
 use Rattle.light_bounds.specs.declared.vecmath.Vec3.{Vec3}
+use Rattle.light_split.specs.declared.buckets.Omega.{Omega}
 use Rattle.light_split.specs.declared.buckets.Ranged.{Ranged}
 use Rattle.light_split.specs.declared.buckets.Ranged.the-variants.{Bucket as Ranged·Bucket, Lost}
 use Rattle.light_split.specs.declared.buckets.Slot.{Slot}
@@ -98,3 +100,8 @@ filled b = cond (b .lost) (refused 10) (given (slotList (b .slots)))
 abbrev pub ranged : Ranged → Answer Bucket
 ranged (Ranged·Bucket s) = given (slotOf s)
 ranged Lost = refused 10
+
+-- an m_omega that is known is that of its cosines
+abbrev pub Right : Omega → Type 0
+Right o =
+    cond (o .known) (o .«m_omega») (mOmega (o .«cos_theta_o») (o .«cos_theta_e»)) ≡ mOmega (o .«cos_theta_o») (o .«cos_theta_e»)

@@ -6,7 +6,7 @@ ghost use lib.ListN.{drop};
 ghost use Rattle.words.specs.Answers.{given, _then_};
 ghost use Rattle.light_bounds.specs.LightBounds.{bounded};
 ghost use Rattle.light_split.specs.Buckets.{slotOf, slotList, joinTo, fillBuckets, emptyBuckets, filled, unionRange, ranged};
-ghost use Rattle.light_split.specs.Buckets.{mOmega, kr as krOf, evaluateCost, sideCost};
+ghost use Rattle.light_split.specs.Buckets.{mOmega, kr as krOf, evaluateCost, sideCost, Right};
 use super::lights::bucket_of;
 use super::lights::component;
 use super::lights::light;
@@ -23,6 +23,7 @@ use light_bounds::side::side_of;
 use light_bounds::vecmath::Vec3;
 use trig::acos;
 use trig::cos;
+use words::floats::word_of_f32;
 
 // A bucket: the record around what fell into it, or nothing.
 pub struct Slot {
@@ -152,25 +153,82 @@ fn kr(diagonal: Vec3, dimension: usize) -> f32
     max(max(max(0.0, diagonal.x), diagonal.y), diagonal.z) / component(diagonal, dimension)
 }
 
-fn evaluate_cost(bounds: LightBounds, parent: Bounds3, dimension: usize) -> f32
-    ensures { λ r. ⌜ r ≡ evaluateCost bounds parent dimension ⌝ }
+// An m_omega that was worked out, and the cosines it is of.
+pub struct Omega {
+    pub known: bool,
+    pub cos_theta_o: f32,
+    pub cos_theta_e: f32,
+    pub m_omega: f32,
+}
+
+// What a side costs, and the last m_omega.
+pub struct Costed {
+    pub cost: f32,
+    pub omega: Omega,
+}
+
+// None so far.
+pub(crate) fn no_omega() -> Omega
+    ensures { λ r. ⌜ Right r ⌝ }
+{
+    Omega {
+        known: false,
+        cos_theta_o: 0.0,
+        cos_theta_e: 0.0,
+        m_omega: 0.0,
+    }
+}
+
+// The m_omega of two cosines: the last one, where it is theirs.
+fn omega_for(last: Omega, cos_theta_o: f32, cos_theta_e: f32) -> Omega
+    requires { ⌜ Right last ⌝ }
+    ensures { λ r. ⌜ Right r ⌝ }
+    ensures { λ r. ⌜ r .«m_omega» ≡ mOmega «cos_theta_o» «cos_theta_e» ⌝ }
+{
+    if last.known
+        && word_of_f32(last.cos_theta_o) == word_of_f32(cos_theta_o)
+        && word_of_f32(last.cos_theta_e) == word_of_f32(cos_theta_e)
+    {
+        return last;
+    }
+    Omega {
+        known: true,
+        cos_theta_o,
+        cos_theta_e,
+        m_omega: m_omega(cos_theta_o, cos_theta_e),
+    }
+}
+
+fn evaluate_cost(bounds: LightBounds, parent: Bounds3, dimension: usize, last: Omega) -> Costed
+    requires { ⌜ Right last ⌝ }
+    ensures { λ r. ⌜ r .cost ≡ evaluateCost bounds parent dimension ⌝ }
+    ensures { λ r. ⌜ Right (r .omega) ⌝ }
 {
     let sides = diagonal(parent);
     if component(sides, dimension) == 0.0 {
-        return 0.0;
+        return Costed {
+            cost: 0.0,
+            omega: last,
+        };
     }
-    bounds.phi
-        * m_omega(bounds.cos_theta_o, bounds.cos_theta_e)
-        * kr(sides, dimension)
-        * surface_area(bounds.bounds)
+    let omega = omega_for(last, bounds.cos_theta_o, bounds.cos_theta_e);
+    Costed {
+        cost: bounds.phi * omega.m_omega * kr(sides, dimension) * surface_area(bounds.bounds),
+        omega,
+    }
 }
 
 // A side with nothing in it costs 0.
-pub(crate) fn side_cost(parent: Bounds3, dimension: usize, slot: Slot) -> f32
-    ensures { λ r. ⌜ r ≡ sideCost parent dimension (slotOf slot) ⌝ }
+pub(crate) fn side_cost(parent: Bounds3, dimension: usize, slot: Slot, last: Omega) -> Costed
+    requires { ⌜ Right last ⌝ }
+    ensures { λ r. ⌜ r .cost ≡ sideCost parent dimension (slotOf slot) ⌝ }
+    ensures { λ r. ⌜ Right (r .omega) ⌝ }
 {
     if slot.filled {
-        return evaluate_cost(slot.bounds, parent, dimension);
+        return evaluate_cost(slot.bounds, parent, dimension, last);
     }
-    0.0
+    Costed {
+        cost: 0.0,
+        omega: last,
+    }
 }

@@ -11,6 +11,7 @@ use super::buckets::Slots;
 use super::buckets::empty_slot;
 use super::buckets::fill_buckets;
 use super::buckets::join_to;
+use super::buckets::no_omega;
 use super::buckets::side_cost;
 use super::buckets::union_from;
 use super::lights::centroid_ends;
@@ -77,6 +78,7 @@ fn best_cut(buckets: Slots, parent: Bounds3, dimension: usize, best: Best) -> Be
 {
     let mut best = best;
     let mut left = empty_slot();
+    let mut last = no_omega();
     let mut bucket: usize = 0;
     while bucket < 11 {
         let slot = buckets.slots[bucket];
@@ -93,9 +95,10 @@ fn best_cut(buckets: Slots, parent: Bounds3, dimension: usize, best: Best) -> Be
         if bucket == 0 || slot.filled {
             match union_from(buckets, bucket + 1) {
                 Ranged::Bucket(right) => {
-                    let cost = side_cost(parent, dimension, left)
-                        + side_cost(parent, dimension, right);
-                    best = better(best, Split { dimension, bucket }, cost);
+                    let before = side_cost(parent, dimension, left, last);
+                    let behind = side_cost(parent, dimension, right, before.omega);
+                    last = behind.omega;
+                    best = better(best, Split { dimension, bucket }, before.cost + behind.cost);
                 }
                 Ranged::Lost => {
                     return Bested::Lost;

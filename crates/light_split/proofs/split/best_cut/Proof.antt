@@ -8,7 +8,7 @@ use native.Mathlib.Omega.{arith}
 use borrow.Author.Needs.{needs}
 use lib.ListN.{length, take, length-map}
 use Rattle.words.specs.Answers.{given}
-use Rattle.light_split.specs.Buckets.{unionRange, slotOf, slotList, ranged}
+use Rattle.light_split.specs.Buckets.{unionRange, slotOf, slotList, ranged, Right}
 use Rattle.light_split.specs.Split.{cuts}
 use Rattle.light_split.specs.declared.buckets.Slot.{Slot}
 use Rattle.light_split.proofs.SplitLaws.{joined-filled, joined-empty, cut-next, cut-empty, left-lost, right-lost}
@@ -16,12 +16,12 @@ use Rattle.light_split.proofs.split.best_cut.Statement.{statement}
 use Rattle.light_split.proofs.split.best_cut.Tie as tie
 
 abbrev Inv-loop : tie.InvT-loop
-Inv-loop parent dimension buckets best₀ left₀ bucket₀ best left bucket = (bucket ≤ 11) ×
+Inv-loop parent dimension buckets best₀ left₀ last₀ bucket₀ best left last bucket = (bucket ≤ 11) ×
     (unionRange none (take bucket (slotList (buckets .slots))) ≡ given (slotOf left)) ×
-    (cuts (slotList (buckets .slots)) parent dimension best₀ bucket ≡ given best)
+    (cuts (slotList (buckets .slots)) parent dimension best₀ bucket ≡ given best) × Right last
 
 abbrev μ-loop : tie.MeasureT-loop
-μ-loop parent dimension buckets best₀ left₀ bucket₀ best left bucket = 11 - bucket
+μ-loop parent dimension buckets best₀ left₀ last₀ bucket₀ best left last bucket = 11 - bucket
 
 -- the type's own fact
 twelve : (c : tie.Start Inv-loop μ-loop) → length (c .args .t1 .slots) ≡ 12
@@ -29,10 +29,10 @@ twelve c = simp length-map at (c .good .0 .1 .1 .1 .0 .1 .0 .1)
 
 -- the left side with the bucket at hand
 side : (c : tie.Joined1 Inv-loop μ-loop)
-    → unionRange none (take (c .before .before .before .loop .bucket + 1) (slotList (c .before .before .before .before .before .args .t1 .slots)))
+    → unionRange none (take (c .before .before .before .loop .bucket + 1) (slotList (c .before .before .before .before .before .before .args .t1 .slots)))
     ≡ given (slotOf (c .if1 .left))
 side c =
-    let start = c .before .before .before .before .before in
+    let start = c .before .before .before .before .before .before in
     let loop = c .before .before .before .loop in
     let ss = start .args .t1 .slots in
     let h = c .before .before .loop-test .taken in
@@ -44,11 +44,11 @@ side c =
 
 loop-holds : tie.Need-loop-holds Inv-loop μ-loop
 unfolding unionRange cuts
-loop-holds c = (omega arith, ap given (sym (c .empty-slot .ensures)), refl)
+loop-holds c = (omega arith, ap given (sym (c .before .empty-slot .ensures)), refl, c .no-omega .ensures)
 
 returns : tie.Need-returns Inv-loop μ-loop
 returns c =
-    let start = c .before .before .before .before .before .before .before .before in
+    let start = c .before .before .before .before .before .before .before .before .before in
     let args = start .args in
     let loop = c .before .before .before .before .before .before .loop in
     let h = c .before .before .before .before .before .loop-test .taken in
@@ -59,16 +59,22 @@ returns c =
 returns-2 : tie.Need-returns-2 Inv-loop μ-loop
 returns-2 c =
     let at = c .before .before .before .before in
-    let start = at .before .before .before .before .before in
+    let start = at .before .before .before .before .before .before in
     let args = start .args in
     let loop = at .before .before .before .loop in
     sym (right-lost (args .t1 .slots) (twelve start) (args .parent) (args .dimension) (args .best) (loop .bucket) (at .before .before .loop-test .taken)
     (loop .best) (loop .inv .2) (slotOf (at .if1 .left)) 10 (side at) (sym (c .before .before .union-from .ensures) ∙ ap ranged (c .enum-told2 .given .1)))
 
+side-cost-requires : tie.Need-side-cost-requires Inv-loop μ-loop
+side-cost-requires c κs = search needs
+
+side-cost-requires-2 : tie.Need-side-cost-requires-2 Inv-loop μ-loop
+side-cost-requires-2 c κs = search needs
+
 loop-again : tie.Need-loop-again Inv-loop μ-loop
 loop-again c =
     let at = c .before in
-    let start = at .before .before .before .before .before in
+    let start = at .before .before .before .before .before .before in
     let args = start .args in
     let loop = at .before .before .before .loop in
     let h = at .before .before .loop-test .taken in (
@@ -77,10 +83,11 @@ loop-again c =
       ⊎-elim
           (λ w. cut-next (args .t1 .slots) (twelve start) (args .parent) (args .dimension) (args .best) (loop .bucket) h (loop .best) (loop .inv .2)
           (slotOf (at .if1 .left)) _ (side at) (sym (w .1 .ensures) ∙ ap ranged (w .3 .given .1))
-          ∙ rw (w .8, w .7 .ensures, w .5 .ensures, w .6 .ensures))
+          ∙ rw (w .11, w .10 .ensures, w .5 .ensures .0, w .6 .ensures .0))
           (λ w. cut-empty (args .t1 .slots) (twelve start) (args .parent) (args .dimension) (args .best) (loop .bucket) h (loop .best) (loop .inv .2)
           (omega (arith, w .0 .left)) (w .1 .left) ∙ ap given (sym (w .2)))
           (c .if2 .came),
+      ⊎-elim (λ w. rw (w .12) (w .6 .ensures .1)) (λ w. rw (w .3) (loop .inv .3)) (c .if2 .came),
     )
 
 returns-3 : tie.Need-returns-3 Inv-loop μ-loop
@@ -91,6 +98,6 @@ returns-3 c =
 
 pub best-cut-spec : {M : Type 1} → statement M
 best-cut-spec =
-    tie.close (tie.spec Inv-loop μ-loop (λ c κs. search needs) loop-holds (λ c. omega arith) (λ c. omega arith) (λ c κs. search needs)
-    (λ c. search needs) (λ c. search needs) returns (λ c. omega arith) (λ c κs. search needs) (λ c. search needs) (λ c κs. search needs)
-    (λ c κs. search needs) (λ c κs. search needs) (λ c. search needs) returns-2 (λ c. omega arith) (λ c. omega arith) loop-again returns-3)
+    tie.close (tie.spec Inv-loop μ-loop (λ c κs. search needs) (λ c κs. search needs) loop-holds (λ c. omega arith) (λ c. omega arith) (λ c κs. search needs)
+    (λ c. search needs) (λ c. search needs) returns (λ c. omega arith) (λ c κs. search needs) (λ c. search needs) side-cost-requires
+    side-cost-requires-2 (λ c κs. search needs) (λ c. search needs) returns-2 (λ c. omega arith) (λ c. omega arith) loop-again returns-3)
