@@ -1,12 +1,11 @@
 -- What `build_rows` comes to and leaves, where no row is powered (`rows-none`), where there is a tree (`rows-tree`) and where a union is lost (`rows-lost`).
 -- What the code lends is the front of each slice, so what is behind the reserves stays whatever the call leaves in front (`behind`). Assumes nothing.
 use Prim.Native.Nat.{ℕ, _+_, _*_, _-_, _^_, _≤_, _<_}
-use mathlib.Core.Path.{_≡_, refl, ap, subst, sym, _∙_}
-use mathlib.Core.Bool.{true, false}
+use mathlib.Core.Path.{_≡_, refl, ap, sym, _∙_}
+use mathlib.Core.Bool.{Bool, true, false}
 use mathlib.Core.List.{List, [], _∷_, _++_, append-assoc}
 use mathlib.Core.Option.{Option, none, some}
 use native.Mathlib.Omega.{arith}
-use lib.Dec.{T}
 use lib.ListN.{length, take, drop, replicate, length-append, length-drop, length-replicate}
 use lib.Seq.{length-take-le, take-at, drop-append-add, drop-drop}
 use Rattle.words.specs.Answers.{Answer, given, refused, _then_}
@@ -22,12 +21,12 @@ use Rattle.light_nodes.specs.Tree.{Tree, leaves, treeWords}
 use Rattle.light_nodes.specs.TreeLaws.{length-flatten}
 use Rattle.light_split.specs.Partition.{laid}
 use Rattle.light_bvh.specs.Subtree.{buildSubtree, isGiven, subtreeWords}
-use Rattle.light_bvh.specs.Build.{boundedHandles, allBounds, LightBVH, treeOf, builtBvh, nodesReserve, workReserve, nodesWritten, tabled, tableWritten}
+use Rattle.light_bvh.specs.Build.{boundedHandles, allBounds, LightBVH, treeOf, builtBvh, nodesReserve, workReserve, nodesWritten, tableWritten}
 use Rattle.light_bvh.specs.Build.{isShort, workWritten, tabledBelow, summary, overall}
 use Rattle.light_bvh.specs.declared.build.Overall.{Overall}
 use Rattle.light_bvh.proofs.BuildLaws.{reserves-fit}
 use Rattle.light_bvh.proofs.RowsLaws.{bounds-none, bounds-some, bounded-few, bounded-below, labels-below, tree-refused}
-use Rattle.light_bvh.proofs.SubtreeLaws.{build-size}
+use Rattle.light_bvh.proofs.SubtreeLaws.{build-size, given-of, refused-of, given-moved, words-moved}
 use Rattle.light_bvh.proofs.TableLaws.{Labels, labels-map, Thirty, tabled-front-tree, tabled-front, length-tabled}
 
 -- ---- the front of a slice is another's
@@ -160,14 +159,6 @@ Done ws m nodes table work answer nodes″ table″ work″ =
     (answer ≡ summary (builtBvh ws m)) × ((nodes″ ≡ tray nodesWritten (nodesReserve m) (builtBvh ws m) nodes)
     × ((table″ ≡ tray tableWritten m (builtBvh ws m) table) × (work″ ≡ tray workWritten (workReserve m) (builtBvh ws m) work)))
 
-given-of : {A : Type 0} (x : Answer A) → isGiven x ≡ true → (a : A) × (x ≡ given a)
-given-of (given a) e = (a, refl)
-given-of (refused n) e = absurd (subst T (sym e) tt)
-
-refused-of : {A : Type 0} (x : Answer A) → isGiven x ≡ false → (n : ℕ) × (x ≡ refused n)
-refused-of (given a) e = absurd (subst T e tt)
-refused-of (refused n) e = (n, refl)
-
 -- the nodes of k leaves
 abbrev pub endOf : ℕ → ℕ
 endOf k = 16 * (2 * k - 1)
@@ -193,129 +184,145 @@ module _ {ws : List ℕ} {m : ℕ} {nodes table work table′ : List ℕ} {k : �
           en ∙ tray-empty nodesWritten (nodesReserve m) nodes (noTree m) nodes refl (g .room-nodes) refl,
           (
             ef ∙ valued table″ (drop m table) m invalidIndex (omega (arith, g .room-table)) rest
-            ∙ sym (tray-full tableWritten m table (noTree m) (length-replicate m invalidIndex)),
+                ∙ sym (tray-full tableWritten m table (noTree m) (length-replicate m invalidIndex)),
             ew ∙ tray-empty workWritten (workReserve m) work (noTree m) work refl (g .room-work) refl,
           ),
         ),
       )
 
-  module _ (powered : 0 < k) where
-    -- the front of the table is the powered rows' handles
-    front-is : take (k - 0) table′ ≡ boundedHandles ws m
-    front-is =
+  -- the front of the table is the powered rows' handles
+  pub front-is : take (k - 0) table′ ≡ boundedHandles ws m
+  front-is =
+      let hs = boundedHandles ws m in
+      ap (take (k - 0)) (g .is) ∙ take-at hs (drop (length hs) table) (k - 0) (omega (arith, g .count))
+
+  table-front : length (take (k - 0) table′) ≡ k
+  table-front = ap length front-is ∙ sym (g .count)
+
+  work-front : length (take (k - 0) work) ≡ k
+  work-front = length-take-le (k - 0) work (omega (arith, g .within, g .room-work)) ∙ omega arith
+
+  nodes-front : length (take (endOf k - 0) nodes) ≡ endOf k
+  nodes-front = length-take-le (endOf k - 0) nodes (omega (arith, g .within, g .room-nodes)) ∙ omega arith
+
+  -- what the tree asks
+  pub asks : 0 < k → (1 ≤ length (take (k - 0) table′)) × ((length (take (k - 0) table′) ≤ length (take (k - 0) work))
+      × ((length (take (endOf k - 0) nodes) + nodeWords ≡ nodeWords * (2 * length (take (k - 0) table′)))
+      × (0 + 2 * length (take (k - 0) table′) < 2 ^ 30)))
+  asks powered = rw (table-front, work-front, nodes-front) (omega arith, (omega arith, (omega arith, omega (arith, g .within, g .few))))
+
+-- ---- behind the tree
+
+-- the fronts of the table, the work and the nodes were lent for a tree, and are now hx, wx, nx
+pub record Lent (ws : List ℕ) (m : ℕ) (nodes table work table′ : List ℕ) (k : ℕ) (hx wx nx : List ℕ) : Type 0 where
+  pub gathered : Gathered ws m nodes table work table′ k
+  pub some : 0 < k
+  pub same-table : length hx ≡ length (take (k - 0) table′)
+  pub same-work : length wx ≡ length (take (k - 0) work)
+  pub same-nodes : length nx ≡ length (take (endOf k - 0) nodes)
+
+module _ {ws : List ℕ} {m : ℕ} {nodes table work table′ : List ℕ} {k : ℕ} {hx wx nx : List ℕ} (l : Lent ws m nodes table work table′ k hx wx nx) where
+  -- what is left of each slice, and behind its reserve
+  table-here : length hx ≡ k - 0
+  table-here = l .same-table ∙ table-front (l .gathered) ∙ omega arith
+
+  pub table-size : length (hx ++ drop (k - 0) table′) ≡ length table
+  table-size =
+      let g = l .gathered in
+      front-length hx table′ (k - 0) table-here (omega (arith, g .within, g .room-table, g .same)) ∙ g .same
+
+  table-rest : drop m (hx ++ drop (k - 0) table′) ≡ drop m table
+  table-rest = let g = l .gathered in behind hx table′ (k - 0) table-here m (omega (arith, g .within)) ∙ rest-table g
+
+  work-here : length wx ≡ k - 0
+  work-here = l .same-work ∙ work-front (l .gathered) ∙ omega arith
+
+  work-size : length (wx ++ drop (k - 0) work) ≡ length work
+  work-size = let g = l .gathered in front-length wx work (k - 0) work-here (omega (arith, g .within, g .room-work))
+
+  work-rest : drop (workReserve m) (wx ++ drop (k - 0) work) ≡ drop (workReserve m) work
+  work-rest = let g = l .gathered in behind wx work (k - 0) work-here (workReserve m) (omega (arith, g .within))
+
+  nodes-here : length nx ≡ endOf k - 0
+  nodes-here = l .same-nodes ∙ nodes-front (l .gathered) ∙ omega arith
+
+  pub nodes-size : length (nx ++ drop (endOf k - 0) nodes) ≡ length nodes
+  nodes-size = let g = l .gathered in front-length nx nodes (endOf k - 0) nodes-here (omega (arith, g .within, g .room-nodes))
+
+  nodes-rest : drop (nodesReserve m) (nx ++ drop (endOf k - 0) nodes) ≡ drop (nodesReserve m) nodes
+  nodes-rest = let g = l .gathered in behind nx nodes (endOf k - 0) nodes-here (nodesReserve m) (omega (arith, g .within))
+
+  any : 0 < length (boundedHandles ws m)
+  any = omega (arith, l .gathered .count, l .some)
+
+  -- a union is lost
+  pub rows-lost : {r : Bool} → r ≡ isGiven (buildSubtree ws (length (take (k - 0) table′)) (take (k - 0) table′)) → r ≡ false
+      → {nodes″ table″ work″ : List ℕ} → nodes″ ≡ filled (nx ++ drop (endOf k - 0) nodes) 0 (nodesReserve m) 0
+      → table″ ≡ filled (hx ++ drop (k - 0) table′) 0 m 0 → work″ ≡ filled (wx ++ drop (k - 0) work) 0 (workReserve m) 0
+      → Done ws m nodes table work (refused 10) nodes″ table″ work″
+  rows-lost told lost en et ew =
+      let g = l .gathered in
+      let hs = boundedHandles ws m in
+      let (n, e) = refused-of (buildSubtree ws (length hs) hs) (given-moved ws (take (k - 0) table′) hs _ false (front-is g) told lost) in
+      let ten = tree-refused ws (length hs) hs n any (omega arith) e in
+      rw (built-lost ws m any 10 (e ∙ ap refused ten)) (
+        refl,
+        (
+          en ∙ tray-zeroed nodesWritten (nodesReserve m) nodes _ 10 (omega (arith, nodes-size, g .room-nodes)) nodes-rest (omega arith),
+          (
+            et ∙ tray-zeroed tableWritten m table _ 10 (omega (arith, table-size, g .room-table)) table-rest (omega arith),
+            ew ∙ tray-zeroed workWritten (workReserve m) work _ 10 (omega (arith, work-size, g .room-work)) work-rest (omega arith),
+          ),
+        ),
+      )
+
+  -- a tree
+  module _ (t : Tree) (e : buildSubtree ws (length (boundedHandles ws m)) (boundedHandles ws m) ≡ given t) where
+    size : leaves t ≡ k
+    size = build-size ws (length (boundedHandles ws m)) (boundedHandles ws m) t e ∙ sym (l .gathered .count)
+
+    nodes-left : {nodes″ : List ℕ} → nx ≡ treeWords t → nodes″ ≡ filled (nx ++ drop (endOf k - 0) nodes) (endOf k) (nodesReserve m) 0
+        → nodes″ ≡ tray nodesWritten (nodesReserve m) (given (treeFor ws m t)) nodes
+    nodes-left whole en =
+        let g = l .gathered in
+        let z : endOf k - 0 ≡ endOf k = omega arith in
+        let n = size in
+        en ∙ rw (whole, z) (nodes-tray ws m t nodes (endOf k) (omega (arith, l .some)) (omega (arith, g .within)) (g .room-nodes))
+
+    -- the tree's words stand in front
+    tree-first : {nodes″ : List ℕ} → nodes″ ≡ tray nodesWritten (nodesReserve m) (given (treeFor ws m t)) nodes
+        → nodes″ ≡ treeWords t ++ (replicate (nodesReserve m - length (treeWords t)) 0 ++ drop (nodesReserve m) nodes)
+    unfolding tray nodesWritten
+    tree-first is = is ∙ append-assoc (treeWords t) (replicate (nodesReserve m - length (treeWords t)) 0) (drop (nodesReserve m) nodes)
+
+    table-left : {nodes″ table″ table‴ : List ℕ} → nodes″ ≡ tray nodesWritten (nodesReserve m) (given (treeFor ws m t)) nodes
+        → table″ ≡ filled (hx ++ drop (k - 0) table′) 0 m invalidIndex → table‴ ≡ tabledBelow nodes″ (2 * k - 1) table″
+        → table‴ ≡ tray tableWritten m (given (treeFor ws m t)) table
+    table-left en et el =
+        let g = l .gathered in
         let hs = boundedHandles ws m in
-        ap (take (k - 0)) (g .is) ∙ take-at hs (drop (length hs) table) (k - 0) (omega (arith, g .count))
+        let small = labels-below ws m (g .checked) (length hs) hs t (bounded-below ws m) e in
+        let cleared = valued (hx ++ drop (k - 0) table′) (drop m table) m invalidIndex (omega (arith, table-size, g .room-table)) table-rest in
+        el ∙ rw (tree-first en, et ∙ cleared, ← size) (table-tray ws m t table _ small (g .few))
 
-    table-front : length (take (k - 0) table′) ≡ k
-    table-front = ap length front-is ∙ sym (g .count)
+    tree-left : {nodes″ table″ table‴ work″ : List ℕ} → nx ≡ treeWords t
+        → nodes″ ≡ filled (nx ++ drop (endOf k - 0) nodes) (endOf k) (nodesReserve m) 0 → table″ ≡ filled (hx ++ drop (k - 0) table′) 0 m invalidIndex
+        → table‴ ≡ tabledBelow nodes″ (2 * k - 1) table″ → work″ ≡ filled (wx ++ drop (k - 0) work) 0 (workReserve m) 0
+        → (o : Overall) → overall o ≡ allBounds ws m → Done ws m nodes table work (given (k, some (o .bounds))) nodes″ table‴ work″
+    tree-left whole en et el ew o box =
+        let g = l .gathered in
+        let tree = nodes-left whole en in
+        let clean = tray-empty workWritten (workReserve m) work (treeFor ws m t) _ refl (omega (arith, work-size, g .room-work)) work-rest in
+        rw (built-tree ws m any t e) (rw (← g .count, bounds-some ws m o any box) refl, (tree, (table-left tree et el, ew ∙ clean)))
 
-    work-front : length (take (k - 0) work) ≡ k
-    work-front = length-take-le (k - 0) work (omega (arith, g .within, g .room-work)) ∙ omega arith
-
-    nodes-front : length (take (endOf k - 0) nodes) ≡ endOf k
-    nodes-front = length-take-le (endOf k - 0) nodes (omega (arith, g .within, g .room-nodes)) ∙ omega arith
-
-    pub asks : (1 ≤ length (take (k - 0) table′)) × ((length (take (k - 0) table′) ≤ length (take (k - 0) work))
-        × ((length (take (endOf k - 0) nodes) + nodeWords ≡ nodeWords * (2 * length (take (k - 0) table′)))
-        × (0 + 2 * length (take (k - 0) table′) < 2 ^ 30)))
-    asks =
-        rw (table-front, work-front, nodes-front) (omega arith, (omega arith, (omega arith, omega (arith, g .within, g .few))))
-
-    module _ (hx wx nx : List ℕ) (sh : length hx ≡ length (take (k - 0) table′)) (sw : length wx ≡ length (take (k - 0) work))
-        (sn : length nx ≡ length (take (endOf k - 0) nodes)) where
-      -- what is left of each slice, and behind its reserve
-      pub table-size : length (hx ++ drop (k - 0) table′) ≡ length table
-      table-size = front-length hx table′ (k - 0) (sh ∙ table-front ∙ omega arith) (omega (arith, g .within, g .room-table, g .same)) ∙ g .same
-
-      table-rest : drop m (hx ++ drop (k - 0) table′) ≡ drop m table
-      table-rest = behind hx table′ (k - 0) (sh ∙ table-front ∙ omega arith) m (omega (arith, g .within)) ∙ rest-table
-
-      work-size : length (wx ++ drop (k - 0) work) ≡ length work
-      work-size = front-length wx work (k - 0) (sw ∙ work-front ∙ omega arith) (omega (arith, g .within, g .room-work))
-
-      work-rest : drop (workReserve m) (wx ++ drop (k - 0) work) ≡ drop (workReserve m) work
-      work-rest = behind wx work (k - 0) (sw ∙ work-front ∙ omega arith) (workReserve m) (omega (arith, g .within))
-
-      pub nodes-size : length (nx ++ drop (endOf k - 0) nodes) ≡ length nodes
-      nodes-size = front-length nx nodes (endOf k - 0) (sn ∙ nodes-front ∙ omega arith) (omega (arith, g .within, g .room-nodes))
-
-      nodes-rest : drop (nodesReserve m) (nx ++ drop (endOf k - 0) nodes) ≡ drop (nodesReserve m) nodes
-      nodes-rest = behind nx nodes (endOf k - 0) (sn ∙ nodes-front ∙ omega arith) (nodesReserve m) (omega (arith, g .within))
-
-      pub rows-lost : isGiven (buildSubtree ws (length (take (k - 0) table′)) (take (k - 0) table′)) ≡ false → {nodes″ table″ work″ : List ℕ}
-          → nodes″ ≡ filled (nx ++ drop (endOf k - 0) nodes) 0 (nodesReserve m) 0 → table″ ≡ filled (hx ++ drop (k - 0) table′) 0 m 0
-          → work″ ≡ filled (wx ++ drop (k - 0) work) 0 (workReserve m) 0 → Done ws m nodes table work (refused 10) nodes″ table″ work″
-      rows-lost lost en et ew =
-          let hs = boundedHandles ws m in
-          let (n, e) = refused-of (buildSubtree ws (length hs) hs) (rw front-is at lost) in
-          let ten = tree-refused ws (length hs) hs n (omega (arith, g .count)) (omega arith) e in
-          rw (built-lost ws m (omega (arith, g .count)) 10 (e ∙ ap refused ten)) (
-            refl,
-            (
-              en ∙ tray-zeroed nodesWritten (nodesReserve m) nodes (nx ++ drop (endOf k - 0) nodes) 10 (omega (arith, nodes-size, g .room-nodes)) nodes-rest
-                  (omega arith),
-              (
-                et ∙ tray-zeroed tableWritten m table (hx ++ drop (k - 0) table′) 10 (omega (arith, table-size, g .room-table)) table-rest (omega arith),
-                ew ∙ tray-zeroed workWritten (workReserve m) work (wx ++ drop (k - 0) work) 10 (omega (arith, work-size, g .room-work)) work-rest
-                    (omega arith),
-              ),
-            ),
-          )
-
-      module _ (t : Tree) (e : buildSubtree ws (length (boundedHandles ws m)) (boundedHandles ws m) ≡ given t) (whole : nx ≡ treeWords t) where
-        size : leaves t ≡ k
-        size = build-size ws (length (boundedHandles ws m)) (boundedHandles ws m) t e ∙ sym (g .count)
-
-        -- the nodes, and what is behind the tree in them
-        nodes-left : {nodes″ : List ℕ} → nodes″ ≡ filled (nx ++ drop (endOf k - 0) nodes) (endOf k) (nodesReserve m) 0
-            → nodes″ ≡ tray nodesWritten (nodesReserve m) (given (treeFor ws m t)) nodes
-        nodes-left en =
-            let z : endOf k - 0 ≡ endOf k = omega arith in
-            let n = size in
-            en ∙ rw (whole, z) (nodes-tray ws m t nodes (endOf k) (omega arith) (omega (arith, g .within)) (g .room-nodes))
-
-        tree-first : {nodes″ : List ℕ} → nodes″ ≡ tray nodesWritten (nodesReserve m) (given (treeFor ws m t)) nodes
-            → nodes″ ≡ treeWords t ++ (replicate (nodesReserve m - length (treeWords t)) 0 ++ drop (nodesReserve m) nodes)
-        unfolding tray nodesWritten
-        tree-first is = is ∙ append-assoc (treeWords t) (replicate (nodesReserve m - length (treeWords t)) 0) (drop (nodesReserve m) nodes)
-
-        table-left : {nodes″ table″ table‴ : List ℕ} → nodes″ ≡ tray nodesWritten (nodesReserve m) (given (treeFor ws m t)) nodes
-            → table″ ≡ filled (hx ++ drop (k - 0) table′) 0 m invalidIndex → table‴ ≡ tabledBelow nodes″ (2 * k - 1) table″
-            → table‴ ≡ tray tableWritten m (given (treeFor ws m t)) table
-        table-left en et el =
-            let hs = boundedHandles ws m in
-            let small = labels-below ws m (g .checked) (length hs) hs t (bounded-below ws m) e in
-            let cleared = valued (hx ++ drop (k - 0) table′) (drop m table) m invalidIndex (omega (arith, table-size, g .room-table)) table-rest in
-            el ∙ rw (tree-first en, et ∙ cleared, ← size) (table-tray ws m t table _ small (g .few))
-
-        tree-left : {nodes″ table″ table‴ work″ : List ℕ} → nodes″ ≡ filled (nx ++ drop (endOf k - 0) nodes) (endOf k) (nodesReserve m) 0
-            → table″ ≡ filled (hx ++ drop (k - 0) table′) 0 m invalidIndex → table‴ ≡ tabledBelow nodes″ (2 * k - 1) table″
-            → work″ ≡ filled (wx ++ drop (k - 0) work) 0 (workReserve m) 0 → (o : Overall) → overall o ≡ allBounds ws m
-            → Done ws m nodes table work (given (k, some (o .bounds))) nodes″ table‴ work″
-        tree-left en et el ew o box =
-            let any : 0 < length (boundedHandles ws m) = omega (arith, g .count) in
-            rw (built-tree ws m any t e) (
-              rw (← g .count, bounds-some ws m o any box) refl,
-              (
-                nodes-left en,
-                (
-                  table-left (nodes-left en) et el,
-                  ew ∙ tray-empty workWritten (workReserve m) work (treeFor ws m t) (wx ++ drop (k - 0) work) refl (omega (arith, work-size, g .room-work))
-                      work-rest,
-                ),
-              ),
-            )
-
-      pub rows-tree : isGiven (buildSubtree ws (length (take (k - 0) table′)) (take (k - 0) table′)) ≡ true
-          → nx ≡ subtreeWords 0 invalidIndex (buildSubtree ws (length (take (k - 0) table′)) (take (k - 0) table′)) nx → {nodes″ table″ table‴ work″ : List ℕ}
-          → nodes″ ≡ filled (nx ++ drop (endOf k - 0) nodes) (endOf k) (nodesReserve m) 0
-          → table″ ≡ filled (hx ++ drop (k - 0) table′) 0 m invalidIndex → table‴ ≡ tabledBelow nodes″ (2 * k - 1) table″
-          → work″ ≡ filled (wx ++ drop (k - 0) work) 0 (workReserve m) 0 → (o : Overall) → overall o ≡ allBounds ws m
-          → Done ws m nodes table work (given (k, some (o .bounds))) nodes″ table‴ work″
-      rows-tree there words en et el ew o box =
-          let hs = boundedHandles ws m in
-          let (t, e) = given-of (buildSubtree ws (length hs) hs) (rw front-is at there) in
-          let whole : nx ≡ treeWords t =
-          words ∙ ap (λ (l : List ℕ). subtreeWords 0 invalidIndex (buildSubtree ws (length l) l) nx) front-is
-          ∙ ap (λ (x : Answer Tree). subtreeWords 0 invalidIndex x nx) e in
-          tree-left t e whole en et el ew o box
+  pub rows-tree : {r : Bool} → r ≡ isGiven (buildSubtree ws (length (take (k - 0) table′)) (take (k - 0) table′)) → r ≡ true
+      → nx ≡ subtreeWords 0 invalidIndex (buildSubtree ws (length (take (k - 0) table′)) (take (k - 0) table′)) nx → {nodes″ table″ table‴ work″ : List ℕ}
+      → nodes″ ≡ filled (nx ++ drop (endOf k - 0) nodes) (endOf k) (nodesReserve m) 0 → table″ ≡ filled (hx ++ drop (k - 0) table′) 0 m invalidIndex
+      → table‴ ≡ tabledBelow nodes″ (2 * k - 1) table″ → work″ ≡ filled (wx ++ drop (k - 0) work) 0 (workReserve m) 0
+      → (o : Overall) → overall o ≡ allBounds ws m → Done ws m nodes table work (given (k, some (o .bounds))) nodes″ table‴ work″
+  rows-tree told there words en et el ew o box =
+      let hs = boundedHandles ws m in
+      let front = front-is (l .gathered) in
+      let (t, e) = given-of (buildSubtree ws (length hs) hs) (given-moved ws (take (k - 0) table′) hs _ true front told there) in
+      let whole = words-moved ws (take (k - 0) table′) hs 0 invalidIndex nx front words ∙ ap (λ (x : Answer Tree). subtreeWords 0 invalidIndex x nx) e in
+      tree-left t e whole en et el ew o box

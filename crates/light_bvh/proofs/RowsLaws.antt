@@ -2,7 +2,7 @@
 -- induction on the depth, over what a stretch's halves hold; and the box of the powered rows is there where one of them is (`bounds-some`, `bounds-none`).
 -- Assumes nothing.
 use Prim.Native.Nat.{ℕ, zero, suc, _/_, _≤_, _<_}
-use mathlib.Core.Path.{_≡_, refl, ap, subst, sym, _∙_}
+use mathlib.Core.Path.{_≡_, refl, subst, sym, _∙_}
 use mathlib.Core.Bool.{Bool, true, false, cond, _||_}
 use mathlib.Core.List.{List, [], _∷_, _++_, append-nil}
 use mathlib.Core.Option.{Option, none, some, IsSome}
@@ -11,7 +11,7 @@ use borrow.Author.Tests.{eqb-true}
 use lib.Dec.{eqb}
 use lib.Ieee.{eq}
 use lib.ListN.{length, getD, set, take, drop, length-append}
-use Rattle.words.specs.Answers.{Answer, given, refused, _then_}
+use Rattle.words.specs.Answers.{Answer, given, refused}
 use Rattle.words.specs.Rows.{below}
 use Rattle.words.proofs.AnswerLaws.{Only, only-given, only-refused, only-cond, only-then, only-number, refused-injective, given-injective, not-both}
 use Rattle.words.proofs.AnswerLaws.{Gives, gives, gives-none, gives-any, gives-then, gives-value}
@@ -21,7 +21,7 @@ use Rattle.light_bounds.specs.LightBounds.{union}
 use Rattle.light_bounds.specs.declared.bounds.Bounds3.{Bounds3}
 use Rattle.light_bounds.specs.declared.light_bounds.LightBounds.{LightBounds}
 use Rattle.lamps.specs.Block.{handleAt, blockHandles}
-use Rattle.light_nodes.specs.Tree.{Tree, leaf, fork, bounds}
+use Rattle.light_nodes.specs.Tree.{Tree, bounds}
 use Rattle.light_split.specs.Buckets.{Bucket, joinTo, fillBuckets, emptyBuckets, unionRange, unionBucketRange, cutCost}
 use Rattle.light_split.specs.Lights.{lightOf, component, centroidEnds, bucketOf}
 use Rattle.light_split.specs.Partition.{kept, goesLeft, goesRight, lefts, rights, partitionHandles}

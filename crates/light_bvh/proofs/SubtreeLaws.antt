@@ -242,11 +242,11 @@ parted-is ws hs s room e h x l count is =
 
 -- ---- as the code goes
 
-refused-of : {A : Type 0} (x : Answer A) → isGiven x ≡ false → (n : ℕ) × (x ≡ refused n)
+pub refused-of : {A : Type 0} (x : Answer A) → isGiven x ≡ false → (n : ℕ) × (x ≡ refused n)
 refused-of (given a) e = absurd (true≢false e)
 refused-of (refused n) e = (n, refl)
 
-given-of : {A : Type 0} (x : Answer A) → isGiven x ≡ true → (a : A) × (x ≡ given a)
+pub given-of : {A : Type 0} (x : Answer A) → isGiven x ≡ true → (a : A) × (x ≡ given a)
 given-of (given a) e = (a, refl)
 given-of (refused n) e = absurd (true≢false (sym e))
 

@@ -2,20 +2,20 @@
 -- leaf (`tabled-tree`), and only in front of what is behind the labels (`tabled-front`). By induction on the tree, over words that are given whole. Assumes
 -- nothing.
 use Prim.Native.Nat.{ℕ, suc, _+_, _*_, _-_, _<_}
-use mathlib.Core.Path.{_≡_, refl, ap, sym, _∙_}
+use mathlib.Core.Path.{_≡_, refl, ap, _∙_}
 use mathlib.Core.List.{List, [], _∷_, _++_, append-assoc}
 use native.Mathlib.Numerals.{add-one}
 use native.Mathlib.Omega.{arith}
-use borrow.Author.Tests.{eq-eqb, ne-eqb}
 use lib.ListN.{length, getD, set, length-set}
 use lib.Seq.{getD-at, set-append-left}
-use Rattle.words.specs.Heads.{kindOf, handleOf}
+use Rattle.words.specs.Heads.{handleOf}
 use Rattle.light_bounds.specs.RecordWords.{recordList}
 use Rattle.light_bounds.specs.declared.light_bounds.LightBounds.{LightBounds}
 use Rattle.light_nodes.specs.Nodes.{LightBVHNode, leaf as leafNode, interior, nodePlace, headWord, rightChild, parent, nodeList}
 use Rattle.light_nodes.specs.Tree.{Tree, leaf, fork, leaves, rightPlace, flatten, treeWords}
 use Rattle.light_nodes.specs.TreeLaws.{leaves-pos, left-place, right-place}
 use Rattle.light_bvh.specs.Build.{tabled, tabledBelow}
+use Rattle.light_bvh.proofs.BuildLaws.{tabled-leaf, tabled-other}
 
 -- every label of a tree has the property
 abbrev pub Labels : (ℕ → Type 0) → Tree → Type 0
@@ -41,19 +41,14 @@ head-at ps ss at n b e =
 module _ (ws table : List ℕ) (at : ℕ) where
   -- a leaf is tabled
   past-leaf : (h : ℕ) → getD ws (nodePlace at) 0 ≡ 0x4000_0000 + handleOf h → Thirty h
-      → tabledBelow ws (suc at) table ≡ set (tabledBelow ws at table) h at
-  unfolding tabledBelow
+      → tabledBelow ws (at + 1) table ≡ set (tabledBelow ws at table) h at
   past-leaf h e small =
-      let k : kindOf (0x4000_0000 + handleOf h) ≡ 1 = omega arith in
       let is : handleOf (0x4000_0000 + handleOf h) ≡ h = omega arith in
-      rw (e, eq-eqb (kindOf (0x4000_0000 + handleOf h)) 1 k, is)
+      tabled-leaf ws at table (rw e (omega arith)) ∙ rw (e, is)
 
   -- an interior node is not
-  past-interior : (l : ℕ) → getD ws (nodePlace at) 0 ≡ 0x8000_0000 + handleOf l → tabledBelow ws (suc at) table ≡ tabledBelow ws at table
-  unfolding tabledBelow
-  past-interior l e =
-      let k : kindOf (0x8000_0000 + handleOf l) ≡ 2 = omega arith in
-      rw (e, ne-eqb (kindOf (0x8000_0000 + handleOf l)) 1 (λ w. omega arith))
+  past-interior : (l : ℕ) → getD ws (nodePlace at) 0 ≡ 0x8000_0000 + handleOf l → tabledBelow ws (at + 1) table ≡ tabledBelow ws at table
+  past-interior l e = tabled-other ws at table (rw e (λ w. omega arith))
 
 -- ---- a tree
 
@@ -64,8 +59,7 @@ unfolding tabled flatten leaves
 tabled-tree ws table (leaf h b) ps ss at p is place small =
     let head : getD ws (nodePlace at) 0 ≡ 0x4000_0000 + handleOf h =
     ap (λ (w : List ℕ). getD w (nodePlace at) 0) is ∙ head-at ps ss at (leafNode h p) b place in
-    let e : at + 1 ≡ suc at = add-one at in
-    rw e (past-leaf ws table at h head small)
+    past-leaf ws table at h head small
 tabled-tree ws table (fork b l r) ps ss at p is place small =
     let n = interior (at + 1) (rightPlace at l) p in
     let left = flatten (at + 1) at l in
@@ -76,11 +70,12 @@ tabled-tree ws table (fork b l r) ps ss at p is place small =
     let head : getD ws (nodePlace at) 0 ≡ 0x8000_0000 + handleOf (at + 1) =
     ap (λ (w : List ℕ). getD w (nodePlace at) 0) at-root ∙ head-at ps (left ++ right ++ ss) at n b place in
     let e : at + (2 * (leaves l + leaves r) - 1) ≡ rightPlace at l + (2 * leaves r - 1) = omega (arith, leaves-pos r) in
-    let e′ : rightPlace at l ≡ suc at + (2 * leaves l - 1) = omega (arith, leaves-pos l) in
-    let first : tabledBelow ws (suc at) table ≡ tabledBelow ws at table = past-interior ws table at (at + 1) head in
+    let e′ : rightPlace at l ≡ at + 1 + (2 * leaves l - 1) = omega (arith, leaves-pos l) in
+    let first : tabledBelow ws (at + 1) table ≡ tabledBelow ws at table = past-interior ws table at (at + 1) head in
     let second = tabled-tree ws table l (ps ++ nodeList n b) (right ++ ss) (at + 1) at at-left (left-place ps at n b place) (small .0) in
     let third = tabled-tree ws table r (ps ++ nodeList n b ++ left) ss (rightPlace at l) at at-right (right-place ps at n b place l) (small .1) in
-    rw e third ∙ ap (tabled (rightPlace at l) r) (ap (λ (k : ℕ). tabledBelow ws k table) e′ ∙ rw (add-one at) at second ∙ ap (tabled (suc at) l) first)
+    rw e third ∙ ap (tabled (rightPlace at l) r) (ap (λ (k : ℕ). tabledBelow ws k table) e′ ∙ second ∙ ap (tabled (at + 1) l) first
+    ∙ ap (λ (i : ℕ). tabled i l (tabledBelow ws at table)) (add-one at))
 
 -- from the front
 pub tabled-front-tree : (t : Tree) (ss table : List ℕ) → Labels Thirty t → tabledBelow (treeWords t ++ ss) (2 * leaves t - 1) table ≡ tabled 0 t table
