@@ -3,6 +3,7 @@ ghost use mathlib.Core.Path.{_≡_};
 ghost use Prim.Native.Nat.{ℕ, _*_, _/_, _≤_};
 ghost use lib.Ieee.{binary32, binary64, ofBits, toBits};
 ghost use lib.ListN.{getD, length};
+ghost use lib.Seq.{sets};
 ghost use mathlib.Core.List.{List, []};
 ghost use Rattle.ieee.specs.Choose.{fmin, fmax, clamp, fabs, isSignNegative};
 ghost use Rattle.ieee.specs.Narrow.{narrow};
@@ -402,18 +403,25 @@ pub extern "C" fn alias_build_power_alias_table(
 
 // ---- the tree
 
+fn put_summary(answer: &mut [u32], k: usize, bounds: Bounds3)
+    requires { ⌜ 7 ≤ length (now answer) ⌝ }
+    ensures { λ _. ⌜ now (answer .exit) ≡ sets (now (answer .entry)) 0 (summaryList k bounds) ⌝ }
+{
+    answer[0] = (k % 0x1_0000_0000) as u32;
+    answer[1] = word_of_f32(bounds.min.x);
+    answer[2] = word_of_f32(bounds.min.y);
+    answer[3] = word_of_f32(bounds.min.z);
+    answer[4] = word_of_f32(bounds.max.x);
+    answer[5] = word_of_f32(bounds.max.y);
+    answer[6] = word_of_f32(bounds.max.z);
+}
+
 // Writes k and the box to the first seven words, where there are as many.
 fn write_summary(answer: &mut [u32], k: usize, bounds: Bounds3)
     ensures { λ _. ⌜ now (answer .exit) ≡ summaryWords (now (answer .entry)) (summaryList k bounds) ⌝ }
 {
     if answer.len() >= 7 {
-        answer[0] = (k % 0x1_0000_0000) as u32;
-        answer[1] = word_of_f32(bounds.min.x);
-        answer[2] = word_of_f32(bounds.min.y);
-        answer[3] = word_of_f32(bounds.min.z);
-        answer[4] = word_of_f32(bounds.max.x);
-        answer[5] = word_of_f32(bounds.max.y);
-        answer[6] = word_of_f32(bounds.max.z);
+        put_summary(answer, k, bounds);
     }
 }
 

@@ -1,0 +1,50 @@
+-- `parts_c::tree_build_light_bvh` meets its contract: what the build answers, as words; what it leaves is its own. Assumes nothing.
+use mathlib.Core.Path.{_≡_, refl, sym, ap, _∙_}
+use mathlib.Core.Option.{some, none}
+use denote.Ref.{now}
+use lib.Ieee.{ofBits}
+use lib.ListN.{length}
+use Rattle.words.specs.Answers.{Answer, given, refused, code}
+use Rattle.light_bvh.specs.Build.{LightBVH, buildLightBvh, summary, built}
+use Rattle.parts_c.specs.Codes.{summarised}
+use borrow.Author.Needs.{needs}
+use Rattle.parts_c.proofs.tree_build_light_bvh.Statement.{statement}
+use Rattle.parts_c.proofs.tree_build_light_bvh.Tie as tie
+
+coded : (x : Answer LightBVH) → code (summary x) ≡ code x
+coded (given b) = refl
+coded (refused n) = refl
+
+-- what the definition answers
+abbrev outcome : tie.Start → Answer LightBVH
+outcome s =
+    buildLightBvh (s .args .lights) (now (s .args .block)) (length (now (s .args .nodes))) (length (now (s .args .table))) (length (now (s .args .work)))
+
+returns : tie.Need-returns
+returns c =
+    let e = c .before .before .before .before .before .before .before .before .before .before .before .before .before .build-light-bvh .ensures in
+    let told = sym (e .0) ∙ ap built (c .before .before .before .before .before .k .given .1) in
+    let s = c .before .before .before .before .before .before .before .before .before .before .before .before .before .before .before .before .before .before .before .before .before .before in
+    (sym (ap code told) ∙ coded (outcome s), (e .1 .0, (e .1 .1 .0, (e .1 .1 .1, c .before .before .write-summary .ensures ∙ sym (ap (λ a. summarised a (now (s .args .answer))) told)))))
+
+returns-2 : tie.Need-returns-2
+unfolding ofBits
+returns-2 c =
+    let e = c .before .before .before .before .before .before .before .before .before .before .before .before .build-light-bvh .ensures in
+    let told = sym (e .0) ∙ ap built (c .before .before .before .before .enum-told .given .1) in
+    let s = c .before .before .before .before .before .before .before .before .before .before .before .before .before .before .before .before .before .before .before .before .before in
+    (sym (ap code told) ∙ coded (outcome s), (e .1 .0, (e .1 .1 .0, (e .1 .1 .1, c .before .before .write-summary2 .ensures ∙ sym (ap (λ a. summarised a (now (s .args .answer))) told)))))
+
+returns-3 : tie.Need-returns-3
+returns-3 c =
+    let e = c .before .before .before .before .before .before .before .before .before .before .build-light-bvh .ensures in
+    let told = sym (e .0) ∙ ap built (c .before .before .why .given .1) in
+    let s = c .before .before .before .before .before .before .before .before .before .before .before .before .before .before .before .before .before .before .before in
+    (c .refusal-number .ensures ∙ sym (ap code told) ∙ coded (outcome s), (e .1 .0, (e .1 .1 .0, (e .1 .1 .1, sym (ap (λ a. summarised a (now (s .args .answer))) told)))))
+
+pub tree-build-light-bvh-spec : {M : Type 1} → statement M
+tree-build-light-bvh-spec =
+    tie.close (tie.spec (λ c κs. search needs) (λ c. search needs) (λ c κs. search needs) (λ c. search needs) (λ c κs. search needs)
+    (λ c. search needs) (λ c κs. search needs) (λ c. search needs) (λ c. search needs) (λ c. search needs) (λ c. search needs) returns
+    (λ c. search needs) (λ c. search needs) (λ c. search needs) (λ c. search needs) returns-2 (λ c. search needs) (λ c. search needs)
+    (λ c. search needs) returns-3)
