@@ -468,3 +468,11 @@ module _ {ws hs work nodes hs′ : List ℕ} {at left : ℕ} (s : Stand ws hs wo
         let after : drop (length all - 32 * left) (drop (32 * left) all) ≡ [] =
         drop-of-length-le (drop (32 * left) all) {i = length all - 32 * left} (omega (arith, length-drop (32 * left) all)) in
         rw (before, after, append-nil n2)
+
+-- ---- all of a slice lent as a part of it
+
+pub all-lent : (ws : List ℕ) → midOf 0 (length ws - 0) ws ≡ ws
+all-lent ws = take-all (length ws - 0) ws (omega arith)
+
+pub all-back : (ws ys : List ℕ) → putMid 0 (length ws - 0) ws ys ≡ ys
+all-back ws ys = ap (λ (zs : List ℕ). ys ++ zs) (drop-of-length-le ws {i = length ws - 0} (omega arith)) ∙ append-nil ys

@@ -31,7 +31,7 @@ fn label(block: &[u32], handle: u32) -> u32
 }
 
 // Parts the stretch at its best cut: how many handles the left half has.
-fn split_stretch(block: &[u32], handles: &mut [u32], work: &mut [u32]) -> Counted
+fn part_stretch(block: &[u32], handles: &mut [u32], work: &mut [u32]) -> Counted
     requires { ⌜ length (now handles) ≤ length (now work) ⌝ }
     ensures { λ r. ⌜ counted r ≡ splitCount (now (block .entry)) (now (handles .entry)) ⌝ }
     ensures { λ _. ⌜ now (handles .exit) ≡ splitHandles (now (block .entry)) (now (handles .entry)) ⌝ }
@@ -42,8 +42,22 @@ fn split_stretch(block: &[u32], handles: &mut [u32], work: &mut [u32]) -> Counte
     }
 }
 
+// The same, with as much of the work as it needs. Two calls, of which one is for the many stretches of two, keep the compiler from laying its words into
+// the frame of the recursion.
+fn split_stretch(block: &[u32], handles: &mut [u32], work: &mut [u32]) -> Counted
+    requires { ⌜ length (now handles) ≤ length (now work) ⌝ }
+    ensures { λ r. ⌜ counted r ≡ splitCount (now (block .entry)) (now (handles .entry)) ⌝ }
+    ensures { λ _. ⌜ now (handles .exit) ≡ splitHandles (now (block .entry)) (now (handles .entry)) ⌝ }
+{
+    let n = handles.len();
+    if n == 2 {
+        return part_stretch(block, handles, &mut work[0..2]);
+    }
+    part_stretch(block, handles, &mut work[0..n])
+}
+
 // The node over two trees whose words stand behind it, the right one at node `right`: the record around both records, read back from their nodes.
-fn join_children(nodes: &mut [u32], right: usize, at: u32, parent: u32) -> bool
+fn join_records(nodes: &mut [u32], right: usize, at: u32, parent: u32) -> bool
     requires { ⌜ at + right < 2 ^ 30 ⌝ }
     ensures { λ r. ⌜ r ≡ isGiven (unionAt (now (nodes .entry)) right) ⌝ }
     ensures { λ _. ⌜ now (nodes .exit) ≡ joinedWords at parent right (now (nodes .entry)) (unionAt (now (nodes .entry)) right) ⌝ }
@@ -57,6 +71,18 @@ fn join_children(nodes: &mut [u32], right: usize, at: u32, parent: u32) -> bool
         }
         Bounded::Refused(_) => false,
     }
+}
+
+// The same, by two calls for the same reason.
+fn join_children(nodes: &mut [u32], right: usize, at: u32, parent: u32) -> bool
+    requires { ⌜ at + right < 2 ^ 30 ⌝ }
+    ensures { λ r. ⌜ r ≡ isGiven (unionAt (now (nodes .entry)) right) ⌝ }
+    ensures { λ _. ⌜ now (nodes .exit) ≡ joinedWords at parent right (now (nodes .entry)) (unionAt (now (nodes .entry)) right) ⌝ }
+{
+    if right == 2 {
+        return join_records(&mut nodes[0..], right, at, parent);
+    }
+    join_records(nodes, right, at, parent)
 }
 
 // Writes the tree of a stretch, its root at node `at` under `parent`, to nodes that are as many as it needs; false where a union's operand fails its check.

@@ -1,4 +1,4 @@
--- `light_bvh::subtree::split_stretch` meets its contract: a work as long as the stretch is never refused. Assumes nothing.
+-- `light_bvh::subtree::part_stretch` meets its contract: a work as long as the stretch is never refused. Assumes nothing.
 use mathlib.Core.Path.{_≡_, sym, ap, _∙_}
 use denote.Ref.{now}
 use lib.ListN.{length}
@@ -7,8 +7,8 @@ use Rattle.light_split.specs.Split.{chooseSplit, chosen}
 use Rattle.light_bvh.specs.Subtree.{splitCount, splitHandles}
 use Rattle.light_bvh.proofs.SubtreeLaws.{parted-is}
 use borrow.Author.Needs.{needs}
-use Rattle.light_bvh.proofs.subtree.split_stretch.Statement.{statement}
-use Rattle.light_bvh.proofs.subtree.split_stretch.Tie as tie
+use Rattle.light_bvh.proofs.subtree.part_stretch.Statement.{statement}
+use Rattle.light_bvh.proofs.subtree.part_stretch.Tie as tie
 
 returns : tie.Need-returns
 returns c =
@@ -31,7 +31,7 @@ returns-2 c =
     sym (choosing .choose-split .ensures) ∙ ap chosen (c .enum-told .given .1) in
     (rw e, rw e)
 
-pub split-stretch-spec : {M : Type 1} → statement M
-split-stretch-spec =
+pub part-stretch-spec : {M : Type 1} → statement M
+part-stretch-spec =
     tie.close (tie.spec (λ c κs. search needs) (λ c. search needs) (λ c κs. search needs) (λ c. search needs) (λ c. search needs)
     (λ c. search needs) returns (λ c. search needs) returns-2)
