@@ -471,8 +471,9 @@ module _ {ws hs work nodes hs′ : List ℕ} {at left : ℕ} (s : Stand ws hs wo
 
 -- ---- all of a slice lent as a part of it
 
-pub all-lent : (ws : List ℕ) → midOf 0 (length ws - 0) ws ≡ ws
-all-lent ws = take-all (length ws - 0) ws (omega arith)
+module _ (n : ℕ) (ws : List ℕ) (all : length ws ≡ n) where
+  pub all-lent : midOf 0 (n - 0) ws ≡ ws
+  all-lent = take-all (n - 0) ws (omega arith)
 
-pub all-back : (ws ys : List ℕ) → putMid 0 (length ws - 0) ws ys ≡ ys
-all-back ws ys = ap (λ (zs : List ℕ). ys ++ zs) (drop-of-length-le ws {i = length ws - 0} (omega arith)) ∙ append-nil ys
+  pub all-back : (ys : List ℕ) → putMid 0 (n - 0) ws ys ≡ ys
+  all-back ys = ap (λ (zs : List ℕ). ys ++ zs) (drop-of-length-le ws {i = n - 0} (omega arith)) ∙ append-nil ys

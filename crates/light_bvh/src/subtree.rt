@@ -5,7 +5,8 @@ ghost use mathlib.Core.List.{List, _++_};
 ghost use Prim.Native.Nat.{_+_, _*_, _^_, _≤_, _<_};
 ghost use lib.ListN.{length};
 ghost use Rattle.words.specs.Answers.{counted};
-ghost use Rattle.light_nodes.specs.Nodes.{nodeWords};
+ghost use Rattle.light_nodes.specs.Nodes.{leaf, nodeWords, nodeWritten};
+ghost use Rattle.light_split.specs.Lights.{lightOf};
 ghost use Rattle.light_bvh.specs.Subtree.{labelOf, buildSubtree, isGiven, subtreeWords, splitCount, splitHandles, unionAt, joinedWords};
 use lamps::block::EXHAUSTIVE_BOUNDS_WORDS;
 use light_bounds::light_bounds::Bounded;
@@ -79,10 +80,30 @@ fn join_children(nodes: &mut [u32], right: usize, at: u32, parent: u32) -> bool
     ensures { λ r. ⌜ r ≡ isGiven (unionAt (now (nodes .entry)) right) ⌝ }
     ensures { λ _. ⌜ now (nodes .exit) ≡ joinedWords at parent right (now (nodes .entry)) (unionAt (now (nodes .entry)) right) ⌝ }
 {
-    if right == 2 {
-        return join_records(&mut nodes[0..], right, at, parent);
+    if nodes.len() == 3 * NODE_WORDS {
+        return join_records(&mut nodes[0..3 * NODE_WORDS], right, at, parent);
     }
     join_records(nodes, right, at, parent)
+}
+
+// The leaf of a row.
+fn put_leaf(block: &[u32], handle: u32, nodes: &mut [u32], parent: u32)
+    ensures { λ _. ⌜ now (nodes .exit) ≡ nodeWritten (now (nodes .entry)) 0 (leaf (labelOf (now (block .entry)) handle) parent)
+        (lightOf (now (block .entry)) handle) ⌝ }
+{
+    write_leaf(nodes, 0, label(block, handle), parent, light(block, handle));
+}
+
+// The same, by two calls for the same reason.
+fn build_leaf(block: &[u32], handle: u32, nodes: &mut [u32], parent: u32)
+    ensures { λ _. ⌜ now (nodes .exit) ≡ nodeWritten (now (nodes .entry)) 0 (leaf (labelOf (now (block .entry)) handle) parent)
+        (lightOf (now (block .entry)) handle) ⌝ }
+{
+    if nodes.len() == NODE_WORDS {
+        put_leaf(block, handle, &mut nodes[0..NODE_WORDS], parent);
+    } else {
+        put_leaf(block, handle, nodes, parent);
+    }
 }
 
 // Writes the tree of a stretch, its root at node `at` under `parent`, to nodes that are as many as it needs; false where a union's operand fails its check.
@@ -104,13 +125,7 @@ pub(crate) fn build_subtree(
 {
     let n = handles.len();
     if n == 1 {
-        write_leaf(
-            nodes,
-            0,
-            label(block, handles[0]),
-            parent,
-            light(block, handles[0]),
-        );
+        build_leaf(block, handles[0], nodes, parent);
         return true;
     }
     match split_stretch(block, handles, work) {

@@ -17,12 +17,14 @@ returns : tie.Need-returns
 returns c =
     let a = c .before .before .before .before .before .before .args in
     let e = c .before .before .join-records in
-    let ws = now (a .nodes) in (
-      e .ensures .0 ∙ ap (λ (l : List ℕ). isGiven (unionAt l (a .right))) (all-lent ws),
-      all-back ws (e .last .0) ∙ e .ensures .1 ∙ ap (λ (l : List ℕ). joinedWords (a .at) (a .parent) (a .right) l (unionAt l (a .right))) (all-lent ws),
+    let ws = now (a .nodes) in
+    let whole : length ws ≡ 48 = c .before .before .before .before .if1 .taken in (
+      e .ensures .0 ∙ ap (λ (l : List ℕ). isGiven (unionAt l (a .right))) (all-lent 48 ws whole),
+      all-back 48 ws whole (e .last .0) ∙ e .ensures .1 ∙ ap (λ (l : List ℕ). joinedWords (a .at) (a .parent) (a .right) l (unionAt l (a .right)))
+          (all-lent 48 ws whole),
     )
 
 pub join-children-spec : {M : Type 1} → statement M
 join-children-spec =
-    tie.close (tie.spec (λ c. search needs) (λ c. search needs) (λ c. search needs) (λ c κs. search needs) (λ c. search needs) returns
-    (λ c κs. search needs) (λ c. search needs) (λ c. search needs))
+    tie.close (tie.spec (λ c. search needs) (λ c. search needs) (λ c. search needs) (λ c. search needs) (λ c. search needs) (λ c κs. search needs)
+    (λ c. search needs) returns (λ c κs. search needs) (λ c. search needs) (λ c. search needs))
