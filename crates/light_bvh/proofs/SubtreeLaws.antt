@@ -468,12 +468,3 @@ module _ {ws hs work nodes hs′ : List ℕ} {at left : ℕ} (s : Stand ws hs wo
         let after : drop (length all - 32 * left) (drop (32 * left) all) ≡ [] =
         drop-of-length-le (drop (32 * left) all) {i = length all - 32 * left} (omega (arith, length-drop (32 * left) all)) in
         rw (before, after, append-nil n2)
-
--- ---- all of a slice lent as a part of it
-
-module _ (n : ℕ) (ws : List ℕ) (all : length ws ≡ n) where
-  pub all-lent : midOf 0 (n - 0) ws ≡ ws
-  all-lent = take-all (n - 0) ws (omega arith)
-
-  pub all-back : (ys : List ℕ) → putMid 0 (n - 0) ws ys ≡ ys
-  all-back ys = ap (λ (zs : List ℕ). ys ++ zs) (drop-of-length-le ws {i = n - 0} (omega arith)) ∙ append-nil ys

@@ -5,8 +5,7 @@ ghost use mathlib.Core.List.{List, _++_};
 ghost use Prim.Native.Nat.{_+_, _*_, _^_, _≤_, _<_};
 ghost use lib.ListN.{length};
 ghost use Rattle.words.specs.Answers.{counted};
-ghost use Rattle.light_nodes.specs.Nodes.{leaf, nodeWords, nodeWritten};
-ghost use Rattle.light_split.specs.Lights.{lightOf};
+ghost use Rattle.light_nodes.specs.Nodes.{nodeWords};
 ghost use Rattle.light_bvh.specs.Subtree.{labelOf, buildSubtree, isGiven, subtreeWords, splitCount, splitHandles, unionAt, joinedWords};
 use lamps::block::EXHAUSTIVE_BOUNDS_WORDS;
 use light_bounds::light_bounds::Bounded;
@@ -43,22 +42,20 @@ fn part_stretch(block: &[u32], handles: &mut [u32], work: &mut [u32]) -> Counted
     }
 }
 
-// The same, with as much of the work as it needs. Two calls, of which one is for the many stretches of two, keep the compiler from laying its words into
-// the frame of the recursion.
+// The same. It is called in two places, of which one is for the many stretches of two, so that the compiler leaves its words out of the recursion's frame.
 fn split_stretch(block: &[u32], handles: &mut [u32], work: &mut [u32]) -> Counted
     requires { ⌜ length (now handles) ≤ length (now work) ⌝ }
     ensures { λ r. ⌜ counted r ≡ splitCount (now (block .entry)) (now (handles .entry)) ⌝ }
     ensures { λ _. ⌜ now (handles .exit) ≡ splitHandles (now (block .entry)) (now (handles .entry)) ⌝ }
 {
-    let n = handles.len();
-    if n == 2 {
+    if handles.len() == 2 {
         return part_stretch(block, handles, &mut work[0..2]);
     }
-    part_stretch(block, handles, &mut work[0..n])
+    part_stretch(block, handles, work)
 }
 
 // The node over two trees whose words stand behind it, the right one at node `right`: the record around both records, read back from their nodes.
-fn join_records(nodes: &mut [u32], right: usize, at: u32, parent: u32) -> bool
+fn join_children(nodes: &mut [u32], right: usize, at: u32, parent: u32) -> bool
     requires { ⌜ at + right < 2 ^ 30 ⌝ }
     ensures { λ r. ⌜ r ≡ isGiven (unionAt (now (nodes .entry)) right) ⌝ }
     ensures { λ _. ⌜ now (nodes .exit) ≡ joinedWords at parent right (now (nodes .entry)) (unionAt (now (nodes .entry)) right) ⌝ }
@@ -71,38 +68,6 @@ fn join_records(nodes: &mut [u32], right: usize, at: u32, parent: u32) -> bool
             true
         }
         Bounded::Refused(_) => false,
-    }
-}
-
-// The same, by two calls for the same reason.
-fn join_children(nodes: &mut [u32], right: usize, at: u32, parent: u32) -> bool
-    requires { ⌜ at + right < 2 ^ 30 ⌝ }
-    ensures { λ r. ⌜ r ≡ isGiven (unionAt (now (nodes .entry)) right) ⌝ }
-    ensures { λ _. ⌜ now (nodes .exit) ≡ joinedWords at parent right (now (nodes .entry)) (unionAt (now (nodes .entry)) right) ⌝ }
-{
-    if nodes.len() == 3 * NODE_WORDS {
-        return join_records(&mut nodes[0..3 * NODE_WORDS], right, at, parent);
-    }
-    join_records(nodes, right, at, parent)
-}
-
-// The leaf of a row.
-fn put_leaf(block: &[u32], handle: u32, nodes: &mut [u32], parent: u32)
-    ensures { λ _. ⌜ now (nodes .exit) ≡ nodeWritten (now (nodes .entry)) 0 (leaf (labelOf (now (block .entry)) handle) parent)
-        (lightOf (now (block .entry)) handle) ⌝ }
-{
-    write_leaf(nodes, 0, label(block, handle), parent, light(block, handle));
-}
-
-// The same, by two calls for the same reason.
-fn build_leaf(block: &[u32], handle: u32, nodes: &mut [u32], parent: u32)
-    ensures { λ _. ⌜ now (nodes .exit) ≡ nodeWritten (now (nodes .entry)) 0 (leaf (labelOf (now (block .entry)) handle) parent)
-        (lightOf (now (block .entry)) handle) ⌝ }
-{
-    if nodes.len() == NODE_WORDS {
-        put_leaf(block, handle, &mut nodes[0..NODE_WORDS], parent);
-    } else {
-        put_leaf(block, handle, nodes, parent);
     }
 }
 
@@ -125,7 +90,13 @@ pub(crate) fn build_subtree(
 {
     let n = handles.len();
     if n == 1 {
-        build_leaf(block, handles[0], nodes, parent);
+        write_leaf(
+            nodes,
+            0,
+            label(block, handles[0]),
+            parent,
+            light(block, handles[0]),
+        );
         return true;
     }
     match split_stretch(block, handles, work) {

@@ -20,8 +20,10 @@ use Rattle.light_bvh.proofs.subtree.build_subtree.Reads as build-subtre
 use Rattle.light_bvh.proofs.subtree.build_subtree.Kinds as kinds
 use Rattle.light_bvh.proofs.subtree.+build_subtree.Lts-build_subtree as lts
 use Rattle.light_bvh.proofs.subtree.join_children.Reads as join-children-reads
-use Rattle.light_bvh.proofs.subtree.build_leaf.Reads as build-leaf-reads
+use Rattle.light_bvh.proofs.subtree.label.Reads as label-reads
 use Rattle.light_bvh.proofs.subtree.split_stretch.Reads as split-stretch-reads
+use Rattle.light_nodes.proofs.nodes.write_leaf.Reads as write-leaf-reads
+use Rattle.light_split.proofs.lights.light.Reads as light-reads
 use Rattle.light_bvh.proofs.subtree.+build_subtree.{statement}
 use Rattle.light_bvh.proofs.subtree.+build_subtree.Tie.{close}
 
@@ -37,8 +39,12 @@ below t = and 4 kinds.ps (falls 4 kinds.ps _<_ μ t) build-subtree.Pre
 
 abbrev calls : ℕ → lts.Claims
 calls t = (
-  build-leaf-reads.Asked,
-  build-leaf-reads.Learnt,
+  label-reads.Asked,
+  label-reads.Learnt,
+  light-reads.Asked,
+  light-reads.Learnt,
+  write-leaf-reads.Asked,
+  write-leaf-reads.Learnt,
   split-stretch-reads.Asked,
   split-stretch-reads.Learnt,
   below t,
@@ -114,15 +120,21 @@ module _ (t : ℕ) where
 
   -- ---- one handle
 
-  slice-read-build-leaf : lts.Need-slice-read-build-leaf (calls t) (before t) build-subtree.Post
-  slice-read-build-leaf c = c .before .before .before .before .before .before .pre .1 .0
+  slice-read-label : lts.Need-slice-read-label (calls t) (before t) build-subtree.Post
+  slice-read-label c = c .before .before .before .before .before .before .before .pre .1 .0
+
+  slice-read-light : lts.Need-slice-read-light (calls t) (before t) build-subtree.Post
+  slice-read-light c = c .before .before .before .before .before .before .before .before .before .pre .1 .0
 
   returns : lts.Need-returns (calls t) (before t) build-subtree.Post
   returns c =
-      let start = c .before .before .before .before .before .before .before .before .before .before in
-      let wrote = c .before .before .build-leaf in
-      leaf-left (now (start .args .block)) (now (start .args .handles)) (now (start .args .nodes)) (wrote .last .1 .1 .0) (start .args .at) (start .args .parent) _ _
-      (c .before .before .before .before .before .if1 .taken) (start .pre .1 .1 .1 .0) refl refl (wrote .ensures)
+      let wrote = c .before .before in
+      let label = wrote .before .before .before in
+      let one = label .before .before .before in
+      let start = one .before .before .before .before .before in
+      leaf-left (now (start .args .block)) (now (start .args .handles)) (now (start .args .nodes)) (wrote .write-leaf .last .0) (start .args .at)
+      (start .args .parent) (label .label .result) (wrote .before .light .result) (one .if1 .taken) (start .pre .1 .1 .1 .0) (label .label .ensures)
+      (wrote .before .light .ensures) (wrote .write-leaf .ensures)
 
   -- ---- the left tree
 
@@ -329,7 +341,7 @@ module _ (t : ℕ) where
 pub +build-subtree-spec : {M : Type 1} → statement M
 +build-subtree-spec =
     close μ (λ t. lts.spec (calls t) (before t) build-subtree.Post
-    (slice-read-build-leaf t) (λ c κs. tt) (λ c. c .before .before .build-leaf .kept .1 .1 .0) (returns t)
+    (slice-read-label t) (λ c κs. tt) (slice-read-light t) (λ c κs. tt) (λ c κs. tt) (λ c. c .before .before .write-leaf .kept .0) (returns t)
     (split-stretch-requires t) (λ c. search needs) (λ c. zero-le) (λ c. zero-le) (part-build-subtree-end t) (λ c. search needs) (mul-build-subtree-2 t)
     (sub-build-subtree-2 t) (part-build-subtree-start-2 t) (part-build-subtree-end-2 t) (add-build-subtree t) (build-subtree-requires t)
     (mul-build-subtree-3 t) (sub-build-subtree-3 t) (part-build-subtree-start-3 t) (part-build-subtree-end-3 t) (λ c. search needs) (mul-build-subtree-5 t)

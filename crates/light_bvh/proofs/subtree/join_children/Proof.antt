@@ -1,30 +1,33 @@
--- `light_bvh::subtree::join_children`: all of the words, lent as a part, are the words; either call is the one that is meant. Assumes nothing.
-use Prim.Native.Nat.{ℕ, _-_}
-use mathlib.Core.Path.{_≡_, refl, ap, _∙_}
-use mathlib.Core.List.{List, [], _++_}
-use native.Mathlib.Nat.{le-refl}
-use native.Mathlib.Omega.{arith}
+-- `light_bvh::subtree::join_children` meets its contract: the union of the records at both places, written in front. Assumes nothing.
+use mathlib.Core.Path.{_≡_, refl, sym, ap, _∙_}
 use denote.Ref.{now}
-use lib.ListN.{length, drop}
-use borrow.Rule.Slice.PartMut.{midOf, putMid}
+use Rattle.words.specs.Answers.{given}
+use Rattle.light_bounds.specs.LightBounds.{bounded}
+use Rattle.light_bvh.specs.Subtree.{unionAt}
 use borrow.Author.Needs.{needs}
-use Rattle.light_bvh.specs.Subtree.{isGiven, unionAt, joinedWords}
-use Rattle.light_bvh.proofs.SubtreeLaws.{all-lent, all-back}
 use Rattle.light_bvh.proofs.subtree.join_children.Statement.{statement}
 use Rattle.light_bvh.proofs.subtree.join_children.Tie as tie
 
+abbrev start : tie.After-union → tie.Start
+start u = u .before .before .before .before .before .before
+
+-- the union, of the records as they are read
+told : (u : tie.After-union) → bounded (u .union .result) ≡ unionAt (now (start u .args .nodes)) (start u .args .right)
+unfolding unionAt
+told u = rw (u .before .before .before .record-or-zeros .ensures, u .before .record-or-zeros2 .ensures) at (u .union .ensures)
+
 returns : tie.Need-returns
 returns c =
-    let a = c .before .before .before .before .before .before .args in
-    let e = c .before .before .join-records in
-    let ws = now (a .nodes) in
-    let whole : length ws ≡ 48 = c .before .before .before .before .if1 .taken in (
-      e .ensures .0 ∙ ap (λ (l : List ℕ). isGiven (unionAt l (a .right))) (all-lent 48 ws whole),
-      all-back 48 ws whole (e .last .0) ∙ e .ensures .1 ∙ ap (λ (l : List ℕ). joinedWords (a .at) (a .parent) (a .right) l (unionAt l (a .right)))
-          (all-lent 48 ws whole),
-    )
+    let wrote = c .before .before in
+    let bounds = wrote .before .before .before in
+    let u = bounds .before .before in
+    rw (sym (told u) ∙ ap bounded (bounds .bounds .given .1)) (refl, wrote .write-interior .ensures)
+
+returns-2 : tie.Need-returns-2
+returns-2 c = rw (sym (told (c .before .before)) ∙ ap bounded (c .enum-told .given .1)) (refl, refl)
 
 pub join-children-spec : {M : Type 1} → statement M
 join-children-spec =
-    tie.close (tie.spec (λ c. search needs) (λ c. search needs) (λ c. search needs) (λ c. search needs) (λ c. search needs) (λ c κs. search needs)
-    (λ c. search needs) returns (λ c κs. search needs) (λ c. search needs) (λ c. search needs))
+    tie.close (tie.spec (λ c. search needs) (λ c κs. search needs) (λ c. search needs) (λ c. search needs) (λ c κs. search needs) (λ c κs. search needs)
+    (λ c. search needs) (λ c. search needs) (λ c. search needs) (λ c. search needs) (λ c κs. search needs) (λ c. search needs) (λ c. search needs) returns
+    (λ c. search needs) returns-2)
