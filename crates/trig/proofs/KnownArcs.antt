@@ -27,6 +27,11 @@ pub acos-zero : ofBits binary32 0x3fc9_0fdb ≡ acos (ofBits binary32 0)
 unfolding ofBits toBits ofInt span climb size odd units round neg sum add sub mul div lt eq le fabs narrow root isqrt rootOf sqrt turns arcStep arc acos twiceArc
 acos-zero = refl
 
+-- a quarter turn's cosine as it is rounded
+pub acos-quarter : ofBits binary32 0x3fc9_0fdb ≡ acos (ofBits binary32 0xb33b_bd2e)
+unfolding ofBits toBits ofInt span climb size odd units round neg sum add sub mul div lt eq le fabs narrow turns arcStep arc acos
+acos-quarter = refl
+
 pub asin-zero : ofBits binary32 0 ≡ asin (ofBits binary32 0)
 unfolding ofBits toBits ofInt span climb size odd units round neg sum add sub mul div lt eq le fabs narrow root isqrt rootOf sqrt turns arcStep arc asin twiceArc
 asin-zero = refl

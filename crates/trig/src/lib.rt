@@ -89,7 +89,7 @@ pub fn sin(x: f32) -> f32
     }
 }
 
-// NaN beyond 1 on either side. Cones are often a point, a half or a whole sphere, whose arcs are known.
+// NaN beyond 1 on either side. Cones are often a point, a half or a whole sphere, whose arcs are known; a quarter turn's cosine is rounded to -4.3711388e-8.
 pub fn acos(x: f32) -> f32
     ensures { λ r. ⌜ r ≡ acosOf x ⌝ }
 {
@@ -101,6 +101,9 @@ pub fn acos(x: f32) -> f32
         return 3.1415927;
     }
     if word == 0 {
+        return 1.5707964;
+    }
+    if word == 0xb33b_bd2e {
         return 1.5707964;
     }
     acos_steps(x)
