@@ -72,7 +72,7 @@ mod by_hand {
         (answer, used.as_chunks().0.to_vec(), table)
     }
 
-    /// The deepest tree's nodes by the proved build, on a thread of 1 MiB.
+    /// The deepest tree's nodes by the proved build, on a thread of 2 MiB, Rust's own size.
     pub fn proved_on_small_stack() -> Vec<[u32; NODE]> {
         use coltoctober::lists::MOST_LAMPS;
         use coltoctober::proved::tree_build_light_bvh;
@@ -84,7 +84,7 @@ mod by_hand {
             tree_build_light_bvh(MOST_LAMPS as u32, &block, &mut nodes, &mut table, &mut work).unwrap();
             nodes.as_chunks().0.to_vec()
         };
-        std::thread::Builder::new().stack_size(1 << 20).spawn(build).unwrap().join().unwrap()
+        std::thread::Builder::new().stack_size(2 << 20).spawn(build).unwrap().join().unwrap()
     }
 
     pub fn table(records: &[Record]) -> Vec<u32> {
