@@ -72,19 +72,18 @@ mod by_hand {
         (answer, used.as_chunks().0.to_vec(), table)
     }
 
-    /// The deepest tree's nodes by the proved build, on a thread of 2 MiB, Rust's own size.
-    pub fn proved_on_small_stack() -> Vec<[u32; NODE]> {
-        use coltoctober::lists::MOST_LAMPS;
+    /// The nodes of a deepest tree of so many lamps by the proved build, on a thread with so much stack.
+    pub fn proved_on_stack(lamps: usize, stack: usize) -> Vec<[u32; NODE]> {
         use coltoctober::proved::tree_build_light_bvh;
         use coltoctober::trees::deepest;
 
-        let block = block_of(&deepest(MOST_LAMPS));
+        let block = block_of(&deepest(lamps));
         let build = move || {
-            let [mut nodes, mut table, mut work] = reserves(MOST_LAMPS).map(|reserve| vec![0; reserve]);
-            tree_build_light_bvh(MOST_LAMPS as u32, &block, &mut nodes, &mut table, &mut work).unwrap();
+            let [mut nodes, mut table, mut work] = reserves(lamps).map(|reserve| vec![0; reserve]);
+            tree_build_light_bvh(lamps as u32, &block, &mut nodes, &mut table, &mut work).unwrap();
             nodes.as_chunks().0.to_vec()
         };
-        std::thread::Builder::new().stack_size(2 << 20).spawn(build).unwrap().join().unwrap()
+        std::thread::Builder::new().stack_size(stack).spawn(build).unwrap().join().unwrap()
     }
 
     pub fn table(records: &[Record]) -> Vec<u32> {
@@ -262,7 +261,10 @@ coltoctober::differential! {
 
         let nodes = on_deep_stack(|| tree(&coltoctober::trees::deepest(MOST_LAMPS)).1);
         assert_eq!((nodes.len(), depth(nodes.as_flattened())), (8191, 4095));
-        assert_eq!(by_hand::proved_on_small_stack(), nodes);
+        println!("4,095 forks on 2 MiB, a Rust thread's own size; 2,488 on 1 MiB");
+        assert_eq!(by_hand::proved_on_stack(MOST_LAMPS, 2 << 20), nodes);
+        let nodes = by_hand::proved_on_stack(2489, 1 << 20);
+        assert_eq!((nodes.len(), depth(nodes.as_flattened())), (4977, 2488));
     }
 
     /// Random blocks: every refusal and every branch is met, but for a branch that no block reaches and for unions of no power.
