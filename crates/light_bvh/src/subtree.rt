@@ -5,6 +5,7 @@ ghost use mathlib.Core.List.{List, _++_};
 ghost use Prim.Native.Nat.{_+_, _*_, _^_, _≤_, _<_};
 ghost use lib.ListN.{length};
 ghost use Rattle.words.specs.Answers.{counted};
+ghost use Rattle.light_bounds.specs.LightBounds.{bounded};
 ghost use Rattle.light_nodes.specs.Nodes.{nodeWords};
 ghost use Rattle.light_bvh.specs.Subtree.{labelOf, buildSubtree, isGiven, subtreeWords, splitCount, splitHandles, unionAt, joinedWords};
 use lamps::block::EXHAUSTIVE_BOUNDS_WORDS;
@@ -54,15 +55,23 @@ fn split_stretch(block: &[u32], handles: &mut [u32], work: &mut [u32]) -> Counte
     part_stretch(block, handles, work)
 }
 
+// The record around the trees at nodes 1 and `right`, read back from their nodes.
+fn union_children(nodes: &[u32], right: usize) -> Bounded
+    requires { ⌜ right < 2 ^ 30 ⌝ }
+    ensures { λ r. ⌜ bounded r ≡ unionAt (now (nodes .entry)) right ⌝ }
+{
+    let left_bounds = record_or_zeros(nodes, NODE_WORDS + 3);
+    let right_bounds = record_or_zeros(nodes, NODE_WORDS * right + 3);
+    union(left_bounds, right_bounds)
+}
+
 // The node over two trees whose words stand behind it, the right one at node `right`: the record around both records, read back from their nodes.
 fn join_children(nodes: &mut [u32], right: usize, at: u32, parent: u32) -> bool
     requires { ⌜ at + right < 2 ^ 30 ⌝ }
     ensures { λ r. ⌜ r ≡ isGiven (unionAt (now (nodes .entry)) right) ⌝ }
     ensures { λ _. ⌜ now (nodes .exit) ≡ joinedWords at parent right (now (nodes .entry)) (unionAt (now (nodes .entry)) right) ⌝ }
 {
-    let left_bounds = record_or_zeros(nodes, NODE_WORDS + 3);
-    let right_bounds = record_or_zeros(nodes, NODE_WORDS * right + 3);
-    match union(left_bounds, right_bounds) {
+    match union_children(nodes, right) {
         Bounded::Bounds(bounds) => {
             write_interior(nodes, 0, at + 1, at + right as u32, parent, bounds);
             true
