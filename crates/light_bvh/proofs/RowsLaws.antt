@@ -107,7 +107,7 @@ module _ (ws : List ℕ) {P Q : ℕ → Type 0} (f : (h : ℕ) → P h → Q (la
 
 -- a block whose handles are their places
 module _ (ws : List ℕ) (m : ℕ) (checked : blockHandles ws ≡ given m) where
-  label-is : (h : ℕ) → h < m → labelOf ws h ≡ h
+  pub label-is : (h : ℕ) → h < m → labelOf ws h ≡ h
   unfolding blockHandles
   label-is h l = go (below (handleAt ws) (getD ws 0 0)) refl checked
     where

@@ -49,11 +49,6 @@ module _ (bs : List Bucket) where
   unionRange-take n h = ap (unionRange none) (take-suc bs n none h) ∙ unionRange-append none (take n bs) (getD bs n none ∷ [])
 
   -- the left side grows by one bucket
-  pub left-grows : (n : ℕ) → suc n < length bs
-      → unionBucketRange bs 0 (suc n) ≡ unionBucketRange bs 0 n then λ (l : Bucket). unionRange l (getD bs (suc n) none ∷ [])
-  unfolding unionBucketRange
-  left-grows n h = unionRange-take (suc n) h
-
   -- by an empty one
   pub left-empty : (n : ℕ) → n < length bs → getD bs n none ≡ none → unionRange none (take (suc n) bs) ≡ unionRange none (take n bs)
   unfolding unionRange

@@ -28,7 +28,8 @@ use Rattle.tree_laws.specs.LeafLaws.{built-leaves, built-words, built-re
 use Rattle.tree_laws.specs.PlaceLaws.{nodeIn, nodeIn-some, nodeIn-record, headEnd, LabelsFit, sound-records, Reads, node-read}
 use Rattle.tree_laws.specs.PlaceLaws.{placeOf-node, placeOf-within, table-leaf, table-other}
 use Rattle.tree_laws.specs.RecordsOfTree.{Sound, bounded-sound}
-use Rattle.tree_laws.specs.StretchLaws.{Each, each-weaken, bounded-length, count, counted-each}
+use Rattle.light_bvh.proofs.RowsLaws.{All, all-map, bounded-few}
+use Rattle.tree_laws.specs.StretchLaws.{count, counted-all}
 
 -- ---- what was checked
 
@@ -139,8 +140,8 @@ module _ (ws : List ℕ) (b : LightBVH) (t : Tree) (parts : Parts ws b) (is : b 
   pub accepted-count : (x : ℕ) → count x (leafHandles t) ≡ cond (ltb x (b .rows) && isPowered ws x) 1 0
   accepted-count = tree-count ws (length (boundedHandles ws (b .rows))) (b .rows) t (parts .labelled) built
 
-  labels-below : Each (λ (h : ℕ). h < b .rows) (leafHandles t)
-  labels-below = counted-each (λ (h : ℕ). h < b .rows) (leafHandles t) (λ x l. go x (ltb x (b .rows)) (isPowered ws x) refl (rw (accepted-count x) at l))
+  labels-below : All (λ (h : ℕ). h < b .rows) (leafHandles t)
+  labels-below = counted-all (λ (h : ℕ). h < b .rows) (leafHandles t) (λ x l. go x (ltb x (b .rows)) (isPowered ws x) refl (rw (accepted-count x) at l))
     where
       go : (x : ℕ) (a c : Bool) → ltb x (b .rows) ≡ a → 1 ≤ cond (a && c) 1 0 → x < b .rows
       go x true c e l = ltb-true x (b .rows) e
@@ -148,10 +149,10 @@ module _ (ws : List ℕ) (b : LightBVH) (t : Tree) (parts : Parts ws b) (is : b 
 
   -- each label and each place fits a head
   labels-fit : LabelsFit t
-  labels-fit = each-weaken (λ (h : ℕ) (l : h < b .rows). omega (arith, parts .few)) (leafHandles t) labels-below
+  labels-fit = all-map (λ (h : ℕ) (l : h < b .rows). omega (arith, parts .few)) (leafHandles t) labels-below
 
   places-fit : 2 * leaves t - 1 ≤ headEnd
-  places-fit = omega (arith, parts .few, parts .powered, accepted-leaves, bounded-length ws (b .rows))
+  places-fit = omega (arith, parts .few, parts .powered, accepted-leaves, bounded-few ws (b .rows))
 
   reads : (i : ℕ) (x : LightBVHNode × LightBounds) → nodeIn 0 invalidIndex t i ≡ some x → Reads (nodesWritten b) i x
   reads i x e = rw nodes-are (node-read t places-fit labels-fit (sound-records t accepted-sound) i x e)

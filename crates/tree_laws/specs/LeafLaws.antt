@@ -22,15 +22,14 @@ use Rattle.light_split.specs.Lights.{lightOf}
 use Rattle.light_bvh.specs.Build.{isPowered, boundedHandles}
 use Rattle.light_bvh.specs.Subtree.{labelOf, buildSubtree}
 use Rattle.tree_laws.specs.BuiltTrees.{built-holds}
-use Rattle.tree_laws.specs.StretchLaws.{Each, each-weaken, halves-each, halves-length, halves-count, bounded-below, once, count, count-append}
+use Rattle.light_bvh.proofs.SubtreeLaws.{build-size}
+use Rattle.light_bvh.proofs.RowsLaws.{label-is, All, all-map, all-halves, bounded-below}
+use Rattle.tree_laws.specs.StretchLaws.{halves-count, once, count, count-append}
 
 -- ---- as many
 
 pub built-leaves : (ws : List ℕ) (n : ℕ) (hs : List ℕ) (t : Tree) → buildSubtree ws n hs ≡ given t → leaves t ≡ length hs
-unfolding leaves
-built-leaves ws n hs t e =
-    built-holds ws (λ (hs : List ℕ) (t : Tree). leaves t ≡ length hs) (λ h. refl)
-    (λ hs s l r b two e holds-l holds-r. omega (arith, halves-length ws hs s)) n hs t e
+built-leaves = build-size
 
 pub built-words : (ws : List ℕ) (n : ℕ) (hs : List ℕ) (t : Tree) → buildSubtree ws n hs ≡ given t → length (treeWords t) ≡ nodeWords * (2 * length hs - 1)
 built-words ws n hs t e = omega (arith, built-leaves ws n hs t e, leaves-pos t, length-flatten 0 invalidIndex t)
@@ -41,14 +40,14 @@ built-words ws n hs t e = omega (arith, built-leaves ws n hs t e, leaves-pos t, 
 abbrev pub Labelled : List ℕ → ℕ → Type 0
 Labelled ws h = labelOf ws h ≡ h
 
-pub built-count : (ws : List ℕ) (n : ℕ) (hs : List ℕ) (t : Tree) → buildSubtree ws n hs ≡ given t → Each (Labelled ws) hs
+pub built-count : (ws : List ℕ) (n : ℕ) (hs : List ℕ) (t : Tree) → buildSubtree ws n hs ≡ given t → All (Labelled ws) hs
     → (x : ℕ) → count x (leafHandles t) ≡ count x hs
 unfolding leafHandles count
 built-count ws n hs t e =
-    built-holds ws (λ (hs : List ℕ) (t : Tree). Each (Labelled ws) hs → (x : ℕ) → count x (leafHandles t) ≡ count x hs)
+    built-holds ws (λ (hs : List ℕ) (t : Tree). All (Labelled ws) hs → (x : ℕ) → count x (leafHandles t) ≡ count x hs)
     (λ h each x. ap (λ (y : ℕ). once x y + 0) (each .0))
     (λ hs s l r b two e holds-l holds-r each x.
-    let halves = halves-each ws hs s (Labelled ws) each in
+    let halves = all-halves (Labelled ws) ws hs s each in
     count-append x (leafHandles l) (leafHandles r) ∙ omega (arith, holds-l (halves .0) x, holds-r (halves .1) x, halves-count ws hs s x)) n hs t e
 
 -- each leaf's record is its label's
@@ -56,12 +55,12 @@ abbrev pub LeavesBy : (ℕ → LightBounds) → Tree → Type 0
 LeavesBy f (leaf h b) = b ≡ f h
 LeavesBy f (fork b l r) = LeavesBy f l × LeavesBy f r
 
-pub built-records : (ws : List ℕ) (n : ℕ) (hs : List ℕ) (t : Tree) → buildSubtree ws n hs ≡ given t → Each (Labelled ws) hs → LeavesBy (lightOf ws) t
+pub built-records : (ws : List ℕ) (n : ℕ) (hs : List ℕ) (t : Tree) → buildSubtree ws n hs ≡ given t → All (Labelled ws) hs → LeavesBy (lightOf ws) t
 built-records ws n hs t e =
-    built-holds ws (λ (hs : List ℕ) (t : Tree). Each (Labelled ws) hs → LeavesBy (lightOf ws) t)
+    built-holds ws (λ (hs : List ℕ) (t : Tree). All (Labelled ws) hs → LeavesBy (lightOf ws) t)
     (λ h each. ap (λ (k : ℕ). lightOf ws k) (sym (each .0)))
     (λ hs s l r b two e holds-l holds-r each.
-    let halves = halves-each ws hs s (Labelled ws) each in (holds-l (halves .0), holds-r (halves .1))) n hs t e
+    let halves = all-halves (Labelled ws) ws hs s each in (holds-l (halves .0), holds-r (halves .1))) n hs t e
 
 -- ---- the powered lamps
 
@@ -94,15 +93,10 @@ bounded-count ws (suc n) x =
 -- ---- the labels of a block
 
 pub block-labelled : (ws : List ℕ) (m h : ℕ) → blockHandles ws ≡ given m → h < m → Labelled ws h
-unfolding blockHandles
-block-labelled ws m h e l = go (below (handleAt ws) (getD ws 0 0)) refl e
-  where
-    go : (b : Bool) → below (handleAt ws) (getD ws 0 0) ≡ b → cond b (given (getD ws 0 0)) (refused 4) ≡ given m → Labelled ws h
-    go true f e = eqb-true (labelOf ws h) h (below-at (handleAt ws) m h (subst (λ (k : ℕ). below (handleAt ws) k ≡ true) (given-injective e) f) l)
-    go false f e = absurd (not-both e refl)
+block-labelled ws m h e l = label-is ws m e h l
 
-pub bounded-labelled : (ws : List ℕ) (m : ℕ) → blockHandles ws ≡ given m → Each (Labelled ws) (boundedHandles ws m)
-bounded-labelled ws m e = each-weaken (λ (h : ℕ) (l : h < m). block-labelled ws m h e l) (boundedHandles ws m) (bounded-below ws m)
+pub bounded-labelled : (ws : List ℕ) (m : ℕ) → blockHandles ws ≡ given m → All (Labelled ws) (boundedHandles ws m)
+bounded-labelled ws m e = all-map (λ (h : ℕ) (l : h < m). block-labelled ws m h e l) (boundedHandles ws m) (bounded-below ws m)
 
 -- ---- the tree of a block's powered lamps
 

@@ -22,7 +22,8 @@ use Rattle.light_nodes.specs.TreeLaws.{headFits, leaves-pos, root, root-at, roo
 use Rattle.light_bvh.specs.Build.{tabled}
 use Rattle.tree_laws.specs.LeafLaws.{LeavesBy}
 use Rattle.tree_laws.specs.RecordsOfTree.{Sound}
-use Rattle.tree_laws.specs.StretchLaws.{Each, each-parts, once, count, count-append}
+use Rattle.light_bvh.proofs.RowsLaws.{All}
+use Rattle.tree_laws.specs.StretchLaws.{all-parts, once, count, count-append}
 
 -- ---- the node at a place
 
@@ -139,7 +140,7 @@ abbrev pub headEnd : ℕ
 headEnd = 0x4000_0000
 
 abbrev pub LabelsFit : Tree → Type 0
-LabelsFit t = Each (λ (h : ℕ). h < headEnd) (leafHandles t)
+LabelsFit t = All (λ (h : ℕ). h < headEnd) (leafHandles t)
 
 abbrev pub Reads : List ℕ → ℕ → LightBVHNode × LightBounds → Type 0
 Reads ws i x = (nodeAt ws i ≡ given (x .0)) × (boundsAt ws i ≡ given (x .1))
@@ -172,7 +173,7 @@ place-at (leaf h b) ps ss at p i x place low labels fit e =
 place-at (fork b l r) ps ss at p i x place low labels fit e =
     let more-l = leaves-pos l in
     let more-r = leaves-pos r in
-    let (labels-l, labels-r) = each-parts (λ (h : ℕ). h < headEnd) (leafHandles l) (leafHandles r) labels in
+    let (labels-l, labels-r) = all-parts (λ (h : ℕ). h < headEnd) (leafHandles l) (leafHandles r) labels in
     let n = interior (at + 1) (rightPlace at l) p in
     ⊎-elim
     (λ here. root-read ps ss at p (fork b l r) i x place (lt-ltb (at + 1) headEnd (omega arith)) (fit .0) (here .0) (here .1))

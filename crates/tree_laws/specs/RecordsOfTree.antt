@@ -20,7 +20,7 @@ use Rattle.light_split.specs.Lights.{lightOf}
 use Rattle.light_bvh.specs.Build.{isPowered, boundedHandles, validated}
 use Rattle.light_bvh.specs.Subtree.{buildSubtree}
 use Rattle.tree_laws.specs.BuiltTrees.{built-holds}
-use Rattle.tree_laws.specs.StretchLaws.{Each, each-append, halves-each}
+use Rattle.light_bvh.proofs.RowsLaws.{All, all-append, all-halves}
 
 pub record SoundLeaf (b : LightBounds) : Type 0 where
   pub passes : validate b ≡ given tt
@@ -71,26 +71,26 @@ union-sound l r b p q f g e =
 abbrev pub Passes : List ℕ → ℕ → Type 0
 Passes ws h = (validate (lightOf ws h) ≡ given tt) × T (lt zerof (lightOf ws h .phi))
 
-pub built-sound : (ws : List ℕ) (n : ℕ) (hs : List ℕ) (t : Tree) → buildSubtree ws n hs ≡ given t → Each (Passes ws) hs → Sound t
+pub built-sound : (ws : List ℕ) (n : ℕ) (hs : List ℕ) (t : Tree) → buildSubtree ws n hs ≡ given t → All (Passes ws) hs → Sound t
 built-sound ws n hs t e =
-    built-holds ws (λ (hs : List ℕ) (t : Tree). Each (Passes ws) hs → Sound t)
+    built-holds ws (λ (hs : List ℕ) (t : Tree). All (Passes ws) hs → Sound t)
     (λ h each. record { passes = each .0 .0; power = each .0 .1; fits = record-fits-read ws (recordPlace h) })
     (λ hs s l r b two e holds-l holds-r each.
-    let halves = halves-each ws hs s (Passes ws) each in
+    let halves = all-halves (Passes ws) ws hs s each in
     let left = holds-l (halves .0) in
     let right = holds-r (halves .1) in
     (union-sound (bounds l) (bounds r) b (sound-power l left) (sound-power r right) (sound-fits l left) (sound-fits r right) e, left, right)) n hs t e
 
 -- ---- the powered lamps of rows that are checked
 
-pub bounded-passes : (ws : List ℕ) (m : ℕ) → validated ws m ≡ given tt → Each (Passes ws) (boundedHandles ws m)
+pub bounded-passes : (ws : List ℕ) (m : ℕ) → validated ws m ≡ given tt → All (Passes ws) (boundedHandles ws m)
 unfolding validated boundedHandles
 bounded-passes ws zero e = tt
 bounded-passes ws (suc n) e =
     let (_, before, last) = then-given (validated ws n) (λ _. validate (lightOf ws n)) tt e in
-    each-append (Passes ws) (boundedHandles ws n) (cond (isPowered ws n) (n ∷ []) []) (bounded-passes ws n before) (one last (isPowered ws n) refl)
+    all-append (Passes ws) (boundedHandles ws n) (cond (isPowered ws n) (n ∷ []) []) (bounded-passes ws n before) (one last (isPowered ws n) refl)
   where
-    one : validate (lightOf ws n) ≡ given tt → (b : Bool) → isPowered ws n ≡ b → Each (Passes ws) (cond b (n ∷ []) [])
+    one : validate (lightOf ws n) ≡ given tt → (b : Bool) → isPowered ws n ≡ b → All (Passes ws) (cond b (n ∷ []) [])
     one v true p = ((v, subst T (sym p) tt), tt)
     one v false p = tt
 

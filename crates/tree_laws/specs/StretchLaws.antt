@@ -1,7 +1,7 @@
--- Laws of stretches of handles. The handles of the powered lamps ascend and are below the number of rows (`bounded-ascends`, `bounded-below`), and both halves
--- of an ascending stretch ascend (`partition-ascends`), so the Rust's sort before a cut at the middle changes nothing in any stretch of a build
--- (`sort-changes-nothing`, `build-sorts-nothing`). Each half of two handles or more has one at least, and each handle stands in the halves as often as in the
--- stretch (`halves-some`, `halves-length`, `halves-count`). Assumes nothing.
+-- Laws of stretches of handles. The handles of the powered lamps ascend (`bounded-ascends`), and both halves of an ascending stretch ascend
+-- (`partition-ascends`), so the Rust's sort before a cut at the middle changes nothing in any stretch of a build (`sort-changes-nothing`,
+-- `build-sorts-nothing`). Each half of two handles or more has one at least, and each handle stands in the halves as often as in the stretch (`halves-some`,
+-- `halves-length`, `halves-count`). Assumes nothing.
 use Prim.Native.Nat.{ℕ, zero, suc, _+_, _/_, _≤_, _<_}
 use mathlib.Core.Path.{_≡_, refl, ap, sym, _∙_}
 use mathlib.Core.Bool.{Bool, true, false, cond, not, _||_}
@@ -10,51 +10,20 @@ use mathlib.Core.Logic.{_⊎_, inl, inr}
 use native.Mathlib.Omega.{arith}
 use borrow.Author.Tests.{le-leb, leb-true, leb-false, eqb-true, eqb-false, eq-eqb}
 use lib.Dec.{leb, eqb}
-use lib.ListN.{length, take, drop, length-append, length-drop}
-use lib.Seq.{length-take-le}
+use lib.ListN.{length, take, drop}
 use Rattle.light_split.specs.Lights.{centroidEnds}
 use Rattle.light_split.specs.Partition.{kept, goesLeft, goesRight, lefts, rights, partitionHandles}
 use Rattle.light_split.specs.declared.split.Split.{Split}
-use Rattle.light_split.proofs.PartitionLaws.{goes-right, both-lengths, partition-joined}
+use Rattle.light_split.proofs.PartitionLaws.{goes-right, partition-joined}
 use Rattle.light_bvh.specs.Build.{isPowered, boundedHandles}
+use Rattle.light_bvh.proofs.RowsLaws.{All, bounded-below}
+use Rattle.light_bvh.proofs.SubtreeLaws.{halves, halves-sum}
 
 -- ---- every member of a list
 
-abbrev pub Each : (ℕ → Type 0) → List ℕ → Type 0
-Each P [] = Unit
-Each P (x ∷ xs) = P x × Each P xs
-
-module _ (P : ℕ → Type 0) where
-  pub each-append : (xs ys : List ℕ) → Each P xs → Each P ys → Each P (xs ++ ys)
-  each-append [] ys h k = k
-  each-append (x ∷ xs) ys h k = (h .0, each-append xs ys (h .1) k)
-
-  pub each-parts : (xs ys : List ℕ) → Each P (xs ++ ys) → Each P xs × Each P ys
-  each-parts [] ys h = (tt, h)
-  each-parts (x ∷ xs) ys h = let (k, l) = each-parts xs ys (h .1) in ((h .0, k), l)
-
-  pub each-take : (n : ℕ) (xs : List ℕ) → Each P xs → Each P (take n xs)
-  each-take zero xs h = tt
-  each-take (suc n) [] h = tt
-  each-take (suc n) (x ∷ xs) h = (h .0, each-take n xs (h .1))
-
-  pub each-drop : (n : ℕ) (xs : List ℕ) → Each P xs → Each P (drop n xs)
-  each-drop zero xs h = h
-  each-drop (suc n) [] h = tt
-  each-drop (suc n) (x ∷ xs) h = each-drop n xs (h .1)
-
-  each-one : (b : Bool) (x : ℕ) (xs : List ℕ) → P x → Each P xs → Each P (cond b (x ∷ xs) xs)
-  each-one true x xs p h = (p, h)
-  each-one false x xs p h = h
-
-  pub each-kept : (test : ℕ → Bool) (xs : List ℕ) → Each P xs → Each P (kept test xs)
-  unfolding kept
-  each-kept test [] h = tt
-  each-kept test (x ∷ xs) h = each-one (test x) x (kept test xs) (h .0) (each-kept test xs (h .1))
-
-pub each-weaken : {P Q : ℕ → Type 0} → ((x : ℕ) → P x → Q x) → (xs : List ℕ) → Each P xs → Each Q xs
-each-weaken f [] h = tt
-each-weaken f (x ∷ xs) h = (f x (h .0), each-weaken f xs (h .1))
+pub all-parts : (P : ℕ → Type 0) (xs ys : List ℕ) → All P (xs ++ ys) → All P xs × All P ys
+all-parts P [] ys h = (tt, h)
+all-parts P (x ∷ xs) ys h = let (k, l) = all-parts P xs ys (h .1) in ((h .0, k), l)
 
 -- ---- lists that ascend
 
@@ -109,26 +78,15 @@ drop-ascends zero xs h = h
 drop-ascends (suc n) [] h = tt
 drop-ascends (suc n) (x ∷ xs) h = drop-ascends n xs (over-ascends x xs h)
 
-over-snoc : (x n : ℕ) (xs : List ℕ) → x < n → Each (λ (y : ℕ). y < n) xs → Over x xs → Over x (xs ++ n ∷ [])
+over-snoc : (x n : ℕ) (xs : List ℕ) → x < n → All (λ (y : ℕ). y < n) xs → Over x xs → Over x (xs ++ n ∷ [])
 over-snoc x n [] l b h = (l, tt)
 over-snoc x n (y ∷ ys) l b h = (h .0, over-snoc y n ys (b .0) (b .1) (h .1))
 
-ascends-snoc : (n : ℕ) (xs : List ℕ) → Each (λ (y : ℕ). y < n) xs → Ascends xs → Ascends (xs ++ n ∷ [])
+ascends-snoc : (n : ℕ) (xs : List ℕ) → All (λ (y : ℕ). y < n) xs → Ascends xs → Ascends (xs ++ n ∷ [])
 ascends-snoc n [] b h = tt
 ascends-snoc n (x ∷ xs) b h = over-snoc x n xs (b .0) (b .1) h
 
 -- ---- the handles of the powered lamps
-
-pub bounded-below : (ws : List ℕ) (m : ℕ) → Each (λ (h : ℕ). h < m) (boundedHandles ws m)
-unfolding boundedHandles
-bounded-below ws zero = tt
-bounded-below ws (suc n) =
-    each-append (λ (h : ℕ). h < suc n) (boundedHandles ws n) (cond (isPowered ws n) (n ∷ []) [])
-    (each-weaken (λ (h : ℕ) (l : h < n). omega arith) (boundedHandles ws n) (bounded-below ws n)) (one (isPowered ws n))
-  where
-    one : (b : Bool) → Each (λ (h : ℕ). h < suc n) (cond b (n ∷ []) [])
-    one true = (omega arith, tt)
-    one false = tt
 
 pub bounded-ascends : (ws : List ℕ) (m : ℕ) → Ascends (boundedHandles ws m)
 unfolding boundedHandles
@@ -138,15 +96,6 @@ bounded-ascends ws (suc n) = one (isPowered ws n) (bounded-ascends ws n)
     one : (b : Bool) → Ascends (boundedHandles ws n) → Ascends (boundedHandles ws n ++ cond b (n ∷ []) [])
     one true h = ascends-snoc n (boundedHandles ws n) (bounded-below ws n) h
     one false h = rw (append-nil (boundedHandles ws n)) h
-
-pub bounded-length : (ws : List ℕ) (m : ℕ) → length (boundedHandles ws m) ≤ m
-unfolding boundedHandles
-bounded-length ws zero = omega arith
-bounded-length ws (suc n) = rw (length-append (boundedHandles ws n) (cond (isPowered ws n) (n ∷ []) [])) (one (isPowered ws n) (bounded-length ws n))
-  where
-    one : (b : Bool) → length (boundedHandles ws n) ≤ n → length (boundedHandles ws n) + length (cond b (n ∷ []) []) ≤ suc n
-    one true h = omega arith
-    one false h = omega arith
 
 -- ---- the halves
 
@@ -262,19 +211,19 @@ count-append x [] ys = omega arith
 count-append x (y ∷ xs) ys = omega (arith, count-append x xs ys)
 
 -- a member of which something is said
-pub each-counted : (P : ℕ → Type 0) (x : ℕ) (xs : List ℕ) → Each P xs → 1 ≤ count x xs → P x
+pub all-counted : (P : ℕ → Type 0) (x : ℕ) (xs : List ℕ) → All P xs → 1 ≤ count x xs → P x
 unfolding count
-each-counted P x [] h l = absurd (omega arith)
-each-counted P x (y ∷ ys) h l = go (eqb x y) refl l (λ l′. each-counted P x ys (h .1) l′)
+all-counted P x [] h l = absurd (omega arith)
+all-counted P x (y ∷ ys) h l = go (eqb x y) refl l (λ l′. all-counted P x ys (h .1) l′)
   where
     go : (b : Bool) → eqb x y ≡ b → 1 ≤ cond b 1 0 + count x ys → (1 ≤ count x ys → P x) → P x
     go true e l later = rw (eqb-true x y e) (h .0)
     go false e l later = later (omega arith)
 
-pub counted-each : (P : ℕ → Type 0) (xs : List ℕ) → ((x : ℕ) → 1 ≤ count x xs → P x) → Each P xs
+pub counted-all : (P : ℕ → Type 0) (xs : List ℕ) → ((x : ℕ) → 1 ≤ count x xs → P x) → All P xs
 unfolding count
-counted-each P [] h = tt
-counted-each P (y ∷ ys) h = (h y (rw (eq-eqb y y refl) (omega arith)), counted-each P ys (λ x l. h x (omega arith)))
+counted-all P [] h = tt
+counted-all P (y ∷ ys) h = (h y (rw (eq-eqb y y refl) (omega arith)), counted-all P ys (λ x l. h x (omega arith)))
 
 count-sides : (b : Bool) (x y : ℕ) (xs ys : List ℕ) (n : ℕ) → count x xs + count x ys ≡ n
     → count x (cond b (y ∷ xs) xs) + count x (cond (not b) (y ∷ ys) ys) ≡ once x y + n
@@ -354,31 +303,7 @@ module _ (ws hs : List ℕ) (s : Split) where
       ∙ sides-count x
 
   pub halves-length : length (partitionHandles ws hs s .0) + length (partitionHandles ws hs s .1) ≡ length hs
-  halves-length =
-      sym (length-append (partitionHandles ws hs s .0) (partitionHandles ws hs s .1))
-      ∙ ap (λ (xs : List ℕ). length xs) (partition-joined ws hs s)
-      ∙ length-append (lefts ws hs s) (rights ws hs s)
-      ∙ both-lengths ws hs s
+  halves-length = halves-sum ws hs s
 
-  -- each half of two handles or more has one at least
   pub halves-some : 2 ≤ length hs → (1 ≤ length (partitionHandles ws hs s .0)) × (1 ≤ length (partitionHandles ws hs s .1))
-  halves-some two =
-      halves-are ws hs s (λ (p : List ℕ × List ℕ). (1 ≤ length (p .0)) × (1 ≤ length (p .1)))
-      (λ _. cut (lefts ws hs s ++ rights ws hs s) (length-append (lefts ws hs s) (rights ws hs s) ∙ both-lengths ws hs s)) (λ l r. (l, r))
-    where
-      cut : (xs : List ℕ) → length xs ≡ length hs → (1 ≤ length (take (length xs / 2) xs)) × (1 ≤ length (drop (length xs / 2) xs))
-      cut xs e =
-          let half = length-take-le (length xs / 2) xs (omega arith) in
-          let rest = length-drop (length xs / 2) xs in
-          (omega arith, omega arith)
-
-  -- what holds of every handle of a stretch holds of every handle of its halves
-  pub halves-each : (P : ℕ → Type 0) → Each P hs → Each P (partitionHandles ws hs s .0) × Each P (partitionHandles ws hs s .1)
-  unfolding lefts rights
-  halves-each P h =
-      let l : Each P (lefts ws hs s) = each-kept P (goesLeft ws (centroidEnds ws hs) s) hs h in
-      let r : Each P (rights ws hs s) = each-kept P (goesRight ws (centroidEnds ws hs) s) hs h in
-      let both = lefts ws hs s ++ rights ws hs s in
-      let all : Each P both = each-append P (lefts ws hs s) (rights ws hs s) l r in
-      halves-are ws hs s (λ (p : List ℕ × List ℕ). Each P (p .0) × Each P (p .1))
-      (λ _. (each-take P (length both / 2) both all, each-drop P (length both / 2) both all)) (λ _ _. (l, r))
+  halves-some two = let h = halves ws hs s two in (h .left, h .right)
