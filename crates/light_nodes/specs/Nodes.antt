@@ -1,9 +1,9 @@
 -- A node of the light tree as sixteen words: head, right child, parent, record. The head's top bits are 01 at a leaf, with its handle below, and 10 at an
 -- interior node, with its left child. The layout of a node is said here alone. Definitions only. Assumes nothing.
-use Prim.Native.Nat.{ℕ, suc, _+_, _*_}
+use Prim.Native.Nat.{ℕ, suc, _+_, _*_, _/_, _%_}
 use mathlib.Core.Bool.{cond}
 use mathlib.Core.List.{List, _∷_}
-use lib.Dec.{leb, eqb}
+use lib.Dec.{leb, ltb, eqb}
 use lib.ListN.{length, getD}
 use lib.Seq.{sets}
 use Rattle.words.specs.Answers.{Answer, given, refused}
@@ -54,6 +54,19 @@ unfoldable pub nodeWritten : List ℕ → ℕ → LightBVHNode → LightBounds �
 nodeWritten ws i n b = cond (leb (nodePlace (suc i)) (length ws)) (sets ws (nodePlace i) (nodeList n b)) ws
 
 -- ---- read
+
+-- as many nodes as 4,096 lamps have
+abbrev pub maxNodes : ℕ
+maxNodes = 8191
+
+abbrev pub nodeBytes : ℕ
+nodeBytes = 4 * nodeWords
+
+-- how many nodes there are in bytes: 2 over 8,191 nodes, 1 where the last is a part of one
+unfoldable pub nodeCount : List ℕ → Answer ℕ
+nodeCount bytes =
+    cond (ltb maxNodes (length bytes / nodeBytes)) (refused 2)
+    (cond (eqb (length bytes % nodeBytes) 0) (given (length bytes / nodeBytes)) (refused 1))
 
 -- the node of a head, 12 where its kind is unknown
 unfoldable pub nodeOf : ℕ → ℕ → ℕ → Answer LightBVHNode

@@ -4,20 +4,29 @@ ghost use mathlib.Core.List.{_∷_};
 ghost use Prim.Native.Nat.{_*_, _+_, _≤_};
 ghost use lib.ListN.{length};
 ghost use lib.Seq.{sets};
+ghost use Rattle.words.specs.Answers.{counted};
 ghost use Rattle.words.specs.LittleEndian.{wordsOf};
 ghost use Rattle.light_bounds.specs.RecordWords.{found, recordList};
-ghost use Rattle.light_nodes.specs.Nodes.{leaf, interior, node, nodeOf, nodeAt, boundsAt, nodeWritten, nodeWords};
+ghost use Rattle.light_nodes.specs.Nodes.{leaf, interior, node, nodeCount, nodeOf, nodeAt, boundsAt, nodeWritten, nodeWords};
 use light_bounds::light_bounds::LightBounds;
 use light_bounds::record_words::Found;
 use light_bounds::record_words::RECORD_WORDS;
 use light_bounds::record_words::read_record_bytes;
 use light_bounds::record_words::write_record;
+use words::answers::Counted;
 use words::heads::handle_of;
 use words::heads::kind_of;
 use words::little_endian::word_at;
+use words::refusals::Refusal;
 
 // The words of a node.
 pub const NODE_WORDS: usize = 3 + RECORD_WORDS;
+
+// The bytes of a node.
+pub const NODE_BYTES: usize = 4 * NODE_WORDS;
+
+// The nodes of 4,096 lamps: no walk takes more.
+pub const MAX_NODES: usize = 8191;
 
 // The right child of a leaf, the parent of the root.
 pub const INVALID_INDEX: u32 = 0xffff_ffff;
@@ -94,6 +103,20 @@ pub fn write_interior(
 }
 
 // ---- reading, from little-endian bytes
+
+// How many nodes there are: over 8,191 are refusal 2, a part of a node is 1.
+pub fn node_count(nodes: &[u8]) -> Counted
+    ensures { λ r. ⌜ counted r ≡ nodeCount (now (nodes .entry)) ⌝ }
+{
+    let count = nodes.len() / NODE_BYTES;
+    if MAX_NODES < count {
+        return Counted::Refused(Refusal::Crowded);
+    }
+    if nodes.len() % NODE_BYTES == 0 {
+        return Counted::Count(count);
+    }
+    Counted::Refused(Refusal::Ragged)
+}
 
 fn node_of(head: u32, right_child: u32, parent: u32) -> Node
     ensures { λ r. ⌜ node r ≡ nodeOf head «right_child» parent ⌝ }

@@ -1,0 +1,2 @@
+pub mod WeightedTree
+pub mod Demand3

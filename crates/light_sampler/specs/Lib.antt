@@ -1,0 +1,4 @@
+pub mod Fork
+pub mod Walks
+pub mod Turns
+pub mod Sampler

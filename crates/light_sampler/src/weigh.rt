@@ -1,0 +1,43 @@
+// Weighing (specs/Walks.antt): the one place where a walk weighs. A record is read where it lies.
+ghost use mathlib.Core.Path.{_≡_};
+ghost use Prim.Native.Nat.{_<_, _^_};
+ghost use Rattle.words.specs.LittleEndian.{wordsOf};
+ghost use Rattle.light_bounds.specs.Importance.{weight};
+ghost use Rattle.light_sampler.specs.Walks.{weighAt, weights as weightsOf};
+ghost use Rattle.light_sampler.specs.Turns.{bothWeights};
+use light_bounds::importance::Query;
+use light_bounds::importance::Weight;
+use light_bounds::importance::weigh;
+use light_bounds::record_words::Found;
+use light_nodes::nodes::bounds_at;
+use words::refusals::Refusal;
+
+// The weight of the node at a place: 12 past the end and of an unknown side, the record's refusals, the importance's.
+pub fn weigh_at(nodes: &[u8], query: Query, place: usize) -> Weight
+    ensures { λ r. ⌜ weight r ≡ weighAt (wordsOf (now (nodes .entry))) query place ⌝ }
+{
+    match bounds_at(nodes, place) {
+        Found::Record(bounds) => weigh(bounds, query),
+        Found::Nothing => Weight::Refused(Refusal::BrokenTree),
+    }
+}
+
+// The weights of two children.
+pub enum Weights {
+    Both(f32, f32),
+    Refused(Refusal),
+}
+
+// The weights of the node's children: the left one, behind the node, in full before the right one is looked for.
+pub fn weigh_children(nodes: &[u8], query: Query, place: usize, right: u32) -> Weights
+    requires { ⌜ place < 2 ^ 60 ⌝ }
+    ensures { λ r. ⌜ bothWeights r ≡ weightsOf (wordsOf (now (nodes .entry))) query place right ⌝ }
+{
+    match weigh_at(nodes, query, place + 1) {
+        Weight::Importance(x) => match weigh_at(nodes, query, right as usize) {
+            Weight::Importance(y) => Weights::Both(x, y),
+            Weight::Refused(why) => Weights::Refused(why),
+        },
+        Weight::Refused(why) => Weights::Refused(why),
+    }
+}
