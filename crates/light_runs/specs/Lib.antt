@@ -1,2 +1,4 @@
+pub mod DemandWords
 pub mod WeightedTree
+pub mod StandingTree
 pub mod Demand3
