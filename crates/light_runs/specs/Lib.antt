@@ -1,4 +1,5 @@
 pub mod DemandWords
 pub mod WeightedTree
 pub mod StandingTree
+pub mod StandingLaws
 pub mod Demand3

@@ -120,7 +120,7 @@ module _ (ws : List ℕ) (b : LightBVH) (t : Tree) (parts : Parts ws b) (is : b 
   built : buildSubtree ws (length (boundedHandles ws (b .rows))) (boundedHandles ws (b .rows)) ≡ given t
   built = treeOf-built ws (boundedHandles ws (b .rows)) t (parts .grown ∙ ap given is)
 
-  nodes-are : nodesWritten b ≡ treeWords t
+  pub nodes-are : nodesWritten b ≡ treeWords t
   unfolding nodesWritten
   nodes-are = rw is
 
@@ -148,10 +148,10 @@ module _ (ws : List ℕ) (b : LightBVH) (t : Tree) (parts : Parts ws b) (is : b 
       go x false c e l = absurd (omega arith)
 
   -- each label and each place fits a head
-  labels-fit : LabelsFit t
+  pub labels-fit : LabelsFit t
   labels-fit = all-map (λ (h : ℕ) (l : h < b .rows). omega (arith, parts .few)) (leafHandles t) labels-below
 
-  places-fit : 2 * leaves t - 1 ≤ headEnd
+  pub places-fit : 2 * leaves t - 1 ≤ headEnd
   places-fit = omega (arith, parts .few, parts .powered, accepted-leaves, bounded-few ws (b .rows))
 
   reads : (i : ℕ) (x : LightBVHNode × LightBounds) → nodeIn 0 invalidIndex t i ≡ some x → Reads (nodesWritten b) i x

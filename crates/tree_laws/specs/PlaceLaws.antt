@@ -154,12 +154,12 @@ root-read ps ss at p t i x place head fits here e =
 
 -- the trees under a fork, in its words
 module _ (ps ss : List ℕ) (at p : ℕ) (b : LightBounds) (l r : Tree) where
-  in-left : ps ++ nodeList (interior (at + 1) (rightPlace at l) p) b ++ flatten (at + 1) at l ++ (flatten (rightPlace at l) at r ++ ss)
+  pub in-left : ps ++ nodeList (interior (at + 1) (rightPlace at l) p) b ++ flatten (at + 1) at l ++ (flatten (rightPlace at l) at r ++ ss)
       ≡ ps ++ flatten at p (fork b l r) ++ ss
   unfolding flatten
   in-left = simp append-assoc
 
-  in-right : ps ++ nodeList (interior (at + 1) (rightPlace at l) p) b ++ flatten (at + 1) at l ++ flatten (rightPlace at l) at r ++ ss
+  pub in-right : ps ++ nodeList (interior (at + 1) (rightPlace at l) p) b ++ flatten (at + 1) at l ++ flatten (rightPlace at l) at r ++ ss
       ≡ ps ++ flatten at p (fork b l r) ++ ss
   unfolding flatten
   in-right = simp append-assoc
