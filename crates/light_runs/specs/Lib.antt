@@ -2,4 +2,5 @@ pub mod DemandWords
 pub mod WeightedTree
 pub mod StandingTree
 pub mod StandingLaws
+pub mod DownLaws
 pub mod Demand3

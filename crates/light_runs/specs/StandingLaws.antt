@@ -7,7 +7,7 @@ use mathlib.Core.Option.{some}
 use native.Mathlib.Omega.{arith}
 use borrow.Author.Tests.{lt-ltb}
 use lib.ListN.{length}
-use Rattle.light_nodes.specs.Nodes.{LightBVHNode, interior, invalidIndex, nodePlace, nodeList}
+use Rattle.light_nodes.specs.Nodes.{interior, invalidIndex, nodePlace, nodeList}
 use Rattle.light_nodes.specs.Tree.{Tree, leaf, fork, bounds, leaves, leafHandles, rightPlace, flatten, treeWords}
 use Rattle.light_nodes.specs.TreeLaws.{leaves-pos, root, root-at, root-bounds-at, left-place, right-place}
 use Rattle.light_bvh.specs.Build.{LightBVH, nodesWritten}
