@@ -34,12 +34,11 @@ weigh-nonneg r q = go (weigh r q) (λ x e. importance-nonneg r q x e)
 pub weighed-not-below : (q : Query) (t : Tree) → WeightsNotBelow (weighed q t)
 unfolding weighed
 weighed-not-below q (leaf h b) = tt
-weighed-not-below q (fork b l r) =
-    (
-      gives-then (weigh-nonneg (bounds l) q) (λ x nx. gives-then (weigh-nonneg (bounds r) q) (λ y ny. gives {P = NotBelow} {a = (x, y)} (nx, ny))),
-      weighed-not-below q l,
-      weighed-not-below q r,
-    )
+weighed-not-below q (fork b l r) = (
+  gives-then (weigh-nonneg (bounds l) q) (λ x nx. gives-then (weigh-nonneg (bounds r) q) (λ y ny. gives {P = NotBelow} {a = (x, y)} (nx, ny))),
+  weighed-not-below q l,
+  weighed-not-below q r,
+)
 
 pub leaves-weighed : (q : Query) (t : Tree) → leavesOf (weighed q t) ≡ leaves t
 unfolding weighed leavesOf leaves

@@ -3,4 +3,5 @@ pub mod WeightedTree
 pub mod StandingTree
 pub mod StandingLaws
 pub mod DownLaws
+pub mod UpLaws
 pub mod Demand3

@@ -32,13 +32,12 @@ stands-flat (fork b l r) ps ss at p place low labels fit =
     let more-r = leaves-pos r in
     let (labels-l, labels-r) = all-parts (λ (h : ℕ). h < headEnd) (leafHandles l) (leafHandles r) labels in
     let n = interior (at + 1) (rightPlace at l) p in
-    let t = fork b l r in
-    (
+    let t = fork b l r in (
       (root-at ps ss at at p t place (lt-ltb (at + 1) headEnd (omega arith)), root-bounds-at ps ss at at p t place (fit .0)),
       subst (λ (ws : List ℕ). Stands ws (at + 1) at l) (in-left ps ss at p b l r)
-      (stands-flat l (ps ++ nodeList n b) (flatten (rightPlace at l) at r ++ ss) (at + 1) at (left-place ps at n b place) (omega arith) labels-l (fit .1)),
+          (stands-flat l (ps ++ nodeList n b) (flatten (rightPlace at l) at r ++ ss) (at + 1) at (left-place ps at n b place) (omega arith) labels-l (fit .1)),
       subst (λ (ws : List ℕ). Stands ws (rightPlace at l) at r) (in-right ps ss at p b l r)
-      (stands-flat r (ps ++ nodeList n b ++ flatten (at + 1) at l) ss (rightPlace at l) at (right-place ps at n b place l) (omega arith) labels-r (fit .2)),
+          (stands-flat r (ps ++ nodeList n b ++ flatten (at + 1) at l) ss (rightPlace at l) at (right-place ps at n b place l) (omega arith) labels-r (fit .2)),
     )
 
 -- an accepted build's tree stands in its words
