@@ -5,3 +5,4 @@ pub mod StandingLaws
 pub mod DownLaws
 pub mod UpLaws
 pub mod Demand3
+pub mod NodeLaws

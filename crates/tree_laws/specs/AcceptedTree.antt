@@ -124,7 +124,7 @@ module _ (ws : List ℕ) (b : LightBVH) (t : Tree) (parts : Parts ws b) (is : b 
   unfolding nodesWritten
   nodes-are = rw is
 
-  table-is : tableWritten b ≡ tabled 0 t (replicate (b .rows) invalidIndex)
+  pub table-is : tableWritten b ≡ tabled 0 t (replicate (b .rows) invalidIndex)
   unfolding tableWritten
   table-is = rw is
 

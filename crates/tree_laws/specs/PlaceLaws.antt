@@ -51,7 +51,7 @@ module _ (at p : ℕ) (b : LightBounds) (l r : Tree) (i : ℕ) where
       rw (ne-eqb i at (λ e. omega (arith, leaves-pos l)), le-ltb i (rightPlace at l) above)
 
   -- it is the root, or a node of one of the trees
-  nodeIn-fork : (x : LightBVHNode × LightBounds) → nodeIn at p (fork b l r) i ≡ some x
+  pub nodeIn-fork : (x : LightBVHNode × LightBounds) → nodeIn at p (fork b l r) i ≡ some x
       → ((i ≡ at) × (some (interior (at + 1) (rightPlace at l) p, b) ≡ some x))
       ⊎ ((nodeIn (at + 1) at l i ≡ some x) ⊎ (nodeIn (rightPlace at l) at r i ≡ some x))
   unfolding nodeIn
@@ -65,7 +65,7 @@ module _ (at p : ℕ) (b : LightBounds) (l r : Tree) (i : ℕ) where
       go false true h e = inr (inl e)
       go false false h e = inr (inr e)
 
-nodeIn-leaf : (at p h : ℕ) (b : LightBounds) (i : ℕ) (x : LightBVHNode × LightBounds) → nodeIn at p (leaf h b) i ≡ some x
+pub nodeIn-leaf : (at p h : ℕ) (b : LightBounds) (i : ℕ) (x : LightBVHNode × LightBounds) → nodeIn at p (leaf h b) i ≡ some x
     → (i ≡ at) × (some (leafNode h p, b) ≡ some x)
 unfolding nodeIn
 nodeIn-leaf at p h b i x e = go (eqb i at) refl e
