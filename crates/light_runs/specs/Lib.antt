@@ -6,3 +6,4 @@ pub mod DownLaws
 pub mod UpLaws
 pub mod Demand3
 pub mod NodeLaws
+pub mod ByteLaws

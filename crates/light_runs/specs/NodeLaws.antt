@@ -4,27 +4,27 @@
 use Prim.Native.Nat.{ℕ, zero, suc, _+_, _*_, _-_, _/_, _≤_, _<_}
 use mathlib.Core.Path.{_≡_, refl, ap, subst, sym, _∙_}
 use mathlib.Core.Bool.{Bool, true, false, cond, _&&_}
-use mathlib.Core.List.{List, [], _∷_, _++_, append-nil}
-use mathlib.Core.Logic.{_⊎_, inl, inr, ⊎-elim}
+use mathlib.Core.List.{List, [], _∷_, _++_}
+use mathlib.Core.Logic.{⊎-elim}
 use mathlib.Core.Option.{Option, none, some, Option·some-injective}
 use native.Mathlib.Numerals.{add-one}
 use native.Mathlib.Omega.{arith}
 use borrow.Author.Tests.{ltb-true, ltb-false, lt-ltb, eq-eqb}
 use lib.Dec.{T, ltb}
 use lib.ListN.{length, getD, replicate, length-append, length-replicate, List·getD-eq-default}
-use Rattle.words.specs.Answers.{Answer, given, refused}
+use Rattle.words.specs.Answers.{given}
 use Rattle.words.proofs.AnswerLaws.{given-injective, not-both}
 use Rattle.light_bounds.specs.declared.light_bounds.LightBounds.{LightBounds}
 use Rattle.light_nodes.specs.Nodes.{LightBVHNode, leaf as leafNode, interior, invalidIndex, nodeWords, nodeAt, boundsAt}
 use Rattle.light_nodes.specs.Tree.{Tree, leaf, fork, bounds, leaves, leafHandles, rightPlace}
 use Rattle.light_nodes.specs.TreeLaws.{leaves-pos, nodeAt-past}
-use Rattle.light_bvh.specs.Build.{LightBVH, isPowered, boundedHandles, nodesWritten, tabled, tableWritten}
+use Rattle.light_bvh.specs.Build.{LightBVH, isPowered, boundedHandles, nodesWritten, tableWritten}
 use Rattle.tree_laws.specs.AcceptedTree.{Parts, accepted-none, accepted-nothing, accepted-sound, accepted-leaves, accepted-words, accepted-count, accepted-read}
 use Rattle.tree_laws.specs.AcceptedTree.{table-is, accepted-table, accepted-unpowered}
 use Rattle.tree_laws.specs.LeafLaws.{bounded-count}
-use Rattle.tree_laws.specs.PlaceLaws.{nodeIn, nodeIn-fork, nodeIn-leaf, firstOf, placeOf as placeIn, placeOf-none, length-tabled, table-leaf}
+use Rattle.tree_laws.specs.PlaceLaws.{nodeIn, nodeIn-fork, nodeIn-leaf, placeOf as placeIn, placeOf-none, length-tabled, table-leaf}
 use Rattle.tree_laws.specs.RecordsOfTree.{Sound}
-use Rattle.tree_laws.specs.StretchLaws.{once, count, count-append}
+use Rattle.tree_laws.specs.StretchLaws.{count, count-append}
 use Rattle.light_runs.specs.DemandWords.{placeOf, poweredBelow, reached, placesFrom, HoldsChildren}
 use Rattle.light_runs.specs.StandingTree.{Stands}
 
@@ -77,6 +77,8 @@ places-reached ws (suc n) at p (fork b l r) s few =
     let behind : at + 1 + (2 * leaves l - 1) ≡ rightPlace at l = omega arith in
     reached-fork ws n at (at + 1) (rightPlace at l) p (s .0 .0)
     ∙ rw (size, left, right, places-append (at + 1) (2 * leaves l - 1) (2 * leaves r - 1), behind)
+
+-- ---- nodes that are the same
 
 same-node : (x y : LightBVHNode × LightBounds) → some x ≡ some y → x .0 ≡ y .0
 same-node x y e = ap (λ (z : LightBVHNode × LightBounds). z .0) (Option·some-injective x y e)
@@ -228,30 +230,34 @@ module _ (ws : List ℕ) (b : LightBVH) (parts : Parts ws b) where
       go true e (some t) is = let l = ltb-true h (b .rows) e in place-is h l ∙ accepted-unpowered ws b t parts is h l never
       go false e o is = List·getD-eq-default (tableWritten b) invalidIndex (omega (arith, table-words, ltb-false h (b .rows) e))
 
+  -- a node that is read is the tree's at its place
+  node-low : (i : ℕ) (n : LightBVHNode) → nodeAt (nodesWritten b) i ≡ given n → i < 2 * b .k - 1
+  node-low i n e = omega (arith, node-within (nodesWritten b) i n e, node-words)
+
+  node-in : (t : Tree) → b .tree ≡ some t → (i : ℕ) (n : LightBVHNode) → nodeAt (nodesWritten b) i ≡ given n
+      → (c : LightBounds) × (nodeIn 0 invalidIndex t i ≡ some (n, c))
+  node-in t is i n e =
+      let (x, at, read) = accepted-read ws b t parts is i (node-low i n e) in
+      (x .1, subst (λ (m : LightBVHNode). nodeIn 0 invalidIndex t i ≡ some (m, x .1)) (given-injective (sym (read .0) ∙ e)) at)
+
   pub leaf-powered : (i h p : ℕ) → nodeAt (nodesWritten b) i ≡ given (leafNode h p) → (h < b .rows) × T (isPowered ws h) × (placeOf b h ≡ i)
   leaf-powered i h p e = go (b .tree) refl
     where
-      low : i < 2 * b .k - 1
-      low = omega (arith, node-within (nodesWritten b) i (leafNode h p) e, node-words)
-
       counted : (x : ℕ) (a c : Bool) → ltb x (b .rows) ≡ a → isPowered ws x ≡ c → 1 ≤ cond (a && c) 1 0 → (x < b .rows) × T (isPowered ws x)
       counted x true true f g l = (ltb-true x (b .rows) f, subst T (sym g) tt)
       counted x true false f g l = absurd (omega arith)
       counted x false c f g l = absurd (omega arith)
 
       go : (o : Option Tree) → b .tree ≡ o → (h < b .rows) × T (isPowered ws h) × (placeOf b h ≡ i)
-      go none is = absurd (omega (arith, low, accepted-none ws b parts is))
+      go none is = absurd (omega (arith, node-low i (leafNode h p) e, accepted-none ws b parts is))
       go (some t) is =
-          let (x, at, read) = accepted-read ws b t parts is i low in
-          let same : x .0 ≡ leafNode h p = given-injective (sym (read .0) ∙ e) in
-          let here : nodeIn 0 invalidIndex t i ≡ some (leafNode h p, x .1) =
-          subst (λ (n : LightBVHNode). nodeIn 0 invalidIndex t i ≡ some (n, x .1)) same at in
-          let some-h = leaf-counted h p (x .1) 0 invalidIndex t i here in
+          let (c, here) = node-in t is i (leafNode h p) e in
+          let some-h = leaf-counted h p c 0 invalidIndex t i here in
           let is-count = accepted-count ws b t parts is h in
           let (l, power) = counted h (ltb h (b .rows)) (isPowered ws h) refl refl (rw is-count at some-h) in
           let one : count h (leafHandles t) ≡ 1 = omega (arith, is-count, at-most (ltb h (b .rows) && isPowered ws h)) in
           let (j, place, entry) = table-leaf t (b .rows) h l one in
-          let there = leaf-place h p (x .1) 0 invalidIndex t i one here in
+          let there = leaf-place h p c 0 invalidIndex t i one here in
           let found : j ≡ i = Option·some-injective j i (sym place ∙ there) in
           (l, power, place-is h l ∙ rw (table-is ws b t parts is) (entry ∙ found))
 
@@ -270,14 +276,8 @@ module _ (ws : List ℕ) (b : LightBVH) (parts : Parts ws b) (stands : (t : Tree
   pub boxes : (i l r p : ℕ) → nodeAt (nodesWritten b) i ≡ given (interior l r p) → HoldsChildren (nodesWritten b) i l r
   boxes i l r p e = go (b .tree) refl
     where
-      low : i < 2 * b .k - 1
-      low = omega (arith, node-within (nodesWritten b) i (interior l r p) e, node-words ws b parts)
-
       go : (o : Option Tree) → b .tree ≡ o → HoldsChildren (nodesWritten b) i l r
-      go none is = absurd (omega (arith, low, accepted-none ws b parts is))
+      go none is = absurd (omega (arith, node-low ws b parts i (interior l r p) e, accepted-none ws b parts is))
       go (some t) is =
-          let (x, at, read) = accepted-read ws b t parts is i low in
-          let same : x .0 ≡ interior l r p = given-injective (sym (read .0) ∙ e) in
-          let here : nodeIn 0 invalidIndex t i ≡ some (interior l r p, x .1) =
-          subst (λ (n : LightBVHNode). nodeIn 0 invalidIndex t i ≡ some (n, x .1)) same at in
-          fork-holds (nodesWritten b) 0 invalidIndex t (stands t is) (accepted-sound ws b t parts is) i l r p (x .1) here
+          let (c, here) = node-in ws b parts t is i (interior l r p) e in
+          fork-holds (nodesWritten b) 0 invalidIndex t (stands t is) (accepted-sound ws b t parts is) i l r p c here

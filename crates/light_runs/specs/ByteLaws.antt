@@ -1,0 +1,160 @@
+-- The words of a build that was accepted are below 2 ^ 32, so they come back from their bytes (`nodes-words`, `table-words-back`), which are 64 a node and 4 a
+-- row (`nodes-bytes`, `table-bytes`), so that as many nodes are counted in them as there are (`nodes-counted`). Assumes nothing.
+use Prim.Native.Nat.{ℕ, zero, suc, _+_, _*_, _-_, _/_, _%_, _^_, _≤_, _<_}
+use mathlib.Core.Path.{_≡_, refl, _∙_}
+use mathlib.Core.Bool.{Bool, true, false, cond}
+use mathlib.Core.List.{List, [], _∷_, _++_}
+use mathlib.Core.Option.{Option, none, some}
+use native.Mathlib.Omega.{arith}
+use borrow.Author.Tests.{le-ltb, eq-eqb}
+use lib.Dec.{T}
+use lib.Ieee.{Float, binary32, toBits, fits}
+use lib.Ieee.Bits.{toBits-lt}
+use lib.ListN.{length, getD, set, replicate}
+use Rattle.words.specs.Answers.{given}
+use Rattle.words.specs.LittleEndian.{wordsOf, bytesOf}
+use Rattle.words.proofs.LittleEndianLaws.{length-bytesOf, wordsOf-bytesOf}
+use Rattle.light_bounds.specs.RecordLaws.{VecFits, RecordFits}
+use Rattle.light_bounds.specs.RecordWords.{vecWords, restWords, recordList}
+use Rattle.light_bounds.specs.declared.light_bounds.LightBounds.{LightBounds}
+use Rattle.light_bounds.specs.declared.vecmath.Vec3.{Vec3}
+use Rattle.light_nodes.specs.Nodes.{LightBVHNode, leaf as leafNode, interior, invalidIndex, maxNodes, nodeBytes, headWord, rightChild, parent, nodeList, nodeCount}
+use Rattle.light_nodes.specs.Tree.{Tree, leaf, fork, leaves, rightPlace, flatten}
+use Rattle.light_nodes.specs.TreeLaws.{leaves-pos}
+use Rattle.light_bvh.specs.Build.{LightBVH, nodesWritten, tabled, tableWritten}
+use Rattle.light_bvh.proofs.RowsLaws.{All, all-append, bounded-few}
+use Rattle.tree_laws.specs.AcceptedTree.{Parts, accepted-sound, nodes-are, table-is, places-fit}
+use Rattle.tree_laws.specs.PlaceLaws.{RecordsFit, sound-records, headEnd}
+use Rattle.light_runs.specs.NodeLaws.{node-words, table-words}
+
+-- ---- words
+
+abbrev pub IsWord : ℕ → Type 0
+IsWord w = w < 2 ^ 32
+
+module _ (P : ℕ → Type 0) where
+  all-at : P 0 → (xs : List ℕ) → All P xs → (i : ℕ) → P (getD xs i 0)
+  all-at zero-is [] h i = zero-is
+  all-at zero-is (x ∷ xs) h zero = h .0
+  all-at zero-is (x ∷ xs) h (suc i) = all-at zero-is xs (h .1) i
+
+  all-set : (xs : List ℕ) (i x : ℕ) → P x → All P xs → All P (set xs i x)
+  all-set [] i x is h = h
+  all-set (y ∷ ys) zero x is h = (is, h .1)
+  all-set (y ∷ ys) (suc i) x is h = (h .0, all-set ys i x is (h .1))
+
+  all-replicate : (n x : ℕ) → P x → All P (replicate n x)
+  all-replicate zero x is = tt
+  all-replicate (suc n) x is = (is, all-replicate n x is)
+
+pub words-back : (ws : List ℕ) → All IsWord ws → wordsOf (bytesOf ws) ≡ ws
+words-back ws h = wordsOf-bytesOf ws (all-at IsWord (omega arith) ws h)
+
+-- ---- the words of a node
+
+float-word : (x : Float) → T (fits binary32 x) → IsWord (toBits binary32 x)
+float-word x h = toBits-lt binary32 x h
+
+side-word : (b : Bool) → IsWord (cond b 1 0)
+side-word true = omega arith
+side-word false = omega arith
+
+vec-words : (v : Vec3) → VecFits v → All IsWord (vecWords v)
+vec-words v h = (float-word (v .x) (h .x), (float-word (v .y) (h .y), (float-word (v .z) (h .z), tt)))
+
+record-words : (r : LightBounds) → RecordFits r → All IsWord (recordList r)
+unfolding recordList
+record-words r h =
+    all-append IsWord (vecWords (r .bounds .min) ++ vecWords (r .bounds .max) ++ vecWords (r .direction)) (restWords r)
+    (all-append IsWord (vecWords (r .bounds .min) ++ vecWords (r .bounds .max)) (vecWords (r .direction))
+    (all-append IsWord (vecWords (r .bounds .min)) (vecWords (r .bounds .max)) (vec-words (r .bounds .min) (h .bounds .min))
+    (vec-words (r .bounds .max) (h .bounds .max)))
+    (vec-words (r .direction) (h .direction))) (
+      float-word (r .phi) (h .phi),
+      (
+        float-word (r .«cos_theta_o») (h .cos-o),
+        (
+          float-word (r .«cos_theta_e») (h .cos-e),
+          (side-word (r .side .«two_sided»), tt),
+        ),
+      ),
+    )
+
+head-word : (n : LightBVHNode) → IsWord (headWord n)
+head-word (leafNode h p) = omega arith
+head-word (interior l r p) = omega arith
+
+node-word : (n : LightBVHNode) (b : LightBounds) → IsWord (rightChild n) → IsWord (parent n) → RecordFits b → All IsWord (nodeList n b)
+unfolding nodeList
+node-word n b right up fit = (head-word n, (right, (up, record-words b fit)))
+
+-- ---- the words of a tree
+
+flatten-words : (at p : ℕ) (t : Tree) → at + (2 * leaves t - 1) ≤ headEnd → IsWord p → RecordsFit t → All IsWord (flatten at p t)
+unfolding flatten leaves
+flatten-words at p (leaf h b) low up fit = node-word (leafNode h p) b (omega arith) up fit
+flatten-words at p (fork b l r) low up fit =
+    let more-l = leaves-pos l in
+    let more-r = leaves-pos r in
+    let root = nodeList (interior (at + 1) (rightPlace at l) p) b in
+    all-append IsWord (root ++ flatten (at + 1) at l) (flatten (rightPlace at l) at r)
+    (all-append IsWord root (flatten (at + 1) at l) (node-word (interior (at + 1) (rightPlace at l) p) b (omega arith) up (fit .0))
+    (flatten-words (at + 1) at l (omega arith) (omega arith) (fit .1)))
+    (flatten-words (rightPlace at l) at r (omega arith) (omega arith) (fit .2))
+
+tabled-words : (at : ℕ) (t : Tree) (table : List ℕ) → at + (2 * leaves t - 1) ≤ headEnd → All IsWord table → All IsWord (tabled at t table)
+unfolding tabled leaves
+tabled-words at (leaf h b) table low all = all-set IsWord table h at (omega arith) all
+tabled-words at (fork b l r) table low all =
+    let more-l = leaves-pos l in
+    let more-r = leaves-pos r in
+    tabled-words (rightPlace at l) r (tabled (suc at) l table) (omega arith) (tabled-words (suc at) l table (omega arith) all)
+
+-- ---- of a build that was accepted
+
+module _ (ws : List ℕ) (b : LightBVH) (parts : Parts ws b) where
+  pub nodes-fit : All IsWord (nodesWritten b)
+  unfolding nodesWritten
+  nodes-fit = go (b .tree) refl
+    where
+      go : (o : Option Tree) → b .tree ≡ o → All IsWord (nodesWritten b)
+      go none is = rw is tt
+      go (some t) is =
+          let low = places-fit ws b t parts is in
+          rw (nodes-are ws b t parts is) (flatten-words 0 invalidIndex t (omega arith) (omega arith) (sound-records t (accepted-sound ws b t parts is)))
+
+  pub table-fits : All IsWord (tableWritten b)
+  unfolding tableWritten
+  table-fits = go (b .tree) refl
+    where
+      empty : All IsWord (replicate (b .rows) invalidIndex)
+      empty = all-replicate IsWord (b .rows) invalidIndex (omega arith)
+
+      go : (o : Option Tree) → b .tree ≡ o → All IsWord (tableWritten b)
+      go none is = rw is empty
+      go (some t) is =
+          let low = places-fit ws b t parts is in
+          rw (table-is ws b t parts is) (tabled-words 0 t (replicate (b .rows) invalidIndex) (omega arith) empty)
+
+  pub nodes-words : wordsOf (bytesOf (nodesWritten b)) ≡ nodesWritten b
+  nodes-words = words-back (nodesWritten b) nodes-fit
+
+  pub table-words-back : wordsOf (bytesOf (tableWritten b)) ≡ tableWritten b
+  table-words-back = words-back (tableWritten b) table-fits
+
+  pub nodes-bytes : length (bytesOf (nodesWritten b)) ≡ 64 * (2 * b .k - 1)
+  nodes-bytes = length-bytesOf (nodesWritten b) ∙ omega (arith, node-words ws b parts)
+
+  pub table-bytes : length (bytesOf (tableWritten b)) ≡ 4 * b .rows
+  table-bytes = length-bytesOf (tableWritten b) ∙ omega (arith, table-words ws b parts)
+
+  pub nodes-counted : nodeCount (bytesOf (nodesWritten b)) ≡ given (2 * b .k - 1)
+  unfolding nodeCount
+  nodes-counted =
+      let many : length (bytesOf (nodesWritten b)) / nodeBytes ≡ 2 * b .k - 1 = omega (arith, nodes-bytes) in
+      let whole : length (bytesOf (nodesWritten b)) % nodeBytes ≡ 0 = omega (arith, nodes-bytes) in
+      rw (
+        many,
+        le-ltb maxNodes (2 * b .k - 1) (omega (arith, parts .few, parts .powered, bounded-few ws (b .rows))),
+        eq-eqb (length (bytesOf (nodesWritten b)) % nodeBytes) 0 whole,
+      )
