@@ -1,9 +1,11 @@
 pub mod DemandWords
 pub mod WeightedTree
+pub mod RunLaws
+pub mod FromTo
 pub mod StandingTree
 pub mod StandingLaws
 pub mod DownLaws
 pub mod UpLaws
-pub mod Demand3
 pub mod NodeLaws
 pub mod ByteLaws
+pub mod Demand3
