@@ -4,16 +4,20 @@
 use Prim.Native.Nat.{ℕ, _*_, _-_, _<_}
 use mathlib.Core.Path.{_≡_}
 use mathlib.Core.List.{List}
+use mathlib.Core.Logic.{_⊎_, _↔_}
 use lib.Dec.{T}
-use lib.Ieee.{Float}
+use lib.Ieee.{Float, le}
 use lib.ListN.{length}
 use Rattle.words.specs.Answers.{given}
 use Rattle.light_bounds.specs.declared.importance.Query.{Query}
 use Rattle.light_nodes.specs.Nodes.{leaf, interior, invalidIndex, nodeAt}
-use Rattle.light_bvh.specs.Build.{LightBVH, isPowered, nodesWritten, tableWritten}
+use Rattle.light_bvh.specs.Build.{LightBVH, isPowered, buildLightBvh, nodesWritten, tableWritten}
 use Rattle.light_sampler.specs.Sampler.{pmf}
+use Rattle.tree_laws.specs.AcceptedTree.{accepted-parts}
+use Rattle.light_runs.specs.AcceptedRuns.{unbroken, leaf-order, upward, from-one-to-another}
 use Rattle.light_runs.specs.DemandWords.{FromZeroToOne, InOrder, nodes, table, placeOf, Draws, drawEnters, nameEnters, reversed, poweredBelow, reached}
 use Rattle.light_runs.specs.DemandWords.{placesFrom, HoldsChildren}
+use Rattle.light_runs.specs.NodeLaws.{k-counted, node-words, places, powered-leaf, leaf-powered, table-words, other-lamps, boxes}
 
 -- of a block's words and what build makes of them
 pub record Demand3 (ws : List ℕ) (b : LightBVH) : Type 0 where
@@ -38,3 +42,29 @@ pub record Demand3 (ws : List ℕ) (b : LightBVH) : Type 0 where
   pub other-lamps : (h : ℕ) → (T (isPowered ws h) → ⊥) → placeOf b h ≡ invalidIndex
   -- each fork's box holds its children's
   pub boxes : (i l r p : ℕ) → nodeAt (nodesWritten b) i ≡ given (interior l r p) → HoldsChildren (nodesWritten b) i l r
+
+-- of every light record count and block that build accepts, whatever was lent for nodes, table and work
+module _ (lights : ℕ) (ws : List ℕ) (nodesLent tableLent workLent : ℕ) (b : LightBVH) (accepted : buildLightBvh lights ws nodesLent tableLent workLent ≡ given b) where
+  pub demand-3 : Demand3 ws b
+  demand-3 =
+      let parts = accepted-parts lights ws nodesLent tableLent workLent b accepted in
+      record {
+        unbroken = unbroken ws b parts;
+        leaf-order = leaf-order ws b parts;
+        upward = upward ws b parts;
+        k-counted = k-counted ws b parts;
+        node-words = node-words ws b parts;
+        places = places ws b parts;
+        powered-leaf = powered-leaf ws b parts;
+        leaf-powered = leaf-powered ws b parts;
+        table-words = table-words ws b parts;
+        other-lamps = other-lamps ws b parts;
+        boxes = boxes ws b parts;
+      }
+
+  -- For one point and one normal, no u draws the lamp, or there is a first u that does and a last one, and all between them do.
+  pub u-from-to : (q : Query) (h : ℕ)
+      → ((u : Float) → FromZeroToOne u → Draws b q u h → ⊥)
+      ⊎ ((first : Float) × (last : Float) × FromZeroToOne first × FromZeroToOne last
+      × ((u : Float) → FromZeroToOne u → Draws b q u h ↔ (T (le first u) × T (le u last))))
+  u-from-to = from-one-to-another ws b (accepted-parts lights ws nodesLent tableLent workLent b accepted)

@@ -8,4 +8,6 @@ pub mod DownLaws
 pub mod UpLaws
 pub mod NodeLaws
 pub mod ByteLaws
+pub mod AcceptedWalks
+pub mod AcceptedRuns
 pub mod Demand3

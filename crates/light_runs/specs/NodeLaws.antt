@@ -26,6 +26,7 @@ use Rattle.tree_laws.specs.PlaceLaws.{nodeIn, nodeIn-fork, nodeIn-leaf, placeOf
 use Rattle.tree_laws.specs.RecordsOfTree.{Sound}
 use Rattle.tree_laws.specs.StretchLaws.{count, count-append}
 use Rattle.light_runs.specs.DemandWords.{placeOf, poweredBelow, reached, placesFrom, HoldsChildren}
+use Rattle.light_runs.specs.StandingLaws.{stands-root, accepted-stands}
 use Rattle.light_runs.specs.StandingTree.{Stands}
 
 -- ---- the powered lamps
@@ -125,10 +126,6 @@ module _ (h q : ℕ) (c : LightBounds) where
 
 -- ---- a fork at a place
 
-stands-bounds : (ws : List ℕ) (at p : ℕ) (t : Tree) → Stands ws at p t → boundsAt ws at ≡ given (bounds t)
-stands-bounds ws at p (leaf h b) s = s .1
-stands-bounds ws at p (fork b l r) s = s .0 .1
-
 fork-holds : (ws : List ℕ) (at p : ℕ) (t : Tree) → Stands ws at p t → Sound t
     → (i j k q : ℕ) (c : LightBounds) → nodeIn at p t i ≡ some (interior j k q, c) → HoldsChildren ws i j k
 fork-holds ws at p (leaf h b) s sound i j k q c e =
@@ -145,8 +142,8 @@ fork-holds ws at p (fork b l r) s sound i j k q c e =
       left = bounds l;
       right = bounds r;
       own-is = s .0 .1;
-      left-is = stands-bounds ws (at + 1) at l (s .1);
-      right-is = stands-bounds ws (rightPlace at l) at r (s .2);
+      left-is = stands-root ws (at + 1) at l (s .1) .1;
+      right-is = stands-root ws (rightPlace at l) at r (s .2) .1;
       holds-left = sound .0 .holds-left;
       holds-right = sound .0 .holds-right;
     }))
@@ -261,9 +258,9 @@ module _ (ws : List ℕ) (b : LightBVH) (parts : Parts ws b) where
           let found : j ≡ i = Option·some-injective j i (sym place ∙ there) in
           (l, power, place-is h l ∙ rw (table-is ws b t parts is) (entry ∙ found))
 
--- ---- and whose tree stands in its words
+-- ---- whose tree stands in its words
 
-module _ (ws : List ℕ) (b : LightBVH) (parts : Parts ws b) (stands : (t : Tree) → b .tree ≡ some t → Stands (nodesWritten b) 0 invalidIndex t) where
+module _ (ws : List ℕ) (b : LightBVH) (parts : Parts ws b) where
   pub places : 0 < b .k → reached (nodesWritten b) (b .k) 0 ≡ placesFrom 0 (2 * b .k - 1)
   places some-k = go (b .tree) refl
     where
@@ -271,7 +268,7 @@ module _ (ws : List ℕ) (b : LightBVH) (parts : Parts ws b) (stands : (t : Tree
       go none is = absurd (omega (arith, accepted-none ws b parts is))
       go (some t) is =
           let size = accepted-leaves ws b t parts is in
-          places-reached (nodesWritten b) (b .k) 0 invalidIndex t (stands t is) (omega arith) ∙ rw size
+          places-reached (nodesWritten b) (b .k) 0 invalidIndex t (accepted-stands ws b t parts is) (omega arith) ∙ rw size
 
   pub boxes : (i l r p : ℕ) → nodeAt (nodesWritten b) i ≡ given (interior l r p) → HoldsChildren (nodesWritten b) i l r
   boxes i l r p e = go (b .tree) refl
@@ -280,4 +277,4 @@ module _ (ws : List ℕ) (b : LightBVH) (parts : Parts ws b) (stands : (t : Tree
       go none is = absurd (omega (arith, node-low ws b parts i (interior l r p) e, accepted-none ws b parts is))
       go (some t) is =
           let (c, here) = node-in ws b parts t is i (interior l r p) e in
-          fork-holds (nodesWritten b) 0 invalidIndex t (stands t is) (accepted-sound ws b t parts is) i l r p c here
+          fork-holds (nodesWritten b) 0 invalidIndex t (accepted-stands ws b t parts is) (accepted-sound ws b t parts is) i l r p c here
