@@ -9,15 +9,17 @@ use borrow.Author.Tests.{ltb-true, ltb-false, eq-eqb, ne-eqb}
 use lib.Dec.{eqb, ltb}
 use lib.Ieee.{Float}
 use lib.ListN.{length, getD}
-use Rattle.ieee.specs.Single.{_⊗_, zerof}
+use Rattle.ieee.specs.Choose.{fmin}
+use Rattle.ieee.specs.Single.{_⊗_, zerof, onef}
 use Rattle.words.specs.Answers.{Answer, given, refused, code}
 use Rattle.words.proofs.AnswerLaws.{not-both, given-injective}
 use Rattle.light_bounds.specs.declared.importance.Query.{Query}
 use Rattle.light_nodes.specs.Nodes.{LightBVHNode, leaf, interior, invalidIndex, nodeAt, nodeWords}
 use Rattle.light_nodes.specs.TreeLaws.{nodeAt-past}
-use Rattle.light_sampler.specs.Fork.{neither, left, right}
+use Rattle.light_sampler.specs.Fork.{neither, left, right, most}
+use Rattle.light_sampler.specs.Sampler.{fromRoot}
 use Rattle.light_sampler.specs.Turns.{parentOf}
-use Rattle.light_sampler.specs.Walks.{ended, turn, taken, onward, descend, nought, part, rise, risen, upward, ascend}
+use Rattle.light_sampler.specs.Walks.{Walked, ended, afterCheck, turn, taken, onward, descend, nought, part, rise, risen, upward, ascend}
 
 -- within a list the value past its end is no matter
 pub getD-within : (ws : List ℕ) (i d e : ℕ) → i < length ws → getD ws i d ≡ getD ws i e
@@ -32,6 +34,14 @@ node-within ws i e = go (ltb i (length ws / nodeWords)) refl
     go : (b : Bool) → ltb i (length ws / nodeWords) ≡ b → i < length ws / nodeWords
     go true t = ltb-true i (length ws / nodeWords) t
     go false t = absurd (not-both e (nodeAt-past ws i (ltb-false i (length ws / nodeWords) t)))
+
+-- a walk behind a check
+module _ {A B : Type 0} (walk : A → Walked B) {check : Answer A} where
+  pub check-given : {a : A} → check ≡ given a → afterCheck check walk .outcome ≡ walk a .outcome
+  check-given e = ap (λ (x : Answer A). afterCheck x walk .outcome) e
+
+  pub check-refused : {n : ℕ} → check ≡ refused n → afterCheck check walk .outcome ≡ refused n
+  check-refused e = ap (λ (x : Answer A). afterCheck x walk .outcome) e
 
 -- ---- down
 
@@ -74,6 +84,11 @@ module _ (ws : List ℕ) (q : Query) (i : ℕ) (pmf u : Float) where
           → descend ws q m i pmf u .outcome ≡ descend ws q (m - 1) r (pmf ⊗ s) v .outcome
       unfolding onward taken
       descend-right e = descend-on m more ∙ rw (stands, e)
+
+pub from-root : (ws : List ℕ) (q : Query) (u : Float) (n : ℕ) → (n ≡ 0 → ⊥) → fromRoot ws q u n .outcome ≡ descend ws q n 0 onef (fmin u most) .outcome
+unfolding fromRoot
+from-root ws q u zero h = absurd (h refl)
+from-root ws q u (suc n) h = refl
 
 -- ---- up
 

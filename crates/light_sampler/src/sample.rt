@@ -46,7 +46,6 @@ fn turn(nodes: &[u8], query: Query, place: usize, right: u32, u: f32) -> Way
 
 // The walk: at most `count` nodes are entered.
 fn descend(nodes: &[u8], query: Query, count: usize, u: f32) -> Drawn
-    requires { ⌜ count ≤ 8191 ⌝ }
     ensures { λ r. ⌜ drawn r ≡ descendOf (wordsOf (now (nodes .entry))) query count 0 onef u .outcome ⌝ }
 {
     let mut entries = count;
