@@ -46,7 +46,6 @@ fn turn(nodes: &[u8], query: Query, place: usize, right: u32, u: f32) -> Way
 
 // The walk: at most `count` nodes are entered.
 fn descend(nodes: &[u8], query: Query, count: usize, u: f32) -> Drawn
-    requires { ⌜ count ≤ 8191 ⌝ }
     ensures { λ r. ⌜ drawn r ≡ descendOf (wordsOf (now (nodes .entry))) query count 0 onef u .outcome ⌝ }
 {
     let mut entries = count;
@@ -60,19 +59,21 @@ fn descend(nodes: &[u8], query: Query, count: usize, u: f32) -> Drawn
                 return Drawn::Light(handle, pmf);
             }
             Node::Interior(_, right, _) => match turn(nodes, query, place, right, u) {
-                Way::On(Turn::Left(share, next)) => {
-                    pmf = pmf * share;
-                    u = next;
-                    place += 1;
-                }
-                Way::On(Turn::Right(share, next)) => {
-                    pmf = pmf * share;
-                    u = next;
-                    place = right as usize;
-                }
-                Way::On(Turn::Neither) => {
-                    return Drawn::Nothing;
-                }
+                Way::On(to) => match to {
+                    Turn::Left(share, next) => {
+                        pmf = pmf * share;
+                        u = next;
+                        place += 1;
+                    }
+                    Turn::Right(share, next) => {
+                        pmf = pmf * share;
+                        u = next;
+                        place = right as usize;
+                    }
+                    Turn::Neither => {
+                        return Drawn::Nothing;
+                    }
+                },
                 Way::Refused(why) => {
                     return Drawn::Refused(why);
                 }
