@@ -1,7 +1,5 @@
 // A chance by name (specs/Sampler.antt): from the light's leaf up to the root, by parent words.
 ghost use mathlib.Core.Path.{_≡_};
-ghost use Prim.Native.Nat.{_+_, _/_, _<_, _≤_, _^_};
-ghost use lib.ListN.{length};
 ghost use Rattle.ieee.specs.Single.{onef};
 ghost use Rattle.words.specs.Answers.{counted};
 ghost use Rattle.words.specs.LittleEndian.{wordsOf};

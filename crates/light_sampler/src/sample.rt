@@ -1,7 +1,6 @@
 // A draw (specs/Sampler.antt): from the root down, into one child at each fork.
 ghost use mathlib.Core.Path.{_≡_};
-ghost use Prim.Native.Nat.{_/_, _<_, _≤_, _^_};
-ghost use lib.ListN.{length};
+ghost use Prim.Native.Nat.{_<_, _^_};
 ghost use Rattle.ieee.specs.Single.{onef};
 ghost use Rattle.words.specs.Answers.{counted};
 ghost use Rattle.words.specs.LittleEndian.{wordsOf};
@@ -103,9 +102,9 @@ fn check_sample(nodes: &[u8], u: f32) -> Counted
     }
 }
 
-// Draws a light for a query by u from 0 to 1, with the product of the shares along the way as its chance. Refusals: 2 over 8,191 nodes, 1 of a part of a node, 11
-// of u; then those that the walk meets, 12 where the words do not hang together. Without nodes, and where neither branch of a fork has weight, none is drawn; a
-// lone leaf is drawn unweighed.
+// Draws a light for a query by u from 0 to 1, with the product of the shares along the way as its chance. Refusals: 2 over 8,191 nodes, 1 of a part of a node,
+// 11 of u; then those that the walk meets, 12 where the words do not hang together. Without nodes, and where neither branch of a fork has weight, none is drawn;
+// a lone leaf is drawn unweighed.
 pub fn bvh_light_sampler_sample(nodes: &[u8], query: Query, u: f32) -> Drawn
     ensures { λ r. ⌜ drawn r ≡ sample (now (nodes .entry)) query u ⌝ }
 {

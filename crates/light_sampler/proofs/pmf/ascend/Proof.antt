@@ -24,32 +24,40 @@ loop-holds c = refl
 
 returns : tie.Need-returns Inv-loop μ-loop
 returns c =
-    let stands = sym (c .before .before .before .before .parent-at .ensures) ∙ ap aboveOf (c .before .before .parent .given .1) in
-    sym (ascend-root _ _ _ _ _ (c .before .before .before .before .before .loop-test .taken) stands (c .if1 .taken)) ∙ c .before .before .before .before .before .before .loop .inv
+    let at = c .before .before .before .before in
+    let stands = sym (at .parent-at .ensures) ∙ ap aboveOf (c .before .before .parent .given .1) in
+    sym (ascend-root _ _ _ _ _ (at .before .loop-test .taken) stands (c .if1 .taken)) ∙ at .before .before .loop .inv
 
 loop-again : tie.Need-loop-again Inv-loop μ-loop
 loop-again c =
-    let stands = sym (c .before .before .before .before .before .before .before .before .parent-at .ensures) ∙ ap aboveOf (c .before .before .before .before .before .before .parent .given .1) in
+    let inner = c .before .before .before .before in
+    let at = inner .before .before .before .before in
+    let stands = sym (at .parent-at .ensures) ∙ ap aboveOf (inner .before .before .parent .given .1) in
     let step = sym (c .before .before .before .rise .ensures) ∙ ap factorOf (c .before .share .given .1) in
-    sym (ascend-part _ _ _ _ _ (c .before .before .before .before .before .before .before .before .before .loop-test .taken) stands (c .before .before .before .before .if1 .left) step) ∙ c .before .before .before .before .before .before .before .before .before .before .loop .inv
+    sym (ascend-part _ _ _ _ _ (at .before .loop-test .taken) stands (inner .if1 .left) step) ∙ at .before .before .loop .inv
 
 returns-2 : tie.Need-returns-2 Inv-loop μ-loop
 unfolding ofBits
 returns-2 c =
-    let stands = sym (c .before .before .before .before .before .before .before .parent-at .ensures) ∙ ap aboveOf (c .before .before .before .before .before .parent .given .1) in
+    let inner = c .before .before .before in
+    let at = inner .before .before .before .before in
+    let stands = sym (at .parent-at .ensures) ∙ ap aboveOf (inner .before .before .parent .given .1) in
     let step = sym (c .before .before .rise .ensures) ∙ ap factorOf (c .enum-told .given .1) in
-    sym (ascend-nought _ _ _ _ _ (c .before .before .before .before .before .before .before .before .loop-test .taken) stands (c .before .before .before .if1 .left) step) ∙ c .before .before .before .before .before .before .before .before .before .loop .inv
+    sym (ascend-nought _ _ _ _ _ (at .before .loop-test .taken) stands (inner .if1 .left) step) ∙ at .before .before .loop .inv
 
 returns-3 : tie.Need-returns-3 Inv-loop μ-loop
 returns-3 c =
-    let stands = sym (c .before .before .before .before .before .before .before .before .parent-at .ensures) ∙ ap aboveOf (c .before .before .before .before .before .before .parent .given .1) in
+    let inner = c .before .before .before .before in
+    let at = inner .before .before .before .before in
+    let stands = sym (at .parent-at .ensures) ∙ ap aboveOf (inner .before .before .parent .given .1) in
     let step = sym (c .before .before .before .rise .ensures) ∙ ap factorOf (c .before .why .given .1) in
-    sym (ascend-refused _ _ _ _ _ (c .before .before .before .before .before .before .before .before .before .loop-test .taken) stands (c .before .before .before .before .if1 .left) step) ∙ c .before .before .before .before .before .before .before .before .before .before .loop .inv
+    sym (ascend-refused _ _ _ _ _ (at .before .loop-test .taken) stands (inner .if1 .left) step) ∙ at .before .before .loop .inv
 
 returns-4 : tie.Need-returns-4 Inv-loop μ-loop
 returns-4 c =
-    let stands = sym (c .before .before .parent-at .ensures) ∙ ap aboveOf (c .enum-told2 .given .1) in
-    sym (ascend-unknown _ _ _ _ _ (c .before .before .before .loop-test .taken) stands) ∙ c .before .before .before .before .loop .inv
+    let at = c .before .before in
+    let stands = sym (at .parent-at .ensures) ∙ ap aboveOf (c .enum-told2 .given .1) in
+    sym (ascend-unknown _ _ _ _ _ (at .before .loop-test .taken) stands) ∙ at .before .before .loop .inv
 
 returns-5 : tie.Need-returns-5 Inv-loop μ-loop
 returns-5 c = sym (ascend-spent _ _ _ _ _ (c .loop-test .left)) ∙ c .before .loop .inv

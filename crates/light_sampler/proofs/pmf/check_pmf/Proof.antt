@@ -13,14 +13,14 @@ returns c = rw (lt-ltb _ _ (c .if1 .taken))
 returns-2 : tie.Need-returns-2
 unfolding pmfCheck _then_
 returns-2 c =
-    rw (le-ltb _ _ (c .before .before .before .before .before .if1 .left), ← c .before .before .before .before .node-count .ensures, c .before .before .n .given .1)
-    (rw (eq-eqb _ _ (c .if2 .taken)))
+    let n = c .before .before in
+    rw (le-ltb _ _ (n .before .before .before .if1 .left), ← n .before .before .node-count .ensures, n .n .given .1) (rw (eq-eqb _ _ (c .if2 .taken)))
 
 returns-3 : tie.Need-returns-3
 unfolding pmfCheck _then_
 returns-3 c =
-    rw (le-ltb _ _ (c .before .before .before .before .before .if1 .left), ← c .before .before .before .before .node-count .ensures, c .before .before .n .given .1)
-    (rw (ne-eqb _ _ (c .if2 .left)))
+    let n = c .before .before in
+    rw (le-ltb _ _ (n .before .before .before .if1 .left), ← n .before .before .node-count .ensures, n .n .given .1) (rw (ne-eqb _ _ (c .if2 .left)))
 
 returns-4 : tie.Need-returns-4
 unfolding pmfCheck _then_

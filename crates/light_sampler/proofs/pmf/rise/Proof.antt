@@ -8,14 +8,15 @@ use Rattle.light_sampler.proofs.pmf.rise.Tie as tie
 returns : tie.Need-returns
 unfolding rise _then_
 returns c =
-    rw (← c .before .before .before .before .before .before .before .before .node-at .ensures, c .before .before .before .before .before .before .right .given .1)
+    let right = c .before .before .before .before .before .before in
+    rw (← right .before .before .node-at .ensures, right .right .given .1)
     (rw (← c .before .before .before .before .weigh-children .ensures, c .before .before .x .given .1) (c .part-of .ensures))
 
 returns-2 : tie.Need-returns-2
 unfolding rise _then_
 returns-2 c =
-    rw (← c .before .before .before .before .before .before .before .node-at .ensures, c .before .before .before .before .before .right .given .1)
-    (rw (← c .before .before .before .weigh-children .ensures, c .before .why .given .1))
+    let right = c .before .before .before .before .before in
+    rw (← right .before .before .node-at .ensures, right .right .given .1) (rw (← c .before .before .before .weigh-children .ensures, c .before .why .given .1))
 
 returns-3 : tie.Need-returns-3
 unfolding rise _then_

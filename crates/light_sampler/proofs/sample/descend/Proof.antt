@@ -12,7 +12,8 @@ use Rattle.words.proofs.LittleEndianLaws.{length-wordsOf}
 use Rattle.light_nodes.specs.Nodes.{node}
 use Rattle.light_sampler.specs.Turns.{wayOf, turned}
 use Rattle.light_sampler.specs.Walks.{descend}
-use Rattle.light_sampler.proofs.WalkLaws.{node-within, descend-spent, descend-leaf, descend-unknown, descend-refused, descend-neither, descend-left, descend-right}
+use Rattle.light_sampler.proofs.WalkLaws.{node-within, descend-spent, descend-leaf, descend-unknown}
+use Rattle.light_sampler.proofs.WalkLaws.{descend-refused, descend-neither, descend-left, descend-right}
 use Rattle.light_sampler.proofs.sample.descend.Statement.{statement}
 use Rattle.light_sampler.proofs.sample.descend.Tie as tie
 
@@ -30,43 +31,55 @@ loop-holds c = refl
 -- an interior node stands within the bytes, which are fewer than 2^63
 near : (c : tie.After-known-told2 Inv-loop μ-loop) → c .before .before .before .before .before .loop .place < 2 ^ 60
 near c =
-    let start = c .before .before .before .before .before .before .before in
+    let at = c .before .before .before in
+    let start = at .before .before .before .before in
     let bytes = now (start .args .nodes) in
-    omega (arith, node-within (wordsOf bytes) (c .before .before .before .before .before .loop .place) (sym (c .before .before .before .node-at .ensures) ∙ ap node (c .before .right .given .1)), length-wordsOf bytes, start .good .0)
+    let within = node-within (wordsOf bytes) (at .before .before .loop .place) (sym (at .node-at .ensures) ∙ ap node (c .before .right .given .1)) in
+    omega (arith, within, length-wordsOf bytes, start .good .0)
 
 returns : tie.Need-returns Inv-loop μ-loop
 returns c =
-    let stands = sym (c .before .before .before .node-at .ensures) ∙ ap node (c .before .handle .given .1) in
-    sym (descend-leaf _ _ _ _ _ _ (c .before .before .before .before .loop-test .taken) stands) ∙ c .before .before .before .before .before .loop .inv
+    let at = c .before .before .before in
+    let stands = sym (at .node-at .ensures) ∙ ap node (c .before .handle .given .1) in
+    sym (descend-leaf _ _ _ _ _ _ (at .before .loop-test .taken) stands) ∙ at .before .before .loop .inv
 
 loop-again : tie.Need-loop-again Inv-loop μ-loop
 loop-again c =
-    let stands = sym (c .before .before .before .before .before .before .before .before .before .before .node-at .ensures) ∙ ap node (c .before .before .before .before .before .before .before .before .right .given .1) in
-    let way = sym (c .before .before .before .before .before .before .turn .ensures) ∙ ap wayOf (c .before .before .before .before .to .given .1) ∙ ap (λ t. given (turned t)) (c .before .to2 .given .1) in
-    sym (descend-left _ _ _ _ _ _ (c .before .before .before .before .before .before .before .before .before .before .before .loop-test .taken) stands way) ∙ c .before .before .before .before .before .before .before .before .before .before .before .before .loop .inv
+    let turn = c .before .before .before .before .before .before in
+    let at = turn .before .before .before .before in
+    let stands = sym (at .node-at .ensures) ∙ ap node (turn .before .before .right .given .1) in
+    let way = sym (turn .turn .ensures) ∙ ap wayOf (c .before .before .before .before .to .given .1) ∙ ap (λ t. given (turned t)) (c .before .to2 .given .1) in
+    sym (descend-left _ _ _ _ _ _ (at .before .loop-test .taken) stands way) ∙ at .before .before .loop .inv
 
 loop-again-2 : tie.Need-loop-again-2 Inv-loop μ-loop
 loop-again-2 c =
-    let stands = sym (c .before .before .before .before .before .before .before .before .before .before .node-at .ensures) ∙ ap node (c .before .before .before .before .before .before .before .before .right .given .1) in
-    let way = sym (c .before .before .before .before .before .before .turn .ensures) ∙ ap wayOf (c .before .before .before .before .to .given .1) ∙ ap (λ t. given (turned t)) (c .before .to3 .given .1) in
-    sym (descend-right _ _ _ _ _ _ (c .before .before .before .before .before .before .before .before .before .before .before .loop-test .taken) stands way) ∙ c .before .before .before .before .before .before .before .before .before .before .before .before .loop .inv
+    let turn = c .before .before .before .before .before .before in
+    let at = turn .before .before .before .before in
+    let stands = sym (at .node-at .ensures) ∙ ap node (turn .before .before .right .given .1) in
+    let way = sym (turn .turn .ensures) ∙ ap wayOf (c .before .before .before .before .to .given .1) ∙ ap (λ t. given (turned t)) (c .before .to3 .given .1) in
+    sym (descend-right _ _ _ _ _ _ (at .before .loop-test .taken) stands way) ∙ at .before .before .loop .inv
 
 returns-2 : tie.Need-returns-2 Inv-loop μ-loop
 returns-2 c =
-    let stands = sym (c .before .before .before .before .before .before .before .before .before .node-at .ensures) ∙ ap node (c .before .before .before .before .before .before .before .right .given .1) in
-    let way = sym (c .before .before .before .before .before .turn .ensures) ∙ ap wayOf (c .before .before .before .to .given .1) ∙ ap (λ t. given (turned t)) (c .enum-told .given .1) in
-    sym (descend-neither _ _ _ _ _ _ (c .before .before .before .before .before .before .before .before .before .before .loop-test .taken) stands way) ∙ c .before .before .before .before .before .before .before .before .before .before .before .loop .inv
+    let turn = c .before .before .before .before .before in
+    let at = turn .before .before .before .before in
+    let stands = sym (at .node-at .ensures) ∙ ap node (turn .before .before .right .given .1) in
+    let way = sym (turn .turn .ensures) ∙ ap wayOf (c .before .before .before .to .given .1) ∙ ap (λ t. given (turned t)) (c .enum-told .given .1) in
+    sym (descend-neither _ _ _ _ _ _ (at .before .loop-test .taken) stands way) ∙ at .before .before .loop .inv
 
 returns-3 : tie.Need-returns-3 Inv-loop μ-loop
 returns-3 c =
-    let stands = sym (c .before .before .before .before .before .before .before .node-at .ensures) ∙ ap node (c .before .before .before .before .before .right .given .1) in
-    let way = sym (c .before .before .before .turn .ensures) ∙ ap wayOf (c .before .why .given .1) in
-    sym (descend-refused _ _ _ _ _ _ (c .before .before .before .before .before .before .before .before .loop-test .taken) stands way) ∙ c .before .before .before .before .before .before .before .before .before .loop .inv
+    let turn = c .before .before .before in
+    let at = turn .before .before .before .before in
+    let stands = sym (at .node-at .ensures) ∙ ap node (turn .before .before .right .given .1) in
+    let way = sym (turn .turn .ensures) ∙ ap wayOf (c .before .why .given .1) in
+    sym (descend-refused _ _ _ _ _ _ (at .before .loop-test .taken) stands way) ∙ at .before .before .loop .inv
 
 returns-4 : tie.Need-returns-4 Inv-loop μ-loop
 returns-4 c =
-    let stands = sym (c .before .before .node-at .ensures) ∙ ap node (c .enum-told2 .given .1) in
-    sym (descend-unknown _ _ _ _ _ _ (c .before .before .before .loop-test .taken) stands) ∙ c .before .before .before .before .loop .inv
+    let at = c .before .before in
+    let stands = sym (at .node-at .ensures) ∙ ap node (c .enum-told2 .given .1) in
+    sym (descend-unknown _ _ _ _ _ _ (at .before .loop-test .taken) stands) ∙ at .before .before .loop .inv
 
 returns-5 : tie.Need-returns-5 Inv-loop μ-loop
 returns-5 c = sym (descend-spent _ _ _ _ _ _ (c .loop-test .left)) ∙ c .before .loop .inv
@@ -74,6 +87,7 @@ returns-5 c = sym (descend-spent _ _ _ _ _ _ (c .loop-test .left)) ∙ c .before
 pub descend-spec : {M : Type 1} → statement M
 descend-spec =
     tie.close (tie.spec Inv-loop μ-loop loop-holds (λ c. omega arith) (λ c κs. search needs) (λ c. search needs) returns (λ c. search needs)
-    (λ c κs. near c) (λ c. search needs) (λ c. search needs) (λ c. omega (arith, near (c .before .before .before .before .before .before .before))) (λ c. omega arith) loop-again
+    (λ c κs. near c) (λ c. search needs) (λ c. search needs)
+    (λ c. omega (arith, near (c .before .before .before .before .before .before .before))) (λ c. omega arith) loop-again
     (λ c. search needs) (λ c. search needs) (λ c. omega arith) loop-again-2 (λ c. search needs) returns-2 (λ c. search needs) returns-3
     (λ c. search needs) returns-4 returns-5)

@@ -1,5 +1,4 @@
 -- `light_sampler::weigh::weigh_children` meets its contract: the left weight, then the right one. Assumes nothing.
-use native.Mathlib.Omega.{arith}
 use Rattle.words.specs.Answers.{_then_}
 use Rattle.light_sampler.specs.Walks.{weights}
 use borrow.Author.Needs.{needs}
@@ -8,11 +7,15 @@ use Rattle.light_sampler.proofs.weigh.weigh_children.Tie as tie
 
 returns : tie.Need-returns
 unfolding weights _then_
-returns c = rw (← c .before .before .before .before .before .before .before .weigh-at .ensures, c .before .before .before .before .before .x .given .1) (rw (← c .before .before .before .weigh-at2 .ensures, c .before .y .given .1))
+returns c =
+    let x = c .before .before .before .before .before in
+    rw (← x .before .before .weigh-at .ensures, x .x .given .1) (rw (← c .before .before .before .weigh-at2 .ensures, c .before .y .given .1))
 
 returns-2 : tie.Need-returns-2
 unfolding weights _then_
-returns-2 c = rw (← c .before .before .before .before .before .before .before .weigh-at .ensures, c .before .before .before .before .before .x .given .1) (rw (← c .before .before .before .weigh-at2 .ensures, c .before .why .given .1))
+returns-2 c =
+    let x = c .before .before .before .before .before in
+    rw (← x .before .before .weigh-at .ensures, x .x .given .1) (rw (← c .before .before .before .weigh-at2 .ensures, c .before .why .given .1))
 
 returns-3 : tie.Need-returns-3
 unfolding weights _then_
