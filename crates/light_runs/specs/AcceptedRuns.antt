@@ -2,10 +2,10 @@
 -- (`from-one-to-another`). Assumes nothing.
 use Prim.Native.Nat.{ℕ, _≤_, _<_}
 use mathlib.Core.Path.{_≡_, refl, ap, sym, subst, _∙_}
-use mathlib.Core.Bool.{Bool, true, false, not}
+use mathlib.Core.Bool.{Bool, false, not}
 use mathlib.Core.List.{List, [], _∷_, _++_}
 use mathlib.Core.Logic.{_⊎_, inl, inr, _↔_}
-use mathlib.Core.Option.{Option, none, some, Option·some-injective, Option·none-ne-some}
+use mathlib.Core.Option.{Option, none, some}
 use native.Mathlib.Nat.{eq-or-lt-of-le}
 use lib.Dec.{T, eqb, eqb→eq}
 use lib.Ieee.{Float, le, isNan, ofBits}
@@ -15,20 +15,19 @@ use Rattle.ieee.specs.ChooseOrder.{fmin-is, fmin-cap, fmin-mono}
 use Rattle.ieee.specs.OrderLaws.{nonneg, le→nonneg}
 use Rattle.ieee.specs.Single.{onef}
 use Rattle.words.specs.Answers.{Answer, given, refused}
-use Rattle.words.proofs.AnswerLaws.{given-injective, not-both}
+use Rattle.words.proofs.AnswerLaws.{given-injective}
 use Rattle.light_bounds.specs.declared.importance.Query.{Query}
 use Rattle.light_nodes.specs.Nodes.{LightBVHNode, leaf as leafNode, interior, nodeAt}
 use Rattle.light_nodes.specs.Tree.{Tree}
 use Rattle.light_bvh.specs.Build.{LightBVH, nodesWritten}
 use Rattle.light_sampler.specs.Fork.{most}
-use Rattle.light_sampler.specs.Sampler.{sampleWalk, sample, pmf, pmfWalk}
+use Rattle.light_sampler.specs.Sampler.{sampleWalk, sample, pmf}
 use Rattle.light_sampler.specs.Walks.{Walked, Draw}
 use Rattle.tree_laws.specs.AcceptedTree.{Parts}
-use Rattle.light_runs.specs.AcceptedWalks.{draw-nothing, draw-walk, Named, name-walk}
+use Rattle.light_runs.specs.AcceptedWalks.{draw-nothing, draw-walk, name-walk}
 use Rattle.light_runs.specs.DemandWords.{FromZeroToOne, InOrder, nodes, table, placeOf, Draws, drawEnters, nameEnters, reversed}
 use Rattle.light_runs.specs.DownLaws.{weighed-not-below}
 use Rattle.light_runs.specs.FromTo.{from-to}
-use Rattle.light_runs.specs.NodeLaws.{powered-leaf, leaf-powered}
 use Rattle.light_runs.specs.RunLaws.{lastOf, walk-last, walk-between}
 use Rattle.light_runs.specs.StandingTree.{weighed}
 use Rattle.light_runs.specs.WeightedTree.{walk}
@@ -118,8 +117,8 @@ module _ (ws : List ℕ) (b : LightBVH) (parts : Parts ws b) where
     in-order : (u w : Float) → InOrder u w → (h i : ℕ) → Draws b q u h → Draws b q w i → placeOf b h ≤ placeOf b i
     in-order u w uw h i d f =
         rw (← ends-at u (uw .first) h d, ← ends-at w (uw .second) i f)
-        (walk-last 0 (weighed q t) onef onef (fmin u most) (fmin w most) (weighed-not-below q t) (capped u (uw .first)) (fmin-mono u w most most-known (uw .order))
-        (fmin-cap w most most-known))
+        (walk-last 0 (weighed q t) onef onef (fmin u most) (fmin w most) (weighed-not-below q t) (capped u (uw .first))
+        (fmin-mono u w most most-known (uw .order)) (fmin-cap w most most-known))
 
     -- two lamps at one place are one
     apart : (u w : Float) → InOrder u w → (h i : ℕ) → Draws b q u h → Draws b q w i → placeOf b h ≡ placeOf b i → h ≡ i

@@ -1,29 +1,28 @@
 -- Draws and chances by name over an accepted build. A draw is the walk over the build's tree with the query's weights (`draw-walk`), without a tree it draws no
 -- lamp (`draw-nothing`); where it draws a lamp, the chance by name enters the same nodes in reverse and is given (`name-walk`). Assumes nothing.
 use Prim.Native.Nat.{ℕ, zero, suc, _+_, _*_, _-_, _/_, _%_, _≤_, _<_}
-use mathlib.Core.Path.{_≡_, refl, ap, sym, subst, _∙_}
-use mathlib.Core.Bool.{Bool, true, false, cond, _&&_}
+use mathlib.Core.Path.{_≡_, refl, ap, sym, _∙_}
+use mathlib.Core.Bool.{Bool, true, false, _&&_}
 use mathlib.Core.List.{List, [], _∷_, _++_, append-nil}
-use mathlib.Core.Option.{Option, none, some, Option·none-ne-some}
+use mathlib.Core.Option.{none, some, Option·none-ne-some}
 use native.Mathlib.Omega.{arith}
 use borrow.Author.Tests.{le-ltb, eq-eqb, ne-eqb}
-use lib.Dec.{T, ltb, eqb}
+use lib.Dec.{T}
 use lib.Ieee.{Float, le}
-use lib.ListN.{length, getD}
+use lib.ListN.{length}
 use Rattle.ieee.specs.Choose.{fmin}
 use Rattle.ieee.specs.Single.{zerof, onef}
-use Rattle.words.specs.Answers.{Answer, given, refused, _then_}
+use Rattle.words.specs.Answers.{given, _then_}
 use Rattle.words.specs.Limits.{maxLamps}
-use Rattle.words.specs.LittleEndian.{wordsOf, bytesOf}
-use Rattle.words.proofs.AnswerLaws.{given-injective, not-both}
+use Rattle.words.proofs.AnswerLaws.{given-injective}
 use Rattle.light_bounds.specs.declared.importance.Query.{Query}
-use Rattle.light_nodes.specs.Nodes.{LightBVHNode, leaf as leafNode, invalidIndex, nodeAt, nodeCount}
-use Rattle.light_nodes.specs.Tree.{Tree, leaves}
+use Rattle.light_nodes.specs.Nodes.{leaf as leafNode, invalidIndex, nodeAt, nodeCount}
+use Rattle.light_nodes.specs.Tree.{Tree}
 use Rattle.light_nodes.specs.TreeLaws.{leaves-pos}
-use Rattle.light_bvh.specs.Build.{LightBVH, nodesWritten, tableWritten}
+use Rattle.light_bvh.specs.Build.{LightBVH, nodesWritten}
 use Rattle.light_sampler.specs.Fork.{most}
 use Rattle.light_sampler.specs.Sampler.{sampleCheck, fromRoot, sampleWalk, pmfCheck, leafOf, fromLeaf, pmfWalk}
-use Rattle.light_sampler.specs.Walks.{Walked, afterCheck, Draw, descend, ascend}
+use Rattle.light_sampler.specs.Walks.{Walked, Draw, descend, ascend}
 use Rattle.tree_laws.specs.AcceptedTree.{Parts, accepted-none, accepted-leaves, places-fit}
 use Rattle.light_runs.specs.ByteLaws.{nodes-words, table-words-back, table-bytes, nodes-counted}
 use Rattle.light_runs.specs.DemandWords.{FromZeroToOne, nodes, table, placeOf, Draws, reversed}
@@ -31,7 +30,7 @@ use Rattle.light_runs.specs.DownLaws.{leaves-weighed, descend-walk}
 use Rattle.light_runs.specs.NodeLaws.{powered-leaf, leaf-powered}
 use Rattle.light_runs.specs.StandingLaws.{accepted-stands}
 use Rattle.light_runs.specs.StandingTree.{weighed}
-use Rattle.light_runs.specs.UpLaws.{Climbs, ascend-walk, rises-standing, walk-length}
+use Rattle.light_runs.specs.UpLaws.{ascend-walk, rises-standing, walk-length}
 use Rattle.light_runs.specs.WeightedTree.{walk}
 
 -- ---- the draw
@@ -109,7 +108,8 @@ module _ (ws : List ℕ) (b : LightBVH) (parts : Parts ws b) (t : Tree) (is : b 
       let drawn = walk 0 (weighed q t) onef (fmin u most) .places in
       let few = leaves-pos t in
       let k-is = accepted-leaves ws b t parts is in
-      let up = ascend-walk (nodesWritten b) q t 0 invalidIndex onef (fmin u most) h c [] (accepted-stands ws b t parts is) (omega (arith, places-fit ws b t parts is))
+      let up =
+      ascend-walk (nodesWritten b) q t 0 invalidIndex onef (fmin u most) h c [] (accepted-stands ws b t parts is) (omega (arith, places-fit ws b t parts is))
       (rises-standing (nodesWritten b) q 0 t (accepted-stands ws b t parts is)) (ap (λ (w : Walked Draw). w .outcome) (sym down) ∙ d) in
       let (low, power, place) = leaf-powered ws b parts (up .place) h (up .above) (up .node-is) in
       let (p, small, _) = powered-leaf ws b parts h low power in

@@ -18,7 +18,8 @@ use Rattle.light_bounds.specs.RecordLaws.{VecFits, RecordFits}
 use Rattle.light_bounds.specs.RecordWords.{vecWords, restWords, recordList}
 use Rattle.light_bounds.specs.declared.light_bounds.LightBounds.{LightBounds}
 use Rattle.light_bounds.specs.declared.vecmath.Vec3.{Vec3}
-use Rattle.light_nodes.specs.Nodes.{LightBVHNode, leaf as leafNode, interior, invalidIndex, maxNodes, nodeBytes, headWord, rightChild, parent, nodeList, nodeCount}
+use Rattle.light_nodes.specs.Nodes.{LightBVHNode, leaf as leafNode, interior, invalidIndex, maxNodes}
+use Rattle.light_nodes.specs.Nodes.{nodeBytes, headWord, rightChild, parent, nodeList, nodeCount}
 use Rattle.light_nodes.specs.Tree.{Tree, leaf, fork, leaves, rightPlace, flatten}
 use Rattle.light_nodes.specs.TreeLaws.{leaves-pos}
 use Rattle.light_bvh.specs.Build.{LightBVH, nodesWritten, tabled, tableWritten}

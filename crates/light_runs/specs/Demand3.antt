@@ -1,7 +1,7 @@
 -- Demand 3, of the definitions of build, draw and chance by name: what document 01 says of it in the last paragraph of its Agreement, a field a sentence
--- (`Demand3`), and that it holds of every block that build accepts (`demand-3`). Beside it, in a planner's words: the u that draw a lamp are those from one float
--- to another, perhaps none (`u-from-to`). DemandWords has the words of the sentences. Assumes nothing.
-use Prim.Native.Nat.{ℕ, _*_, _-_, _<_}
+-- (`Demand3`), and that it holds of every block that build accepts (`demand-3`). Beside it, in a planner's words: the u that draw a lamp are those from one
+-- float to another, perhaps none (`u-from-to`). DemandWords has the words of the sentences. Assumes nothing.
+use Prim.Native.Nat.{ℕ, _*_, _-_, _≤_, _<_}
 use mathlib.Core.Path.{_≡_}
 use mathlib.Core.List.{List}
 use mathlib.Core.Logic.{_⊎_, _↔_}
@@ -31,10 +31,11 @@ pub record Demand3 (ws : List ℕ) (b : LightBVH) : Type 0 where
   -- k is the number of lamps with a phi above 0, and there are 2 k - 1 nodes of sixteen words, none for k = 0
   pub k-counted : b .k ≡ poweredBelow ws (b .rows)
   pub node-words : length (nodesWritten b) ≡ 16 * (2 * b .k - 1)
-  -- node 0 and all that child words reach from it are at the places 0 to 2 k - 2, each once
-  pub places : 0 < b .k → reached (nodesWritten b) (b .k) 0 ≡ placesFrom 0 (2 * b .k - 1)
+  -- node 0 and all that child words reach from it, however deep, are at the places 0 to 2 k - 2, each once
+  pub places : 0 < b .k → (n : ℕ) → b .k ≤ n → reached (nodesWritten b) n 0 ≡ placesFrom 0 (2 * b .k - 1)
   -- each powered lamp is a leaf, at T's place
-  pub powered-leaf : (h : ℕ) → h < b .rows → T (isPowered ws h) → (p : ℕ) × (placeOf b h < 2 * b .k - 1) × (nodeAt (nodesWritten b) (placeOf b h) ≡ given (leaf h p))
+  pub powered-leaf : (h : ℕ) → h < b .rows → T (isPowered ws h)
+      → (p : ℕ) × (placeOf b h < 2 * b .k - 1) × (nodeAt (nodesWritten b) (placeOf b h) ≡ given (leaf h p))
   -- each leaf is a powered lamp, and stands at T's place, so once
   pub leaf-powered : (i h p : ℕ) → nodeAt (nodesWritten b) i ≡ given (leaf h p) → (h < b .rows) × T (isPowered ws h) × (placeOf b h ≡ i)
   -- T has a word a lamp, ffffffff for every other one
@@ -44,7 +45,8 @@ pub record Demand3 (ws : List ℕ) (b : LightBVH) : Type 0 where
   pub boxes : (i l r p : ℕ) → nodeAt (nodesWritten b) i ≡ given (interior l r p) → HoldsChildren (nodesWritten b) i l r
 
 -- of every light record count and block that build accepts, whatever was lent for nodes, table and work
-module _ (lights : ℕ) (ws : List ℕ) (nodesLent tableLent workLent : ℕ) (b : LightBVH) (accepted : buildLightBvh lights ws nodesLent tableLent workLent ≡ given b) where
+module _ (lights : ℕ) (ws : List ℕ) (nodesLent tableLent workLent : ℕ) (b : LightBVH)
+    (accepted : buildLightBvh lights ws nodesLent tableLent workLent ≡ given b) where
   pub demand-3 : Demand3 ws b
   demand-3 =
       let parts = accepted-parts lights ws nodesLent tableLent workLent b accepted in

@@ -15,7 +15,7 @@ use lib.ListN.{length, getD, replicate, length-append, length-replicate, List·g
 use Rattle.words.specs.Answers.{given}
 use Rattle.words.proofs.AnswerLaws.{given-injective, not-both}
 use Rattle.light_bounds.specs.declared.light_bounds.LightBounds.{LightBounds}
-use Rattle.light_nodes.specs.Nodes.{LightBVHNode, leaf as leafNode, interior, invalidIndex, nodeWords, nodeAt, boundsAt}
+use Rattle.light_nodes.specs.Nodes.{LightBVHNode, leaf as leafNode, interior, invalidIndex, nodeWords, nodeAt}
 use Rattle.light_nodes.specs.Tree.{Tree, leaf, fork, bounds, leaves, leafHandles, rightPlace}
 use Rattle.light_nodes.specs.TreeLaws.{leaves-pos, nodeAt-past}
 use Rattle.light_bvh.specs.Build.{LightBVH, isPowered, boundedHandles, nodesWritten, tableWritten}
@@ -261,14 +261,14 @@ module _ (ws : List ℕ) (b : LightBVH) (parts : Parts ws b) where
 -- ---- whose tree stands in its words
 
 module _ (ws : List ℕ) (b : LightBVH) (parts : Parts ws b) where
-  pub places : 0 < b .k → reached (nodesWritten b) (b .k) 0 ≡ placesFrom 0 (2 * b .k - 1)
-  places some-k = go (b .tree) refl
+  pub places : 0 < b .k → (n : ℕ) → b .k ≤ n → reached (nodesWritten b) n 0 ≡ placesFrom 0 (2 * b .k - 1)
+  places some-k n deep = go (b .tree) refl
     where
-      go : (o : Option Tree) → b .tree ≡ o → reached (nodesWritten b) (b .k) 0 ≡ placesFrom 0 (2 * b .k - 1)
+      go : (o : Option Tree) → b .tree ≡ o → reached (nodesWritten b) n 0 ≡ placesFrom 0 (2 * b .k - 1)
       go none is = absurd (omega (arith, accepted-none ws b parts is))
       go (some t) is =
           let size = accepted-leaves ws b t parts is in
-          places-reached (nodesWritten b) (b .k) 0 invalidIndex t (accepted-stands ws b t parts is) (omega arith) ∙ rw size
+          places-reached (nodesWritten b) n 0 invalidIndex t (accepted-stands ws b t parts is) (omega arith) ∙ rw size
 
   pub boxes : (i l r p : ℕ) → nodeAt (nodesWritten b) i ≡ given (interior l r p) → HoldsChildren (nodesWritten b) i l r
   boxes i l r p e = go (b .tree) refl

@@ -1,6 +1,5 @@
 -- A tree that stands in words: each of its nodes is read at its place. Definitions only. Assumes nothing.
 use Prim.Native.Nat.{ℕ, _+_}
-use mathlib.Core.Path.{_≡_}
 use mathlib.Core.List.{List}
 use lib.Ieee.{Float}
 use Rattle.words.specs.Answers.{given, _then_}

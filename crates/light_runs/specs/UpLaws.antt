@@ -1,13 +1,11 @@
 -- The walk up from where a draw ended. Where a draw from a standing tree finds a light, the walk up from the light's leaf enters the draw's places in reverse
--- and gives a chance (`ascend-walk`); the draw ends at the light's place and enters no more places than there are leaves (`walk-place`, `walk-length`). Assumes
--- nothing.
+-- and gives a chance (`ascend-walk`); the draw enters no more places than there are leaves (`walk-length`). Assumes nothing.
 use Prim.Native.Nat.{ℕ, zero, suc, _+_, _*_, _-_, _≤_}
 use mathlib.Core.Path.{_≡_, refl, ap, sym, _∙_}
 use mathlib.Core.Bool.{Bool, true, false, cond}
 use mathlib.Core.List.{List, [], _∷_, _++_, append-assoc}
 use mathlib.Core.Logic.{_⊎_, inl, inr, ⊎-elim}
-use mathlib.Core.Option.{Option, none, some, Option·some-injective, Option·none-ne-some}
-use native.Mathlib.Numerals.{add-one}
+use mathlib.Core.Option.{some, Option·some-injective, Option·none-ne-some}
 use native.Mathlib.Omega.{arith}
 use borrow.Author.Tests.{eq-eqb, ne-eqb}
 use lib.Dec.{eqb}
@@ -21,12 +19,11 @@ use Rattle.light_bounds.specs.Importance.{weigh}
 use Rattle.light_bounds.specs.declared.importance.Query.{Query}
 use Rattle.light_bounds.specs.declared.light_bounds.LightBounds.{LightBounds}
 use Rattle.light_nodes.specs.Nodes.{LightBVHNode, leaf as leafNode, interior, invalidIndex, parent, nodeAt}
-use Rattle.light_nodes.specs.Tree.{Tree, leaf, fork, bounds, leaves, leafHandles, rightPlace}
+use Rattle.light_nodes.specs.Tree.{Tree, leaf, fork, bounds, leaves, rightPlace}
 use Rattle.light_nodes.specs.TreeLaws.{leaves-pos, root}
 use Rattle.light_sampler.specs.Fork.{Turn, neither, left, right, most, parted, fork as forkOf}
 use Rattle.light_sampler.specs.Walks.{Walked, entering, Draw, weights, taken, part, partOf, rise, risen, upward, ascend}
-use Rattle.tree_laws.specs.PlaceLaws.{headEnd, placeOf, placeOf-none}
-use Rattle.tree_laws.specs.StretchLaws.{count, count-append}
+use Rattle.tree_laws.specs.PlaceLaws.{headEnd}
 use Rattle.light_runs.specs.DemandWords.{reversed}
 use Rattle.light_runs.specs.DownLaws.{leaves-weighed, weights-standing}
 use Rattle.light_runs.specs.StandingLaws.{stands-root}
@@ -246,78 +243,3 @@ walk-length at (weightedFork w l r) c u =
     (w then λ (x : Float × Float). given (forkOf (x .0) (x .1) u)) (leavesOf l + leavesOf r - 1)
     (λ d v. omega (arith, walk-length (at + 1) l d v)) (λ d v. omega (arith, walk-length (rightOf at l) r d v)) in
     omega arith
-
--- the light that is found is a leaf, and where it stands once, the last of the draw's places is its place
-record Ends (at : ℕ) (t : Tree) (h : ℕ) (drawn : List ℕ) : Type 0 where
-  place : ℕ
-  before : List ℕ
-  last-is : reversed drawn ≡ place ∷ before
-  counted : 1 ≤ count h (leafHandles t)
-  place-is : count h (leafHandles t) ≡ 1 → placeOf at t h ≡ some place
-
-module _ (at h : ℕ) (b : LightBounds) (l r : Tree) (x w : Walked Draw) (e : x ≡ entering at w) where
-  ends-left : Ends (at + 1) l h (w .places) → Ends at (fork b l r) h (x .places)
-  unfolding reversed leafHandles placeOf
-  ends-left end =
-      let sum = count-append h (leafHandles l) (leafHandles r) in
-      let some-l = end .counted in
-      rw e
-      record {
-        place = end .place;
-        before = end .before ++ (at ∷ []);
-        last-is = ap (λ (xs : List ℕ). xs ++ (at ∷ [])) (end .last-is);
-        counted = omega arith;
-        place-is = λ one. rw (← add-one at, end .place-is (omega arith));
-      }
-
-  ends-right : Ends (rightPlace at l) r h (w .places) → Ends at (fork b l r) h (x .places)
-  unfolding reversed leafHandles placeOf
-  ends-right end =
-      let sum = count-append h (leafHandles l) (leafHandles r) in
-      let some-r = end .counted in
-      rw e
-      record {
-        place = end .place;
-        before = end .before ++ (at ∷ []);
-        last-is = ap (λ (xs : List ℕ). xs ++ (at ∷ [])) (end .last-is);
-        counted = omega arith;
-        place-is = λ one. rw (placeOf-none (suc at) l h (omega arith)) (end .place-is (omega arith));
-      }
-
-walk-ends : (q : Query) (t : Tree) (at : ℕ) (c u : Float) (h : ℕ) (c′ : Float) → walk at (weighed q t) c u .outcome ≡ given (some (h, c′))
-    → Ends at t h (walk at (weighed q t) c u .places)
-unfolding walk weighed leafHandles placeOf count reversed
-walk-ends q (leaf k b) at c u h c′ found =
-    let same = sym (leaf-found k h c c′ found) in
-    record {
-      place = at;
-      before = [];
-      last-is = refl;
-      counted = rw (eq-eqb h k same) (omega arith);
-      place-is = λ _. rw (eq-eqb h k same);
-    }
-walk-ends q (fork b l r) at c u h c′ found =
-    let went = weighed-went q b l r at c u (h, c′) found in
-    let d = went .chance in
-    let v = went .within in
-    ⊎-elim
-    (λ e. ends-left at h b l r (walk at (weighed q (fork b l r)) c u) (walk (at + 1) (weighed q l) d v) e
-    (walk-ends q l (at + 1) d v h c′ (outcome-of e ∙ found)))
-    (λ e. ends-right at h b l r (walk at (weighed q (fork b l r)) c u) (walk (rightPlace at l) (weighed q r) d v) e
-    (walk-ends q r (rightPlace at l) d v h c′ (outcome-of e ∙ found)))
-    (went .way)
-
-module _ (q : Query) (t : Tree) (at : ℕ) (c u : Float) (h : ℕ) (c′ : Float) (found : walk at (weighed q t) c u .outcome ≡ given (some (h, c′))) where
-  -- the light that is found is a leaf
-  pub walk-counted : 1 ≤ count h (leafHandles t)
-  walk-counted = walk-ends q t at c u h c′ found .counted
-
-  -- and where it stands once, the draw's last place is its place
-  pub walk-place : (i : ℕ) (rest : List ℕ) → reversed (walk at (weighed q t) c u .places) ≡ i ∷ rest → count h (leafHandles t) ≡ 1 → placeOf at t h ≡ some i
-  walk-place i rest last once =
-      let end = walk-ends q t at c u h c′ found in
-      end .place-is once ∙ ap firstIn (sym (end .last-is) ∙ last)
-    where
-      firstIn : List ℕ → Option ℕ
-      firstIn [] = none
-      firstIn (x ∷ xs) = some x

@@ -7,7 +7,7 @@ use lib.Ieee.{Float}
 use Rattle.ieee.specs.OrderLaws.{nonneg}
 use Rattle.words.specs.Answers.{Answer, given, _then_}
 use Rattle.words.proofs.AnswerLaws.{Gives}
-use Rattle.light_sampler.specs.Fork.{Turn, fork as forkOf}
+use Rattle.light_sampler.specs.Fork.{fork as forkOf}
 use Rattle.light_sampler.specs.Walks.{Walked, ended, entering, Draw, taken}
 
 pub data Weighted : Type 0 where

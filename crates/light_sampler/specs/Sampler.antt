@@ -1,5 +1,5 @@
--- `bvh_light_sampler_sample` and `bvh_light_sampler_pmf` of `light_bvh.rs`, over words as little-endian bytes: document 01's checks, then the walk. A draw and a
--- chance by name are the outcomes of `sampleWalk` and `pmfWalk`, which also tell the places entered. Definitions only. Assumes nothing.
+-- `bvh_light_sampler_sample` and `bvh_light_sampler_pmf` of `light_bvh.rs`, over words as little-endian bytes: document 01's checks, then the walk. A draw and
+-- a chance by name are the outcomes of `sampleWalk` and `pmfWalk`, which also tell the places entered. Definitions only. Assumes nothing.
 use Prim.Native.Nat.{ℕ, zero, suc, _/_, _%_}
 use mathlib.Core.Bool.{cond, _&&_}
 use mathlib.Core.List.{List}

@@ -1,6 +1,6 @@
--- The two walks over the words of a tree, any words: `descend` from the root by u, `ascend` from a leaf by parent words. Each gives, of the one walk that it is,
--- the outcome and the places that it enters, in their order. Nodes are judged as `light_bvh.rs` judges them: the kind when a node is entered, the record when it
--- is weighed, the left child in full before the right one is looked for. Definitions only. Assumes nothing.
+-- The two walks over the words of a tree, any words: `descend` from the root by u, `ascend` from a leaf by parent words. Each gives, of the one walk that it
+-- is, the outcome and the places that it enters, in their order. Nodes are judged as `light_bvh.rs` judges them: the kind when a node is entered, the record
+-- when it is weighed, the left child in full before the right one is looked for. Definitions only. Assumes nothing.
 use Prim.Native.Nat.{ℕ, zero, suc, _+_}
 use mathlib.Core.Bool.{cond}
 use mathlib.Core.List.{List, [], _∷_}
