@@ -2,18 +2,18 @@
 -- (`Demand3`), and that it holds of every block that build accepts (`demand-3`). Beside it, in a planner's words: the u that draw a lamp are those from one
 -- float to another, perhaps none (`u-from-to`). DemandWords has the words of the sentences. Assumes nothing.
 use Prim.Native.Nat.{ℕ, _*_, _-_, _≤_, _<_}
-use mathlib.Core.Path.{_≡_}
+use mathlib.Core.Path.{_≡_, sym}
 use mathlib.Core.List.{List}
 use mathlib.Core.Logic.{_⊎_, _↔_}
 use lib.Dec.{T}
 use lib.Ieee.{Float, le}
-use lib.ListN.{length}
+use lib.ListN.{length, getD}
 use Rattle.words.specs.Answers.{given}
 use Rattle.light_bounds.specs.declared.importance.Query.{Query}
 use Rattle.light_nodes.specs.Nodes.{leaf, interior, invalidIndex, nodeAt}
 use Rattle.light_bvh.specs.Build.{LightBVH, isPowered, buildLightBvh, nodesWritten, tableWritten}
 use Rattle.light_sampler.specs.Sampler.{pmf}
-use Rattle.tree_laws.specs.AcceptedTree.{accepted-parts}
+use Rattle.tree_laws.specs.AcceptedTree.{accepted-parts, handles-count}
 use Rattle.light_runs.specs.AcceptedRuns.{unbroken, leaf-order, upward, from-one-to-another}
 use Rattle.light_runs.specs.DemandWords.{FromZeroToOne, InOrder, nodes, table, placeOf, Draws, drawEnters, nameEnters, reversed, poweredBelow, reached}
 use Rattle.light_runs.specs.DemandWords.{placesFrom, HoldsChildren}
@@ -28,6 +28,8 @@ pub record Demand3 (ws : List ℕ) (b : LightBVH) : Type 0 where
   -- a lamp's upward walk meets exactly the draw's nodes, in reverse, and its chance is given
   pub upward : (q : Query) (u : Float) → FromZeroToOne u → (h : ℕ) → Draws b q u h
       → (nameEnters b q h ≡ reversed (drawEnters b q u)) × (c : Float) × (pmf (nodes b) (table b) q h ≡ given c)
+  -- the lamps are the block's records
+  pub lamps : b .rows ≡ getD ws 0 0
   -- k is the number of lamps with a phi above 0, and there are 2 k - 1 nodes of sixteen words, none for k = 0
   pub k-counted : b .k ≡ poweredBelow ws (b .rows)
   pub node-words : length (nodesWritten b) ≡ 16 * (2 * b .k - 1)
@@ -54,6 +56,7 @@ module _ (lights : ℕ) (ws : List ℕ) (nodesLent tableLent workLent : ℕ) (b 
         unbroken = unbroken ws b parts;
         leaf-order = leaf-order ws b parts;
         upward = upward ws b parts;
+        lamps = sym (handles-count ws (b .rows) (parts .labelled));
         k-counted = k-counted ws b parts;
         node-words = node-words ws b parts;
         places = places ws b parts;

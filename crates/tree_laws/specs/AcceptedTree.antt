@@ -33,7 +33,7 @@ use Rattle.tree_laws.specs.StretchLaws.{count, counted-all}
 
 -- ---- what was checked
 
-handles-count : (ws : List ℕ) (m : ℕ) → blockHandles ws ≡ given m → getD ws 0 0 ≡ m
+pub handles-count : (ws : List ℕ) (m : ℕ) → blockHandles ws ≡ given m → getD ws 0 0 ≡ m
 unfolding blockHandles
 handles-count ws m e = go (below (handleAt ws) (getD ws 0 0)) e
   where
