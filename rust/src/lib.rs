@@ -25,4 +25,9 @@ pub mod timing;
 pub mod tree_runs;
 pub mod trees;
 pub mod trig;
+#[cfg(reference)]
+pub mod walk_oracle;
+#[cfg(reference)]
+pub mod walk_runs;
+pub mod walks;
 pub mod weights;
