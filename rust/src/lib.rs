@@ -6,6 +6,7 @@ pub mod blocks;
 pub mod cases;
 pub mod functions;
 pub mod lent;
+pub mod light_runs;
 pub mod lists;
 pub mod proved;
 pub mod records;
