@@ -1,7 +1,5 @@
 // A chance by name (specs/Sampler.antt): from the light's leaf up to the root, by parent words.
 ghost use mathlib.Core.Path.{_≡_};
-ghost use Prim.Native.Nat.{_+_, _/_, _<_, _≤_, _^_};
-ghost use lib.ListN.{length};
 ghost use Rattle.ieee.specs.Single.{onef};
 ghost use Rattle.words.specs.Answers.{counted};
 ghost use Rattle.words.specs.LittleEndian.{wordsOf};
@@ -85,19 +83,19 @@ fn ascend(nodes: &[u8], query: Query, count: usize, leaf: u32) -> Chance
     ensures { λ r. ⌜ chance r ≡ ascendOf (wordsOf (now (nodes .entry))) query count leaf onef .outcome ⌝ }
 {
     let mut entries = count;
-    let mut place: u32 = leaf;
+    let mut place = leaf as usize;
     let mut pmf: f32 = 1.0;
     while entries > 0 {
         entries -= 1;
-        match parent_at(nodes, place as usize) {
+        match parent_at(nodes, place) {
             Above::Parent(parent) => {
                 if parent == INVALID_INDEX {
                     return Chance::Pmf(pmf);
                 }
-                match rise(nodes, query, place as usize, parent) {
+                match rise(nodes, query, place, parent) {
                     Factor::Part(share) => {
                         pmf = pmf * share;
-                        place = parent;
+                        place = parent as usize;
                     }
                     Factor::Nought => {
                         return Chance::Pmf(0.0);

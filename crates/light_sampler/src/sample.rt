@@ -1,7 +1,6 @@
 // A draw (specs/Sampler.antt): from the root down, into one child at each fork.
 ghost use mathlib.Core.Path.{_≡_};
-ghost use Prim.Native.Nat.{_/_, _<_, _≤_, _^_};
-ghost use lib.ListN.{length};
+ghost use Prim.Native.Nat.{_<_, _^_};
 ghost use Rattle.ieee.specs.Single.{onef};
 ghost use Rattle.words.specs.Answers.{counted};
 ghost use Rattle.words.specs.LittleEndian.{wordsOf};
@@ -46,7 +45,6 @@ fn turn(nodes: &[u8], query: Query, place: usize, right: u32, u: f32) -> Way
 
 // The walk: at most `count` nodes are entered.
 fn descend(nodes: &[u8], query: Query, count: usize, u: f32) -> Drawn
-    requires { ⌜ count ≤ 8191 ⌝ }
     ensures { λ r. ⌜ drawn r ≡ descendOf (wordsOf (now (nodes .entry))) query count 0 onef u .outcome ⌝ }
 {
     let mut entries = count;
@@ -60,19 +58,21 @@ fn descend(nodes: &[u8], query: Query, count: usize, u: f32) -> Drawn
                 return Drawn::Light(handle, pmf);
             }
             Node::Interior(_, right, _) => match turn(nodes, query, place, right, u) {
-                Way::On(Turn::Left(share, next)) => {
-                    pmf = pmf * share;
-                    u = next;
-                    place += 1;
-                }
-                Way::On(Turn::Right(share, next)) => {
-                    pmf = pmf * share;
-                    u = next;
-                    place = right as usize;
-                }
-                Way::On(Turn::Neither) => {
-                    return Drawn::Nothing;
-                }
+                Way::On(to) => match to {
+                    Turn::Left(share, next) => {
+                        pmf = pmf * share;
+                        u = next;
+                        place += 1;
+                    }
+                    Turn::Right(share, next) => {
+                        pmf = pmf * share;
+                        u = next;
+                        place = right as usize;
+                    }
+                    Turn::Neither => {
+                        return Drawn::Nothing;
+                    }
+                },
                 Way::Refused(why) => {
                     return Drawn::Refused(why);
                 }
@@ -102,9 +102,9 @@ fn check_sample(nodes: &[u8], u: f32) -> Counted
     }
 }
 
-// Draws a light for a query by u from 0 to 1, with the product of the shares along the way as its chance. Refusals: 2 over 8,191 nodes, 1 of a part of a node, 11
-// of u; then those that the walk meets, 12 where the words do not hang together. Without nodes, and where neither branch of a fork has weight, none is drawn; a
-// lone leaf is drawn unweighed.
+// Draws a light for a query by u from 0 to 1, with the product of the shares along the way as its chance. Refusals: 2 over 8,191 nodes, 1 of a part of a node,
+// 11 of u; then those that the walk meets, 12 where the words do not hang together. Without nodes, and where neither branch of a fork has weight, none is drawn;
+// a lone leaf is drawn unweighed.
 pub fn bvh_light_sampler_sample(nodes: &[u8], query: Query, u: f32) -> Drawn
     ensures { λ r. ⌜ drawn r ≡ sample (now (nodes .entry)) query u ⌝ }
 {

@@ -29,7 +29,7 @@ pub enum Weights {
 }
 
 // The weights of the node's children: the left one, behind the node, in full before the right one is looked for.
-pub fn weigh_children(nodes: &[u8], query: Query, place: usize, right: u32) -> Weights
+pub(crate) fn weigh_children(nodes: &[u8], query: Query, place: usize, right: u32) -> Weights
     requires { ⌜ place < 2 ^ 60 ⌝ }
     ensures { λ r. ⌜ bothWeights r ≡ weightsOf (wordsOf (now (nodes .entry))) query place right ⌝ }
 {

@@ -1,5 +1,5 @@
 -- Answers as words, for C. A record is thirteen words, a query six; too few words or an unknown side are refusal 1. Definitions only. Assumes nothing.
-use Prim.Native.Nat.{ℕ, _+_, _%_}
+use Prim.Native.Nat.{ℕ, _+_, _*_, _%_}
 use mathlib.Core.Bool.{cond}
 use mathlib.Core.List.{List, _∷_, _++_}
 use mathlib.Core.Option.{Option, none, some}
@@ -16,6 +16,7 @@ use Rattle.light_bounds.specs.Vecmath.{vec}
 use Rattle.light_bounds.specs.declared.bounds.Bounds3.{Bounds3}
 use Rattle.light_bounds.specs.declared.importance.Query.{Query}
 use Rattle.light_bounds.specs.declared.light_bounds.LightBounds.{LightBounds}
+use Rattle.light_sampler.specs.Walks.{Draw}
 
 -- a count, or the largest number where it is refused
 abbrev pub countCode : Answer ℕ → ℕ
@@ -57,3 +58,15 @@ abbrev pub summarised : Answer (ℕ × Option Bounds3) → List ℕ → List ℕ
 summarised (given (k, some b)) before = summaryWords before (summaryList k b)
 summarised (given (k, none)) before = summaryWords before (summaryList k zeroBox)
 summarised (refused n) before = before
+
+-- ---- draws
+
+-- point, normal
+abbrev pub queryAt : Float → Float → Float → Float → Float → Float → Query
+queryAt px py pz nx ny nz = record { p = vec px py pz; n = vec nx ny nz }
+
+-- the light above its chance's bits; 2^62 where none is drawn, 2^63 and the refusal's number
+abbrev pub drawCode : Answer Draw → ℕ
+drawCode (given (some (h, p))) = h * 0x1_0000_0000 + toBits binary32 p
+drawCode (given none) = 0x4000_0000_0000_0000
+drawCode (refused n) = 0x8000_0000_0000_0000 + n

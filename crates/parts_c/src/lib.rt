@@ -14,6 +14,7 @@ ghost use Rattle.words.specs.LittleEndian.{wordsOf, bytesOf, setWord, wordCount
 ghost use Rattle.words.specs.Answers.{counted, code};
 ghost use Rattle.words.specs.Tray.{tray};
 ghost use Rattle.parts_c.specs.Codes.{countCode, valueCode, validateWords, importanceWords, unionWords, queryOf, summaryWords, summaryList, summarised};
+ghost use Rattle.parts_c.specs.Codes.{queryAt, drawCode};
 ghost use Rattle.trig.specs.Trig.{cos as cosOf, sin as sinOf, acos as acosOf, asin as asinOf};
 ghost use Rattle.light_bounds.specs.Bounds.{validity};
 ghost use Rattle.light_bounds.specs.Importance.{weight};
@@ -23,6 +24,7 @@ ghost use Rattle.lamps.specs.Block.{blockCheck, blockWords, packExhaustiveBound
 ghost use Rattle.lamps.specs.Build.{buildLightBounds};
 ghost use Rattle.alias_table.specs.AliasTable.{Bin, buildPowerAliasTable, binWords};
 ghost use Rattle.light_bvh.specs.Build.{buildLightBvh, nodesWritten, tableWritten, workWritten, nodesReserve, workReserve, summary};
+ghost use Rattle.light_sampler.specs.Sampler.{sample, pmf, drawn, chance};
 use alias_table::build_power_alias_table;
 use lamps::block::check_block;
 use lamps::build::build_light_bounds;
@@ -43,6 +45,10 @@ use light_bounds::record_words::write_record;
 use light_bounds::vecmath::Vec3;
 use light_bvh::build::Built;
 use light_bvh::build::build_light_bvh;
+use light_sampler::pmf::Chance;
+use light_sampler::pmf::bvh_light_sampler_pmf;
+use light_sampler::sample::Drawn;
+use light_sampler::sample::bvh_light_sampler_sample;
 use words::answers::Counted;
 use words::answers::counted_code;
 use words::fill::zero_words;
@@ -469,4 +475,77 @@ pub extern "C" fn tree_build_light_bvh(
         }
         Built::Refused(why) => refusal_number(why),
     }
+}
+
+// ---- draws and chances
+
+// Point, normal.
+fn query_at(px: f32, py: f32, pz: f32, nx: f32, ny: f32, nz: f32) -> Query
+    ensures { λ r. ⌜ r ≡ queryAt px py pz nx ny nz ⌝ }
+{
+    let p = Vec3 {
+        x: px,
+        y: py,
+        z: pz,
+    };
+    let n = Vec3 {
+        x: nx,
+        y: ny,
+        z: nz,
+    };
+    Query { p, n }
+}
+
+fn draw_code(answer: Drawn) -> u64
+    ensures { λ r. ⌜ r ≡ drawCode (drawn answer) ⌝ }
+{
+    match answer {
+        Drawn::Light(handle, p) => handle as u64 * 0x1_0000_0000 + word_of_f32(p) as u64,
+        Drawn::Nothing => 0x4000_0000_0000_0000,
+        Drawn::Refused(why) => 0x8000_0000_0000_0000 + refusal_number(why) as u64,
+    }
+}
+
+// The light above its chance's bits; 2^62 where none is drawn, 2^63 and the refusal's number.
+#[no_mangle]
+pub extern "C" fn sampler_sample(
+    nodes: &[u8],
+    px: f32,
+    py: f32,
+    pz: f32,
+    nx: f32,
+    ny: f32,
+    nz: f32,
+    u: f32,
+) -> u64
+    ensures { λ r. ⌜ r ≡ drawCode (sample (now (nodes .entry)) (queryAt px py pz nx ny nz) u) ⌝ }
+{
+    draw_code(bvh_light_sampler_sample(nodes, query_at(px, py, pz, nx, ny, nz), u))
+}
+
+fn chance_code(answer: Chance) -> u64
+    ensures { λ r. ⌜ r ≡ valueCode (chance answer) ⌝ }
+{
+    match answer {
+        Chance::Pmf(p) => word_of_f32(p) as u64,
+        Chance::Refused(why) => 0x1_0000_0000 + refusal_number(why) as u64,
+    }
+}
+
+// The chance's bits, or 2^32 and the refusal's number.
+#[no_mangle]
+pub extern "C" fn sampler_pmf(
+    nodes: &[u8],
+    table: &[u8],
+    px: f32,
+    py: f32,
+    pz: f32,
+    nx: f32,
+    ny: f32,
+    nz: f32,
+    handle: u32,
+) -> u64
+    ensures { λ r. ⌜ r ≡ valueCode (pmf (now (nodes .entry)) (now (table .entry)) (queryAt px py pz nx ny nz) handle) ⌝ }
+{
+    chance_code(bvh_light_sampler_pmf(nodes, table, query_at(px, py, pz, nx, ny, nz), handle))
 }
