@@ -21,6 +21,7 @@ pub mod stored_alias;
 pub mod stored_bounds;
 pub mod stored_lamps;
 pub mod stored_trees;
+pub mod stored_walks;
 pub mod timing;
 #[cfg(reference)]
 pub mod tree_runs;
