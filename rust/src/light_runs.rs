@@ -5,15 +5,16 @@ use crate::cases::Random;
 use crate::proved;
 use crate::records::{Query, Record};
 use crate::trees::{INTERIOR, LEAF, PAYLOAD};
-use crate::walks::{beside, words, Drawn, Words, MOST_U, NODE_BYTES, NONE};
+use crate::walks::{beside, words, Drawn, Tree, Words, MOST_U, NODE_BYTES, NONE};
 
 pub type Draw<'a> = &'a dyn Fn(&[u8], &Query, f32) -> Drawn;
 
 /// The lamps of a tree at the most, and the forks whose edges are tried.
 const LAMPS: u64 = 40;
 const EDGES: usize = 24;
-/// Random u beside those at the edges.
+/// Random u beside those at the edges, and the edges that are found to the last bit.
 const ANY_U: usize = 12;
+const SHARPENED: usize = 6;
 
 /// How demand 3 is violated.
 #[derive(Clone, Copy, Debug, PartialEq)]
@@ -64,7 +65,7 @@ impl std::fmt::Display for Search {
 
 /// What of the last paragraph of demand 3 is not so: 2k - 1 nodes, each reached once by child words from the first; a leaf for each lamp with
 /// power, where the table says, and no other; each box holds its children's. And each child's parent word is right.
-fn shape_flaw(records: &[Record], words: &Words) -> Option<&'static str> {
+pub fn shape_flaw(records: &[Record], words: &Words) -> Option<&'static str> {
     let powered = |record: &Record| f32::from_bits(record[9]) > 0.0;
     let k = records.iter().filter(|record| powered(record)).count();
     if words.nodes.len() != (2 * k).saturating_sub(1) || words.table.len() != records.len() {
@@ -110,26 +111,56 @@ fn holds(outer: &Record, inner: &Record) -> bool {
     (0..3).all(|i| value(outer, i) <= value(inner, i) && value(outer, i + 3) >= value(inner, i + 3))
 }
 
-/// In order from 0 to 1: both zeros, the ends, u at the edges between lamps and beside them, and random ones.
+/// Both zeros, the ends, u at the edges between lamps and beside them, and random ones.
 fn us(random: &mut Random, words: &Words, query: &Query) -> Vec<f32> {
     let edges = words.edges(query, |record, query| proved::bounds_importance(record, query), EDGES);
     let mut us = vec![0.0, -0.0, 1.0, 0.5, beside(MOST_U, 1), MOST_U, beside(MOST_U, -1), beside(0.0, 1)];
     us.extend(edges.iter().flat_map(|edge| [-2, -1, 0, 1, 2].map(|by| beside(*edge, by))));
     us.extend((0..ANY_U).map(|_| random.within(1.0).abs()));
-    us.retain(|u| (0.0..=1.0).contains(u));
-    us.sort_by(f32::total_cmp);
-    us.dedup_by_key(|u| u.to_bits());
     us
 }
 
-/// The first two u, by their places, between which the runs or their order are broken.
-fn broken_order(us: &[f32], drawn: &[Drawn], table: &[u32]) -> Option<(Violation, usize, usize)> {
-    let lamp = |i: usize| drawn[i].ok().flatten().map(|(handle, _)| handle);
+fn lamp(drawn: &Drawn) -> Option<u32> {
+    drawn.ok().flatten().map(|(handle, _)| handle)
+}
+
+/// What some u draw, in the order of the u; -0 stands before 0.
+fn all_drawn(us: Vec<f32>, draw: impl Fn(f32) -> Drawn) -> Vec<(f32, Drawn)> {
+    let mut us: Vec<f32> = us.into_iter().filter(|u| (0.0..=1.0).contains(u)).collect();
+    us.sort_by(f32::total_cmp);
+    us.dedup_by_key(|u| u.to_bits());
+    us.into_iter().map(|u| (u, draw(u))).collect()
+}
+
+/// More u where neighbours draw otherwise: by halves until the two are next to each other, and beside these.
+fn sharpened(drawn: &[(f32, Drawn)], draw: impl Fn(f32) -> Drawn) -> Vec<f32> {
+    let mut more = Vec::new();
+    let edges = drawn.windows(2).filter(|pair| lamp(&pair[0].1) != lamp(&pair[1].1));
+    for pair in edges.take(SHARPENED) {
+        let [mut low, mut high] = [pair[0].0, pair[1].0].map(|u| u.abs().to_bits());
+        while low + 1 < high {
+            let middle = low + (high - low) / 2;
+            let u = f32::from_bits(middle);
+            more.push(u);
+            if lamp(&draw(u)) == lamp(&pair[0].1) {
+                low = middle;
+            } else {
+                high = middle;
+            }
+        }
+        more.extend((-3..=3).map(|by| beside(f32::from_bits(low), by)));
+    }
+    more
+}
+
+/// The first two, by their places, between which the runs or their order are broken.
+fn broken_order(drawn: &[(f32, Drawn)], table: &[u32]) -> Option<(Violation, usize, usize)> {
     let place = |lamp: u32| table.get(lamp as usize).copied().unwrap_or(NONE);
-    if let Some(i) = (1..us.len()).find(|i| us[*i] == us[i - 1] && lamp(*i) != lamp(i - 1)) {
+    let equal = |i: &usize| drawn[*i].0 == drawn[i - 1].0 && lamp(&drawn[*i].1) != lamp(&drawn[i - 1].1);
+    if let Some(i) = (1..drawn.len()).find(equal) {
         return Some((Violation::Run, i - 1, i));
     }
-    let lamps: Vec<(usize, u32)> = (0..us.len()).filter_map(|i| Some((i, lamp(i)?))).collect();
+    let lamps: Vec<(usize, u32)> = drawn.iter().enumerate().filter_map(|(i, (_, drawn))| Some((i, lamp(drawn)?))).collect();
     lamps.windows(2).find_map(|pair| {
         let [(i, first), (j, second)] = [pair[0], pair[1]];
         match place(first).cmp(&place(second)) {
@@ -167,8 +198,7 @@ fn spoil_parent(nodes: &mut [u8], place: usize) {
 /// one order, root first or leaf first, as their parent words were found right.
 fn followed(
     words: &Words,
-    nodes: &[u8],
-    table: &[u8],
+    Tree { nodes, table }: &Tree,
     draw: Draw,
     query: &Query,
     u: f32,
@@ -179,7 +209,8 @@ fn followed(
     if named.is_err() {
         return Some(Violation::Unnamed);
     }
-    let way = way_up(words, words.table[handle as usize]);
+    let Some(leaf) = words.table.get(handle as usize).filter(|leaf| **leaf != NONE) else { return Some(Violation::DrawnNodes) };
+    let way = way_up(words, *leaf);
     let (mut beside_it, mut spoilt) = (nodes.to_vec(), nodes.to_vec());
     for place in (0..words.nodes.len()).filter(|place| !way.contains(place)) {
         spoil_kind(&mut beside_it, place);
@@ -206,28 +237,31 @@ fn followed(
 impl Search {
     fn query(&mut self, random: &mut Random, words: &Words, draw: Draw, query: &Query) -> Option<(Violation, String)> {
         let tree = words.tree();
-        let us = us(random, words, query);
-        let drawn: Vec<Drawn> = us.iter().map(|u| draw(&tree.nodes, query, *u)).collect();
-        self.draws += us.len() as u64;
-        self.none += drawn.iter().filter(|drawn| **drawn == Ok(None)).count() as u64;
-        let refused = drawn.iter().filter(|drawn| drawn.is_err()).count();
-        self.draws_refused += refused as u64;
-        self.mixed += u64::from(refused > 0 && drawn.iter().any(|drawn| matches!(drawn, Ok(Some(_)))));
+        let draw_at = |u| draw(&tree.nodes, query, u);
+        let mut us = us(random, words, query);
+        us.extend(sharpened(&all_drawn(us.clone(), draw_at), draw_at));
+        let drawn = all_drawn(us, draw_at);
+        let count = |of: fn(&Drawn) -> bool| drawn.iter().filter(|(_, drawn)| of(drawn)).count() as u64;
+        let refused = count(Result::is_err);
+        self.draws += drawn.len() as u64;
+        self.none += count(|drawn| *drawn == Ok(None));
+        self.draws_refused += refused;
+        self.mixed += u64::from(refused > 0 && count(|drawn| lamp(drawn).is_some()) > 0);
         let shown = |at: &[usize]| {
-            let draws: Vec<_> = at.iter().map(|i| format!("u {:08x} gives {:x?}", us[*i].to_bits(), drawn[*i])).collect();
+            let draws: Vec<_> = at.iter().map(|i| format!("u {:08x} gives {:x?}", drawn[*i].0.to_bits(), drawn[*i].1)).collect();
             format!("{draws:?}, query {query:08x?}, nodes {:08x?}, table {:x?}", words.nodes, words.table)
         };
-        if let Some((violation, i, j)) = broken_order(&us, &drawn, &words.table) {
+        if let Some((violation, i, j)) = broken_order(&drawn, &words.table) {
             return Some((violation, shown(&[i, j])));
         }
         // each lamp once
         let mut last = None;
-        for (i, given) in drawn.iter().enumerate() {
-            let Some(lamp) = given.ok().flatten().filter(|(handle, _)| last != Some(*handle)) else { continue };
-            last = Some(lamp.0);
+        for (i, (u, given)) in drawn.iter().enumerate() {
+            let Some((handle, chance)) = given.ok().flatten().filter(|(handle, _)| last != Some(*handle)) else { continue };
+            last = Some(handle);
             self.lamps += 1;
-            self.nan_chances += u64::from(lamp.1 == 0x7fc0_0000);
-            if let Some(violation) = followed(words, &tree.nodes, &tree.table, draw, query, us[i], lamp) {
+            self.nan_chances += u64::from(chance == 0x7fc0_0000);
+            if let Some(violation) = followed(words, &tree, draw, query, *u, (handle, chance)) {
                 return Some((violation, shown(&[i])));
             }
         }

@@ -32,6 +32,42 @@ fn demand_3() {
     }
 }
 
+/// What the search says of a tree that is not whole: of each head, child and parent word, each box and each table word.
+#[test]
+fn shapes() {
+    use coltoctober::light_runs::shape_flaw;
+    use coltoctober::trees::all_about;
+    use coltoctober::walks::Words;
+
+    let records = [0.0, 1.0, 3.0, 7.0].map(|x| all_about([x; 3], [x + 1.0; 3], if x == 3.0 { 0.0 } else { 1.0 }));
+    let sound = Words::built(coltoctober::proved::tree_build_light_bvh, &records).unwrap();
+    assert_eq!((sound.nodes.len(), shape_flaw(&records, &sound)), (5, None));
+    let flawed = |change: &dyn Fn(&mut Words)| {
+        let mut words = sound.clone();
+        change(&mut words);
+        shape_flaw(&records, &words).is_some()
+    };
+    for (place, node) in sound.nodes.iter().enumerate() {
+        let fork = sound.children(place).is_some();
+        for (word, bit) in (0..3).flat_map(|word| (0..32).map(move |bit| (word, bit))) {
+            // a leaf's right child is not read
+            assert!(flawed(&|words| words.nodes[place][word] ^= 1 << bit) || word == 1 && !fork, "{place} {word} {bit}");
+        }
+        for word in 3..9 {
+            let inward = f32::from_bits(node[word]) + if word < 6 { 0.5 } else { -0.5 };
+            assert!(!fork || flawed(&|words| words.nodes[place][word] = inward.to_bits()), "{place} {word}");
+        }
+    }
+    for (handle, bit) in (0..4).flat_map(|handle| (0..32).map(move |bit| (handle, bit))) {
+        assert!(flawed(&|words| words.table[handle] ^= 1 << bit) || sound.table[handle] == u32::MAX, "{handle} {bit}");
+    }
+    assert!(
+        flawed(&|words| words.table[2] = 0)
+            && flawed(&|words| words.nodes.truncate(4))
+            && flawed(&|words| words.nodes.push([0; 16]))
+    );
+}
+
 #[cfg(reference)]
 mod by_hand {
     use coltoctober::proved::{sampler_pmf, sampler_sample};
