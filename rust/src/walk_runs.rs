@@ -1,43 +1,26 @@
 //! Runs of the proved draws and chances against the oracle, over built trees and trees with words made wrong, counted by how each case
 //! ended.
 
+use crate::blocks::records;
 use crate::cases::Random;
+use crate::lent::Lent;
 use crate::lists::BLOCK_RECORD;
 use crate::proved;
 use crate::records::Query;
 use crate::reference::{self, marked, Branch};
 use crate::rooms::Room;
 use crate::runs::{Tally, OWN};
+use crate::stored::PATTERN;
 use crate::tree_runs::on_deep_stack;
 use crate::trees::NODE;
 use crate::walk_oracle::Decoded;
-use crate::walks::{wrong_words, Damage, Tree, Words, DAMAGES, MOST_NODES, NODE_BYTES};
+use crate::walks::{words, wrong_words, Damage, Tree, Words, DAMAGES, MOST_NODES, NODE_BYTES};
 
 /// How many lamps a random tree has at the most, and how many walks a tree is for.
 const LAMPS: u64 = 64;
 const WALKS: u64 = 16;
 /// One tree in so many is a room's.
 const ROOMS: u64 = 150;
-
-/// The bytes among others, so that they begin at any place and nothing past their end is 0.
-struct Among {
-    all: Vec<u8>,
-    at: usize,
-    len: usize,
-}
-
-impl Among {
-    fn new(random: &mut Random, bytes: &[u8]) -> Among {
-        let at = random.below(8) as usize;
-        let mut all = vec![0xa5; at + bytes.len() + NODE_BYTES];
-        all[at..at + bytes.len()].copy_from_slice(bytes);
-        Among { all, at, len: bytes.len() }
-    }
-
-    fn bytes(&self) -> &[u8] {
-        &self.all[self.at..self.at + self.len]
-    }
-}
 
 /// Rooms with their trees, made once for a run.
 struct Rooms(Vec<(Room, Words)>);
@@ -48,7 +31,7 @@ impl Rooms {
             let room = Room::new(random, lamps);
             let mut block = vec![0; 1 + BLOCK_RECORD * lamps];
             reference::build_light_bounds(&room.list, &mut block).unwrap();
-            let records: Vec<_> = crate::blocks::records(&block).copied().collect();
+            let records: Vec<_> = records(&block).copied().collect();
             (room, Words::built(reference::build_light_bvh, &records).unwrap())
         });
         Rooms(rooms.into())
@@ -60,8 +43,8 @@ struct Plot<'a> {
     room: Option<&'a Room>,
     sound: Words,
     damages: Vec<Damage>,
-    nodes: Among,
-    table: Among,
+    nodes: Lent<u8>,
+    table: Lent<u8>,
     decoded: Decoded,
 }
 
@@ -78,7 +61,7 @@ impl Plot<'_> {
     }
 
     fn of<'a>(random: &mut Random, room: Option<&'a Room>, sound: Words, damages: Vec<Damage>, tree: &Tree) -> Plot<'a> {
-        let [nodes, table] = [&tree.nodes, &tree.table].map(|bytes| Among::new(random, bytes));
+        let [nodes, table] = [&tree.nodes, &tree.table].map(|bytes| Lent::of(random, bytes, PATTERN as u8));
         Plot { room, sound, damages, nodes, table, decoded: Decoded::new(tree) }
     }
 
@@ -99,15 +82,15 @@ impl Plot<'_> {
 
     /// For a message, cut where it is long.
     fn shown(&self) -> String {
-        let nodes: Vec<_> = crate::walks::words(self.nodes.bytes()).chunks(NODE).take(16).map(<[u32]>::to_vec).collect();
-        let table = crate::walks::words(self.table.bytes());
-        let [nodes_len, table_len] = [self.nodes.len, self.table.len];
+        let nodes: Vec<_> = words(self.nodes.words()).chunks(NODE).take(16).map(<[u32]>::to_vec).collect();
+        let table = words(self.table.words());
+        let [nodes_len, table_len] = [&self.nodes, &self.table].map(|bytes| bytes.words().len());
         format!("{:?}, {nodes_len} bytes {nodes:08x?}, {table_len} bytes {:x?}", self.damages, &table[..table.len().min(24)])
     }
 
     fn draw(&self, tally: &mut Tally, query: &Query, u: f32) {
         let (expected, branches) = marked(|| self.decoded.sample(query, u));
-        let got = proved::sampler_sample(self.nodes.bytes(), query, u);
+        let got = proved::sampler_sample(self.nodes.words(), query, u);
         let chance = expected.ok().flatten().map(|(_, chance)| chance);
         let nodes = self.decoded.nodes();
         let mut more = self.more();
@@ -133,8 +116,8 @@ impl Plot<'_> {
 
     fn chance(&self, tally: &mut Tally, query: &Query, handle: u32) {
         let (expected, branches) = marked(|| self.decoded.pmf(query, handle));
-        let got = proved::sampler_pmf(self.nodes.bytes(), self.table.bytes(), query, handle);
-        let table = self.table.bytes().as_chunks::<4>().0;
+        let got = proved::sampler_pmf(self.nodes.words(), self.table.words(), query, handle);
+        let table = self.table.words().as_chunks::<4>().0;
         let leaf = table.get(handle as usize).map(|word| u32::from_le_bytes(*word));
         let mut more = self.more();
         let walked = branches.has(Branch::FromLeft) || branches.has(Branch::FromRight);
@@ -147,7 +130,7 @@ impl Plot<'_> {
             expected.is_ok() && walked && self.decoded.nodes() == MOST_NODES,
             expected == Err(12) && walked,
             expected == Err(12) && self.decoded.nodes() == 0,
-            expected == Err(2) && self.nodes.len % NODE_BYTES != 0,
+            expected == Err(2) && self.nodes.words().len() % NODE_BYTES != 0,
             self.decoded.by_reference(),
             !self.decoded.by_reference(),
             self.decoded.own_pmf(query, handle).is_some_and(|own| own != expected),
@@ -229,7 +212,7 @@ pub fn draws(seed: u64, cases: u64) -> Tally {
 
 pub fn chances(seed: u64, cases: u64) -> Tally {
     run(CHANCES, seed, cases, |random, plot, tally| {
-        let (query, handle) = (plot.query(random), random.walk_handle(plot.table.len / 4));
+        let (query, handle) = (plot.query(random), random.walk_handle(plot.table.words().len() / 4));
         plot.chance(tally, &query, handle);
     })
 }
@@ -239,13 +222,16 @@ pub fn each_word(seed: u64, trees: u64) -> [Tally; 2] {
     let mut random = Random::new(seed);
     let mut tallies = [DRAWS, CHANCES].map(|more| Tally::new(&labels(more)));
     for _ in 0..trees {
-        let sound = loop {
+        // a query that all is drawn for, so that an answer turns on the word
+        let (sound, query) = loop {
             let words = random.grown(reference::build_light_bvh, 4);
-            if (5..=7).contains(&words.nodes.len()) {
-                break words;
+            let (query, decoded) = (random.walk_query(&words), Decoded::new(&words.tree()));
+            if (5..=7).contains(&words.nodes.len())
+                && [0.0, 0.5, 1.0].iter().all(|u| matches!(decoded.sample(&query, *u), Ok(Some(_))))
+            {
+                break (words, query);
             }
         };
-        let query = random.walk_query(&sound);
         let edges = sound.edges(&query, reference::importance, 8);
         for (place, word) in (0..sound.nodes.len()).flat_map(|place| (0..NODE).map(move |word| (place, word))) {
             for wrong in wrong_words(place, sound.nodes.len()) {
