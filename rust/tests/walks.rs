@@ -298,13 +298,13 @@ coltoctober::differential! {
         // a fork and the root, each the other's child
         let up = changed(&row, &[(fork, 1, 0), (0, 2, fork as u32), (0, 1, fork as u32)]);
         (0..6).for_each(|handle| names(&up.tree(), &query, handle, Err(12)));
-        // right children in a chain: as many nodes are entered as there are
+        // both children of each fork are the node behind it: every node is entered, and the chance, halved each time, ends at 0
         let mut chain = pair();
         chain.nodes.resize(MOST_NODES, chain.nodes[1]);
         (0..MOST_NODES - 1).for_each(|place| chain.nodes[place] = chain.nodes[0]);
         (0..MOST_NODES - 1).for_each(|place| chain.nodes[place][1] = place as u32 + 1);
         let chain = chain.tree();
-        draws(&chain, &query, last, Decoded::new(&chain).sample(&query, 1.0));
+        draws(&chain, &query, last, Ok(Some((0, 0))));
         // a root that is its own right child: a u near 1 passes it too often, a lower one ends at the leaf in time
         let own = changed(&pair(), &[(0, 1, 0)]).tree();
         let answers = (0..=256).map(|i| i as f32 / 256.0).map(|u| {
