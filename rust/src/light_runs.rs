@@ -4,6 +4,7 @@
 use crate::cases::Random;
 use crate::proved;
 use crate::records::{Query, Record};
+use crate::standins;
 use crate::trees::{INTERIOR, LEAF, PAYLOAD};
 use crate::walks::{beside, words, Drawn, Tree, Words, MOST_U, NODE_BYTES, NONE};
 
@@ -310,7 +311,7 @@ pub enum Slip {
     RightFirst,
     /// u is held against a share by their words, so that -0 is above any.
     ByWords,
-    /// Every u draws the lamp of the first leaf, unweighed.
+    /// Every u draws the lamp of the first leaf by place; no fork is entered.
     OneLamp,
     /// A u between 3f7ffffe and 1 is refused.
     Gap,
@@ -326,6 +327,10 @@ impl Slip {
         if !(0.0..=1.0).contains(&u) || self == Slip::Gap && u > MOST_U && u < 1.0 {
             return Err(11);
         }
+        if self == Slip::OneLamp {
+            let first = words.nodes.iter().find(|node| node[0] & !PAYLOAD == LEAF);
+            return Ok(first.map(|leaf| (leaf[0] & PAYLOAD, 1f32.to_bits())));
+        }
         let weigh = |place: usize| {
             let record = words.record(place).filter(|record| record[12] < 2).ok_or(12u32)?;
             proved::bounds_importance(record, query).map(f32::from_bits)
@@ -334,12 +339,8 @@ impl Slip {
         for _ in 0..words.nodes.len() {
             let head = words.nodes[place][0];
             let Some([left, right]) = words.children(place) else {
-                return if head & !PAYLOAD == LEAF { Ok(Some((head & PAYLOAD, chance_word(chance)))) } else { Err(12) };
+                return if head & !PAYLOAD == LEAF { Ok(Some((head & PAYLOAD, standins::word(chance)))) } else { Err(12) };
             };
-            if self == Slip::OneLamp {
-                place = left;
-                continue;
-            }
             let [first, second] = if self == Slip::RightFirst && place % 3 == 0 { [right, left] } else { [left, right] };
             let [x, y] = [weigh(first)?, weigh(second)?];
             let total = x + y;
@@ -357,8 +358,4 @@ impl Slip {
         }
         Err(12)
     }
-}
-
-fn chance_word(chance: f32) -> u32 {
-    crate::standins::word(chance)
 }

@@ -93,6 +93,7 @@ impl Plot<'_> {
         let got = proved::sampler_sample(self.nodes.words(), query, u);
         let chance = expected.ok().flatten().map(|(_, chance)| chance);
         let nodes = self.decoded.nodes();
+        let by_length = matches!(expected, Err(1 | 2));
         let mut more = self.more();
         more.extend([
             chance.is_some(),
@@ -106,8 +107,9 @@ impl Plot<'_> {
             expected == Err(12) && branches.has(Branch::IntoRight),
             expected == Err(11) && nodes == 0,
             expected == Err(1) && !(0.0..=1.0).contains(&u),
-            self.decoded.by_reference(),
-            !self.decoded.by_reference(),
+            by_length,
+            !by_length && self.decoded.by_reference(),
+            !by_length && !self.decoded.by_reference(),
             self.decoded.own_sample(query, u).is_some_and(|own| own != expected),
         ]);
         let shown = || format!("draw({query:08x?}, {:08x}) of {}: {got:08x?}, not {expected:08x?}", u.to_bits(), self.shown());
@@ -119,6 +121,7 @@ impl Plot<'_> {
         let got = proved::sampler_pmf(self.nodes.words(), self.table.words(), query, handle);
         let table = self.table.words().as_chunks::<4>().0;
         let leaf = table.get(handle as usize).map(|word| u32::from_le_bytes(*word));
+        let by_length = matches!(expected, Err(1 | 2));
         let mut more = self.more();
         let walked = branches.has(Branch::FromLeft) || branches.has(Branch::FromRight);
         more.extend([
@@ -131,8 +134,9 @@ impl Plot<'_> {
             expected == Err(12) && walked,
             expected == Err(12) && self.decoded.nodes() == 0,
             expected == Err(2) && self.nodes.words().len() % NODE_BYTES != 0,
-            self.decoded.by_reference(),
-            !self.decoded.by_reference(),
+            by_length,
+            !by_length && self.decoded.by_reference(),
+            !by_length && !self.decoded.by_reference(),
             self.decoded.own_pmf(query, handle).is_some_and(|own| own != expected),
         ]);
         let shown = || format!("chance({query:08x?}, {handle:x}) of {}: {got:08x?}, not {expected:08x?}", self.shown());
@@ -140,6 +144,7 @@ impl Plot<'_> {
     }
 }
 
+const BY_LENGTH: &str = "oracle: document 01's own check of lengths";
 const BY_REFERENCE: &str = "oracle: the reference itself";
 const BY_COPY: &str = "oracle: the copy of its loop, some word decodes to no node of the Rust";
 
@@ -155,6 +160,7 @@ const DRAWS: &[&str] = &[
     "draw: 12 behind a right child",
     "order: 11 though there are no nodes",
     "order: 1 before 11",
+    BY_LENGTH,
     BY_REFERENCE,
     BY_COPY,
     OWN,
@@ -170,6 +176,7 @@ const CHANCES: &[&str] = &[
     "chance: 12 behind a step up",
     "chance: 12, no nodes",
     "order: 2 before 1",
+    BY_LENGTH,
     BY_REFERENCE,
     BY_COPY,
     OWN,

@@ -17,18 +17,18 @@ fn demand_3() {
     assert!(search.found.is_empty() && search.trees == 60_000);
     let met = [search.lone, search.infinite_roots, search.none, search.draws_refused, search.mixed, search.nan_chances];
     assert!(met.into_iter().all(|count| count > 0) && search.lamps > 200_000, "{met:?}");
-    let broken = |slip: Slip| Search::run(&|nodes, query, u| slip.draw(nodes, query, u), 0, 2000, true);
-    assert!(broken(Slip::Whole).found.is_empty(), "the copy itself is broken");
+    let broken = |slip: Slip| Search::run(&|nodes, query, u| slip.draw(nodes, query, u), 0, 500, false).found;
+    assert!(broken(Slip::Whole).is_empty(), "the copy itself is broken");
     for slip in SLIPS {
-        let found = broken(slip).found.into_iter().next();
-        let (tree, violation, _) = found.unwrap_or_else(|| panic!("{slip:?}: nothing found"));
-        println!("{slip:?}: {violation:?} at tree {tree}");
-        let expected: &[Violation] = match slip {
-            Slip::RightFirst => &[Violation::Order],
-            Slip::OneLamp => &[Violation::DrawnNodes, Violation::Unnamed],
-            _ => &[Violation::Run],
+        let expected = match slip {
+            Slip::RightFirst => Violation::Order,
+            Slip::OneLamp => Violation::DrawnNodes,
+            _ => Violation::Run,
         };
-        assert!(expected.contains(&violation), "{slip:?}: {violation:?}");
+        let found = broken(slip);
+        let first = found.iter().find(|(_, violation, _)| *violation == expected);
+        let (tree, ..) = first.unwrap_or_else(|| panic!("{slip:?}: not found"));
+        println!("{slip:?}: {expected:?} at tree {tree}, {} violations in 500 trees", found.len());
     }
 }
 
@@ -350,7 +350,7 @@ coltoctober::differential! {
     fn each_word() {
         let [draws, chances] = coltoctober::walk_runs::each_word(0, 3);
         println!("each word, draws: {draws}each word, chances: {chances}");
-        draws.check(&[0, 5, 6, 7, 8, 12], &["oracle"]);
-        chances.check(&[0, 5, 6, 7, 8, 12], &["oracle"]);
+        draws.check(&[0, 5, 6, 7, 8, 12], &["oracle: the"]);
+        chances.check(&[0, 5, 6, 7, 8, 12], &["oracle: the"]);
     }
 }
