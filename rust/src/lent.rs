@@ -19,6 +19,14 @@ impl<T: Copy> Lent<T> {
         Lent { all, start, len }
     }
 
+    /// Those given, with others all alike about them.
+    pub fn of(random: &mut Random, words: &[T], about: T) -> Lent<T> {
+        let (start, len) = (MARGIN + random.below(8) as usize, words.len());
+        let mut all = vec![about; start + len + MARGIN];
+        all[start..start + len].copy_from_slice(words);
+        Lent { all, start, len }
+    }
+
     pub fn words(&self) -> &[T] {
         &self.all[self.start..self.start + self.len]
     }
