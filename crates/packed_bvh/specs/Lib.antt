@@ -1,0 +1,3 @@
+pub mod Quantize
+pub mod Packed
+pub mod PackedParts
