@@ -1,3 +1,4 @@
 pub mod Quantize
 pub mod Packed
+pub mod QuantizeLaws
 pub mod PackedParts

@@ -13,7 +13,6 @@ ghost use Rattle.words.specs.LittleEndian.{wordsOf, bytesOf};
 ghost use Rattle.words.specs.Fill.{filled};
 ghost use Rattle.words.specs.Tray.{tray};
 ghost use Rattle.light_bounds.specs.Bounds.{validity};
-ghost use Rattle.light_bounds.specs.LightBounds.{validate as validateOf};
 ghost use Rattle.light_nodes.specs.Nodes.{leaf, interior, invalidIndex};
 ghost use Rattle.packed_bvh.specs.Packed.{paired, coneWord, payloadWord, compactWords, packNode, packNodes, header, packedReserve, packCheck};
 ghost use Rattle.packed_bvh.specs.Packed.{agreed, packedTree, packLightBvh, packedBytes, bytesReserve, wordsPacked, packed, allBoundsOf};
@@ -80,7 +79,6 @@ fn pair(low: u32, high: u32) -> u32
 
 // Both cosines and the side.
 fn cone_word(bounds: LightBounds) -> u32
-    requires { ⌜ validateOf bounds ≡ given tt ⌝ }
     ensures { λ r. ⌜ r ≡ coneWord bounds ⌝ }
 {
     let o = quantize_cos(bounds.cos_theta_o) as u32;
@@ -95,7 +93,6 @@ fn cone_word(bounds: LightBounds) -> u32
 
 // The record within the overall box, with its direction at unit length.
 fn compact_words(all: Bounds3, bounds: LightBounds, d: Vec3, payload: u32, parent: u32) -> Compact
-    requires { ⌜ validateOf bounds ≡ given tt ⌝ }
     ensures { λ r. ⌜ compactList r ≡ compactWords all bounds d payload parent ⌝ }
 {
     let inner = bounds.bounds;
@@ -174,7 +171,6 @@ enum PackedNode {
 }
 
 fn pack_bounds(all: Bounds3, bounds: LightBounds, place: Placed) -> PackedNode
-    requires { ⌜ validateOf bounds ≡ given tt ⌝ }
     ensures { λ r. ⌜ nodePacked r ≡ packBounds all bounds (placed place) ⌝ }
 {
     match normalize_by_division(bounds.direction) {

@@ -1,0 +1,197 @@
+-- What the packing writes, word behind word and node behind node, and which refusals it has. Assumes nothing.
+use Prim.Native.Nat.{ℕ, zero, suc, _+_, _*_, _/_, _-_, _≤_, _<_}
+use mathlib.Core.Path.{_≡_, refl, ap, sym, _∙_}
+use mathlib.Core.Bool.{Bool, true, false, cond, _&&_, _||_}
+use mathlib.Core.List.{List, [], _∷_, _++_, append-assoc}
+use mathlib.Core.Option.{Option, none, some}
+use native.Mathlib.Numerals.{add-one}
+use native.Mathlib.Omega.{arith}
+use borrow.Author.Tests.{lt-ltb, eq-eqb, ne-eqb, ltb-false, eqb-true}
+use lib.Dec.{ltb, leb, eqb}
+use lib.ListN.{length, drop, set, replicate, length-append}
+use lib.Seq.{sets, sets-eq, length-sets, drop-at, drop-append-add, drop-drop, drop-set-lt}
+use Rattle.words.specs.Answers.{Answer, given, refused, _then_}
+use Rattle.words.specs.Fill.{filled}
+use Rattle.words.specs.LittleEndian.{bytesOf, bytesOfWord, setWord, wordsOf}
+use Rattle.words.specs.Tray.{tray}
+use Rattle.words.specs.TrayLaws.{tray-full, tray-early}
+use Rattle.words.proofs.AnswerLaws.{Late, only-given, only-refused, only-cond, only-then, only-number, not-both, given-injective, refused-injective}
+use Rattle.words.proofs.LittleEndianLaws.{length-bytesOf}
+use Rattle.words.proofs.Reserves.{tray-zeroed}
+use Rattle.words.proofs.Stores.{sets-append}
+use Rattle.light_bounds.specs.Bounds.{boxCheck}
+use Rattle.light_bounds.specs.LightBounds.{validate}
+use Rattle.light_bounds.specs.RecordWords.{recordAt, recordWords, readRecord, sidePlace}
+use Rattle.light_bounds.specs.Side.{sideKnown}
+use Rattle.light_bounds.specs.Vecmath.{normalizeByDivision, dividing, vecLength}
+use Rattle.light_bounds.specs.declared.bounds.Bounds3.{Bounds3}
+use Rattle.light_bounds.specs.declared.light_bounds.LightBounds.{LightBounds}
+use Rattle.light_bounds.specs.declared.vecmath.Vec3.{Vec3}
+use Rattle.light_bounds.proofs.LateLaws.{late-validate, late-box}
+use Rattle.light_nodes.specs.Nodes.{LightBVHNode, leaf, interior, invalidIndex, parent, kindOf, nodePlace, boundsPlace, nodeAt, nodeOf, boundsAt, nodeCount, nodeBytes, maxNodes}
+use Rattle.packed_bvh.specs.Packed.{indexMax, payload, payloadWord, compactWords, payloadCheck, parentCheck, leftCheck, packNode, packNodes, header, packedReserve}
+use Rattle.packed_bvh.specs.Packed.{packCheck, agreed, packedTree, packLightBvh, packedBytes, bytesReserve, wordsPacked}
+use Rattle.packed_bvh.specs.PackedParts.{placing, packBounds, packPlaced}
+
+-- ---- words behind words
+
+pub bytesOf-append : (xs ys : List ℕ) → bytesOf (xs ++ ys) ≡ bytesOf xs ++ bytesOf ys
+unfolding bytesOf
+bytesOf-append [] ys = refl
+bytesOf-append (x ∷ xs) ys = ap (λ (z : List ℕ). bytesOfWord x ++ z) (bytesOf-append xs ys)
+
+-- l holds the words ws from place p on, and is d elsewhere
+abbrev pub Words : List ℕ → ℕ → List ℕ → List ℕ → Type 0
+Words d p ws l = l ≡ sets d (4 * p) (bytesOf ws)
+
+pub words-none : (d : List ℕ) (p : ℕ) → Words d p [] d
+unfolding bytesOf
+words-none d p = refl
+
+-- one word more
+pub words-one : {d l m : List ℕ} {p : ℕ} (ws : List ℕ) (w q : ℕ) → Words d p ws l → m ≡ setWord l q w → q ≡ p + length ws → 4 * (q + 1) ≤ length d
+    → Words d p (ws ++ w ∷ []) m
+unfolding setWord bytesOf
+words-one {d} {l} {m} {p} ws w q h e place room =
+    let same : length l ≡ length d = ap length h ∙ length-sets d (4 * p) (bytesOf ws) in
+    let at : 4 * p + length (bytesOf ws) ≡ 4 * q = omega (arith, length-bytesOf ws) in
+    let put : setWord l q w ≡ sets l (4 * q) (bytesOfWord w) = rw (lt-ltb q (length l / 4) (omega (arith, same))) in
+    let all : sets d (4 * p) (bytesOf (ws ++ w ∷ [])) ≡ sets (sets d (4 * p) (bytesOf ws)) (4 * q) (bytesOfWord w) =
+    ap (sets d (4 * p)) (bytesOf-append ws (w ∷ []))
+    ∙ sets-append d (4 * p) (bytesOf ws) (bytesOf (w ∷ []))
+    ∙ ap (λ (k : ℕ). sets (sets d (4 * p) (bytesOf ws)) k (bytesOfWord w)) at in
+    e ∙ put ∙ ap (λ (z : List ℕ). sets z (4 * q) (bytesOfWord w)) h ∙ sym all
+
+-- what lies behind stores stays
+pub drop-sets : (n : ℕ) (vs l : List ℕ) (i : ℕ) → i + length vs ≤ n → drop n (sets l i vs) ≡ drop n l
+drop-sets n [] l i h = refl
+drop-sets n (v ∷ vs) l i h =
+    drop-sets n vs (set l i v) (suc i) (omega arith) ∙ drop-set-lt n l i v (omega arith)
+
+-- ---- a node
+
+-- its own checks, taken together
+own-checks : (x y z : Answer (Unit {0})) (w p : ℕ) (f : ℕ → ℕ → List ℕ)
+    → (x then λ _. y then λ _. z then λ _. given (f w p))
+    ≡ ((x then λ _. y then λ _. z then λ _. given (w, p)) then λ (k : ℕ × ℕ). given (f (k .0) (k .1)))
+unfolding _then_
+own-checks (refused n) y z w p f = refl
+own-checks (given u) (refused n) z w p f = refl
+own-checks (given u) (given v) (refused n) w p f = refl
+own-checks (given u) (given v) (given t) w p f = refl
+
+pub node-placed : (count : ℕ) (all : Bounds3) (ws : List ℕ) (i : ℕ) (n : LightBVHNode) → nodeAt ws i ≡ given n
+    → packNode count all ws i ≡ packPlaced all ws i (placing count i n)
+unfolding packNode packPlaced packBounds placing _then_
+node-placed count all ws i n e = rw e (record-of (boundsAt ws i))
+  where
+    unit : (b : LightBounds) (x : Answer Vec3)
+        → (x then λ (d : Vec3). payloadCheck n then λ _. parentCheck count n then λ _. leftCheck i n then λ _.
+        given (compactWords all b d (payloadWord n) (parent n)))
+        ≡ (x then λ (d : Vec3). placing count i n then λ (w : ℕ × ℕ). given (compactWords all b d (w .0) (w .1)))
+    unit b (given d) =
+        own-checks (payloadCheck n) (parentCheck count n) (leftCheck i n) (payloadWord n) (parent n) (λ (w p : ℕ). compactWords all b d w p)
+    unit b (refused k) = refl
+
+    valid : (b : LightBounds) (x : Answer (Unit {0}))
+        → (x then λ _. normalizeByDivision (b .direction) then λ (d : Vec3). payloadCheck n then λ _. parentCheck count n then λ _. leftCheck i n then λ _.
+        given (compactWords all b d (payloadWord n) (parent n)))
+        ≡ (x then λ _. packBounds all b (placing count i n))
+    valid b (given u) = unit b (normalizeByDivision (b .direction))
+    valid b (refused k) = refl
+
+    record-of : (x : Answer LightBounds)
+        → (x then λ (b : LightBounds). validate b then λ _. normalizeByDivision (b .direction) then λ (d : Vec3).
+        payloadCheck n then λ _. parentCheck count n then λ _. leftCheck i n then λ _. given (compactWords all b d (payloadWord n) (parent n)))
+        ≡ (x then λ (b : LightBounds). validate b then λ _. packBounds all b (placing count i n))
+    record-of (given b) = valid b (validate b)
+    record-of (refused k) = refl
+
+pub node-refused : (count : ℕ) (all : Bounds3) (ws : List ℕ) (i k : ℕ) → nodeAt ws i ≡ refused k → packNode count all ws i ≡ refused k
+unfolding packNode _then_
+node-refused count all ws i k e = rw e
+
+-- ---- refusals are late
+
+late-node : (ws : List ℕ) (i : ℕ) → Late (nodeAt ws i)
+unfolding nodeAt nodeOf
+late-node ws i =
+    only-cond (leb (nodePlace (suc i)) (length ws))
+    (only-cond _ only-given (only-cond _ only-given (only-refused (omega arith))))
+    (only-refused (omega arith))
+
+late-bounds : (ws : List ℕ) (i : ℕ) → Late (boundsAt ws i)
+unfolding boundsAt recordAt
+late-bounds ws i = only-cond _ only-given (only-refused (omega arith))
+
+late-by-division : (v : Vec3) → Late (normalizeByDivision v)
+unfolding normalizeByDivision
+late-by-division v = only-cond (dividing (vecLength v)) only-given (only-refused (omega arith))
+
+late-payload : (n : LightBVHNode) → Late (payloadCheck n)
+unfolding payloadCheck
+late-payload n = only-cond (ltb indexMax (payload n)) (only-refused (omega arith)) only-given
+
+late-parent : (count : ℕ) (n : LightBVHNode) → Late (parentCheck count n)
+unfolding parentCheck
+late-parent count n = only-cond (eqb (parent n) invalidIndex || ltb (parent n) count) only-given (only-refused (omega arith))
+
+late-left : (i : ℕ) (n : LightBVHNode) → Late (leftCheck i n)
+unfolding leftCheck
+late-left i (leaf h p) = only-given
+late-left i (interior l r p) = only-cond (eqb l (i + 1)) only-given (only-refused (omega arith))
+
+pub late-pack : (count : ℕ) (all : Bounds3) (ws : List ℕ) (i : ℕ) → Late (packNode count all ws i)
+unfolding packNode
+late-pack count all ws i =
+    only-then (late-node ws i) (λ n. only-then (late-bounds ws i) (λ b. only-then (late-validate b) (λ _. only-then (late-by-division (b .direction))
+    (λ d. only-then (late-payload n) (λ _. only-then (late-parent count n) (λ _. only-then (late-left i n) (λ _. only-given)))))))
+
+-- ---- the loop over the nodes
+
+module _ (all : Bounds3) (ws : List ℕ) (n : ℕ) where
+  -- l is d with the words of the first i nodes behind the header's eight
+  pub record Packing (i : ℕ) (d l : List ℕ) : Type 0 where
+    pub nodes : List ℕ
+    pub is : packNodes n all ws i ≡ given nodes
+    pub size : length nodes ≡ 8 * i
+    pub words : Words d 8 nodes l
+
+  pub packing-none : (d : List ℕ) → Packing 0 d d
+  unfolding packNodes
+  packing-none d = record { nodes = []; is = refl; size = refl; words = words-none d 8 }
+
+  pub packing-one : {i : ℕ} {d l m : List ℕ} (row : List ℕ) → Packing i d l → packNode n all ws i ≡ given row → length row ≡ 8
+      → m ≡ sets l (4 * (8 + 8 * i)) (bytesOf row) → Packing (i + 1) d m
+  unfolding packNodes _then_
+  packing-one {i} {d} {l} {m} row p e eight put =
+      let at : 4 * 8 + length (bytesOf (p .nodes)) ≡ 4 * (8 + 8 * i) = omega (arith, length-bytesOf (p .nodes), p .size) in
+      record {
+        nodes = p .nodes ++ row;
+        is = rw (add-one i, p .is, e);
+        size = length-append (p .nodes) row ∙ omega (arith, p .size, eight);
+        words =
+            put ∙ ap (λ (z : List ℕ). sets z (4 * (8 + 8 * i)) (bytesOf row)) (p .words)
+            ∙ ap (λ (k : ℕ). sets (sets d (4 * 8) (bytesOf (p .nodes))) k (bytesOf row)) (sym at)
+            ∙ sym (ap (sets d (4 * 8)) (bytesOf-append (p .nodes) row) ∙ sets-append d (4 * 8) (bytesOf (p .nodes)) (bytesOf row));
+      }
+
+  stays : (j m k : ℕ) → packNodes n all ws m ≡ refused k → packNodes n all ws (j + m) ≡ refused k
+  unfolding packNodes _then_
+  stays zero m k e = let z : 0 + m ≡ m = omega arith in rw z e
+  stays (suc j) m k e = let z : suc j + m ≡ suc (j + m) = omega arith in rw (z, stays j m k e)
+
+  refused-at : (i k : ℕ) (nodes : List ℕ) → packNodes n all ws i ≡ given nodes → packNode n all ws i ≡ refused k → packNodes n all ws (suc i) ≡ refused k
+  unfolding packNodes _then_
+  refused-at i k nodes e h = rw (e, h)
+
+  pub packing-refused : {i : ℕ} {d l : List ℕ} (k : ℕ) → Packing i d l → i < n → packNode n all ws i ≡ refused k → packedTree ws n (some all) ≡ refused k
+  unfolding packedTree _then_
+  packing-refused {i} k p h e =
+      let to : n - suc i + suc i ≡ n = omega arith in
+      let whole : packNodes n all ws n ≡ refused k = rw to at (stays (n - suc i) (suc i) k (refused-at i k (p .nodes) (p .is) e)) in
+      rw whole
+
+  pub packing-all : {i : ℕ} {d l : List ℕ} (p : Packing i d l) → i ≡ n → packedTree ws n (some all) ≡ given (some (header all ++ p .nodes))
+  unfolding packedTree _then_
+  packing-all {i} p e = let whole : packNodes n all ws n ≡ given (p .nodes) = rw (← e) (p .is) in rw whole
