@@ -15,5 +15,5 @@ abbrev μ-loop : tie.MeasureT-loop
 pub zero-bytes-spec : {M : Type 1} → statement M
 zero-bytes-spec =
     tie.close (tie.spec Inv-loop μ-loop (λ c. (omega arith, omega arith, filling-none)) (λ c. omega arith) (λ c. omega arith) (λ c. omega arith)
-    (λ c. (omega arith, omega arith, filling-one (c .before .before .loop .inv .2) (omega arith))) (λ c. omega arith)
+    (λ c. (omega arith, omega arith, filling-one (c .before .loop .inv .2) (omega arith))) (λ c. omega arith)
     (λ c. filling-all _ _ (c .before .loop .inv .2) (omega arith) (omega arith)))
