@@ -1,6 +1,6 @@
 -- What the packing writes, word behind word and node behind node, and which refusals it has. Assumes nothing.
-use Prim.Native.Nat.{ℕ, zero, suc, _+_, _*_, _/_, _-_, _≤_, _<_}
-use mathlib.Core.Path.{_≡_, refl, ap, sym, _∙_}
+use Prim.Native.Nat.{ℕ, zero, suc, _+_, _*_, _/_, _%_, _-_, _≤_, _<_, zero-le}
+use mathlib.Core.Path.{_≡_, refl, ap, sym, subst, _∙_}
 use mathlib.Core.Bool.{Bool, true, false, cond, _&&_, _||_}
 use mathlib.Core.List.{List, [], _∷_, _++_, append-assoc}
 use mathlib.Core.Option.{Option, none, some}
@@ -8,10 +8,11 @@ use native.Mathlib.Numerals.{add-one}
 use native.Mathlib.Omega.{arith}
 use borrow.Author.Tests.{lt-ltb, eq-eqb, ne-eqb, ltb-false, eqb-true}
 use lib.Dec.{ltb, leb, eqb}
-use lib.ListN.{length, drop, set, replicate, length-append}
+use lib.ListN.{length, getD, drop, set, replicate, length-append}
 use lib.Seq.{sets, sets-eq, length-sets, drop-at, drop-append-add, drop-drop, drop-set-lt}
 use Rattle.words.specs.Answers.{Answer, given, refused, _then_}
 use Rattle.words.specs.Fill.{filled}
+use Rattle.words.specs.Heads.{kindOf}
 use Rattle.words.specs.LittleEndian.{bytesOf, bytesOfWord, setWord, wordsOf}
 use Rattle.words.specs.Tray.{tray}
 use Rattle.words.specs.TrayLaws.{tray-full, tray-early}
@@ -28,7 +29,7 @@ use Rattle.light_bounds.specs.declared.bounds.Bounds3.{Bounds3}
 use Rattle.light_bounds.specs.declared.light_bounds.LightBounds.{LightBounds}
 use Rattle.light_bounds.specs.declared.vecmath.Vec3.{Vec3}
 use Rattle.light_bounds.proofs.LateLaws.{late-validate, late-box}
-use Rattle.light_nodes.specs.Nodes.{LightBVHNode, leaf, interior, invalidIndex, parent, nodePlace, nodeAt, nodeOf, boundsAt, nodeCount, nodeBytes, maxNodes}
+use Rattle.light_nodes.specs.Nodes.{LightBVHNode, leaf, interior, invalidIndex, parent, nodePlace, boundsPlace, nodeAt, nodeOf, boundsAt, nodeCount, nodeBytes, maxNodes}
 use Rattle.packed_bvh.specs.Packed.{indexMax, payload, payloadWord, compactWords, payloadCheck, parentCheck, leftCheck, packNode, packNodes, header, packedReserve}
 use Rattle.packed_bvh.specs.Packed.{packCheck, agreed, packedTree, packLightBvh, packedBytes, bytesReserve, wordsPacked}
 use Rattle.packed_bvh.specs.PackedParts.{placing, packBounds, packPlaced}
@@ -49,10 +50,10 @@ unfolding bytesOf
 words-none d p = refl
 
 -- one word more
-pub words-one : {d l m : List ℕ} {p : ℕ} (ws : List ℕ) (w q : ℕ) → Words d p ws l → m ≡ setWord l q w → q ≡ p + length ws → 4 * (q + 1) ≤ length d
-    → Words d p (ws ++ w ∷ []) m
+pub words-one : (d : List ℕ) (p : ℕ) {l m : List ℕ} (ws : List ℕ) {v : ℕ} (w q : ℕ) → Words d p ws l → m ≡ setWord l q v → v ≡ w → q ≡ p + length ws
+    → 4 * (q + 1) ≤ length d → Words d p (ws ++ w ∷ []) m
 unfolding setWord bytesOf
-words-one {d} {l} {m} {p} ws w q h e place room =
+words-one d p {l} {m} ws {v} w q h e is place room =
     let same : length l ≡ length d = ap length h ∙ length-sets d (4 * p) (bytesOf ws) in
     let at : 4 * p + length (bytesOf ws) ≡ 4 * q = omega (arith, length-bytesOf ws) in
     let put : setWord l q w ≡ sets l (4 * q) (bytesOfWord w) = rw (lt-ltb q (length l / 4) (omega (arith, same))) in
@@ -60,7 +61,7 @@ words-one {d} {l} {m} {p} ws w q h e place room =
     ap (sets d (4 * p)) (bytesOf-append ws (w ∷ []))
     ∙ sets-append d (4 * p) (bytesOf ws) (bytesOf (w ∷ []))
     ∙ ap (λ (k : ℕ). sets (sets d (4 * p) (bytesOf ws)) k (bytesOfWord w)) at in
-    e ∙ put ∙ ap (λ (z : List ℕ). sets z (4 * q) (bytesOfWord w)) h ∙ sym all
+    e ∙ ap (setWord l q) is ∙ put ∙ ap (λ (z : List ℕ). sets z (4 * q) (bytesOfWord w)) h ∙ sym all
 
 -- what lies behind stores stays
 pub drop-sets : (n : ℕ) (vs l : List ℕ) (i : ℕ) → i + length vs ≤ n → drop n (sets l i vs) ≡ drop n l
@@ -117,12 +118,14 @@ late-node : (ws : List ℕ) (i : ℕ) → Late (nodeAt ws i)
 unfolding nodeAt nodeOf
 late-node ws i =
     only-cond (leb (nodePlace (suc i)) (length ws))
-    (only-cond _ only-given (only-cond _ only-given (only-refused (omega arith))))
+    (only-cond (eqb (kindOf (getD ws (nodePlace i) 0)) 1) only-given
+    (only-cond (eqb (kindOf (getD ws (nodePlace i) 0)) 2) only-given (only-refused (omega arith))))
     (only-refused (omega arith))
 
 late-bounds : (ws : List ℕ) (i : ℕ) → Late (boundsAt ws i)
 unfolding boundsAt recordAt
-late-bounds ws i = only-cond _ only-given (only-refused (omega arith))
+late-bounds ws i =
+    only-cond (leb (boundsPlace i + recordWords) (length ws) && sideKnown (getD ws (sidePlace (boundsPlace i)) 0)) only-given (only-refused (omega arith))
 
 late-by-division : (v : Vec3) → Late (normalizeByDivision v)
 unfolding normalizeByDivision
@@ -194,4 +197,27 @@ module _ (all : Bounds3) (ws : List ℕ) (n : ℕ) where
 
   pub packing-all : {i : ℕ} {d l : List ℕ} (p : Packing i d l) → i ≡ n → packedTree ws n (some all) ≡ given (some (header all ++ p .nodes))
   unfolding packedTree _then_
-  packing-all {i} p e = let whole : packNodes n all ws n ≡ given (p .nodes) = rw (← e) (p .is) in rw whole
+  packing-all {i} p e = let whole : packNodes n all ws n ≡ given (p .nodes) = subst (λ (k : ℕ). packNodes n all ws k ≡ given (p .nodes)) e (p .is) in rw whole
+
+-- ---- how many nodes
+
+pub count-known : (bytes : List ℕ) (n : ℕ) → nodeCount bytes ≡ given n → (n ≤ maxNodes) × (length bytes / nodeBytes ≡ n)
+unfolding nodeCount
+count-known bytes n e = go (ltb maxNodes (length bytes / nodeBytes)) refl (eqb (length bytes % nodeBytes) 0) e
+  where
+    go : (b : Bool) → ltb maxNodes (length bytes / nodeBytes) ≡ b → (t : Bool)
+        → cond b (refused 2) (cond t (given (length bytes / nodeBytes)) (refused 1)) ≡ given n
+        → (n ≤ maxNodes) × (length bytes / nodeBytes ≡ n)
+    go true h t g = absurd (not-both g refl)
+    go false h false g = absurd (not-both g refl)
+    go false h true g =
+        let is : length bytes / nodeBytes ≡ n = given-injective g in
+        (rw is at (ltb-false maxNodes (length bytes / nodeBytes) h), is)
+
+pub reserve-some : (n : ℕ) → 0 < n → packedReserve n ≡ 8 + 8 * n
+reserve-some zero h = absurd (omega arith)
+reserve-some (suc n) h = refl
+
+pub reserve-small : (n : ℕ) → n ≤ maxNodes → packedReserve n ≤ 65536
+reserve-small zero h = zero-le
+reserve-small (suc n) h = omega arith
