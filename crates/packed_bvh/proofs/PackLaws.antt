@@ -16,8 +16,9 @@ use Rattle.words.specs.Heads.{kindOf}
 use Rattle.words.specs.LittleEndian.{bytesOf, bytesOfWord, setWord, wordsOf}
 use Rattle.words.specs.Tray.{tray}
 use Rattle.words.specs.TrayLaws.{tray-full, tray-early}
-use Rattle.words.proofs.AnswerLaws.{Late, only-given, only-refused, only-cond, only-then, only-number, not-both, given-injective, refused-injective}
+use Rattle.words.proofs.AnswerLaws.{Early, Late, then-given, only-given, only-refused, only-cond, only-then, only-number, not-both, given-injective, refused-injective}
 use Rattle.words.proofs.LittleEndianLaws.{length-bytesOf}
+use Rattle.words.proofs.FillLaws.{filled-within}
 use Rattle.words.proofs.Reserves.{tray-zeroed}
 use Rattle.words.proofs.Stores.{sets-append}
 use Rattle.light_bounds.specs.Bounds.{boxCheck}
@@ -150,6 +151,29 @@ late-pack count all ws i =
     only-then (late-node ws i) (λ n. only-then (late-bounds ws i) (λ b. only-then (late-validate b) (λ _. only-then (late-by-division (b .direction))
     (λ d. only-then (late-payload n) (λ _. only-then (late-parent count n) (λ _. only-then (late-left i n) (λ _. only-given)))))))
 
+-- ---- how many nodes
+
+pub count-known : (bytes : List ℕ) (n : ℕ) → nodeCount bytes ≡ given n → (n ≤ maxNodes) × (length bytes / nodeBytes ≡ n)
+unfolding nodeCount
+count-known bytes n e = go (ltb maxNodes (length bytes / nodeBytes)) refl (eqb (length bytes % nodeBytes) 0) e
+  where
+    go : (b : Bool) → ltb maxNodes (length bytes / nodeBytes) ≡ b → (t : Bool)
+        → cond b (refused 2) (cond t (given (length bytes / nodeBytes)) (refused 1)) ≡ given n
+        → (n ≤ maxNodes) × (length bytes / nodeBytes ≡ n)
+    go true h t g = absurd (not-both g refl)
+    go false h false g = absurd (not-both g refl)
+    go false h true g =
+        let is : length bytes / nodeBytes ≡ n = given-injective g in
+        (rw is at (ltb-false maxNodes (length bytes / nodeBytes) h), is)
+
+pub reserve-some : (n : ℕ) → 0 < n → packedReserve n ≡ 8 + 8 * n
+reserve-some zero h = absurd (omega arith)
+reserve-some (suc n) h = refl
+
+pub reserve-small : (n : ℕ) → n ≤ maxNodes → packedReserve n ≤ 65536
+reserve-small zero h = zero-le
+reserve-small (suc n) h = omega arith
+
 -- ---- the loop over the nodes
 
 module _ (all : Bounds3) (ws : List ℕ) (n : ℕ) where
@@ -199,25 +223,149 @@ module _ (all : Bounds3) (ws : List ℕ) (n : ℕ) where
   unfolding packedTree _then_
   packing-all {i} p e = let whole : packNodes n all ws n ≡ given (p .nodes) = subst (λ (k : ℕ). packNodes n all ws k ≡ given (p .nodes)) e (p .is) in rw whole
 
--- ---- how many nodes
+  pub packing-length : {i : ℕ} {d l : List ℕ} → Packing i d l → length l ≡ length d
+  packing-length {i} {d} p = ap length (p .words) ∙ length-sets d (4 * 8) (bytesOf (p .nodes))
 
-pub count-known : (bytes : List ℕ) (n : ℕ) → nodeCount bytes ≡ given n → (n ≤ maxNodes) × (length bytes / nodeBytes ≡ n)
+  module _ {i : ℕ} {before d l : List ℕ} (some-node : 0 < n) (room : 4 * packedReserve n ≤ length before) (head : Words before 0 (header all) d)
+      (p : Packing i d l) where
+    reserve : packedReserve n ≡ 8 + 8 * n
+    reserve = reserve-some n some-node
+
+    size : length l ≡ length before
+    size = packing-length p ∙ ap length head ∙ length-sets before 0 (bytesOf (header all))
+
+    -- a node is refused, and the reserve zeroed
+    pub outcome-refused : {m : List ℕ} (k : ℕ) → i < n → packNode n all ws i ≡ refused k → m ≡ filled l 0 (4 * packedReserve n) 0
+        → (refused k ≡ wordsPacked (packedTree ws n (some all)))
+        × (m ≡ tray packedBytes (4 * packedReserve n) (packedTree ws n (some all)) before)
+    outcome-refused {m} k h e zeroed =
+        let nodes-size : length (bytesOf (p .nodes)) ≡ 4 * (8 * i) = rw (← p .size) (length-bytesOf (p .nodes)) in
+        let head-size : length (bytesOf (header all)) ≡ 32 = length-bytesOf (header all) in
+        let behind : drop (4 * packedReserve n) l ≡ drop (4 * packedReserve n) before =
+        ap (drop (4 * packedReserve n)) (p .words)
+        ∙ drop-sets (4 * packedReserve n) (bytesOf (p .nodes)) d (4 * 8) (omega (arith, nodes-size, reserve))
+        ∙ ap (drop (4 * packedReserve n)) head
+        ∙ drop-sets (4 * packedReserve n) (bytesOf (header all)) before 0 (omega (arith, head-size, reserve)) in
+        rw (packing-refused k p h e) (
+          refl,
+          zeroed ∙ tray-zeroed packedBytes (4 * packedReserve n) before l k (omega (arith, size)) behind (only-number (late-pack n all ws i) e),
+        )
+
+    -- every node is packed
+    pub outcome-given : i ≡ n
+        → (given (some (packedReserve n)) ≡ wordsPacked (packedTree ws n (some all)))
+        × (l ≡ tray packedBytes (4 * packedReserve n) (packedTree ws n (some all)) before)
+    outcome-given e =
+        let count : length (header all ++ p .nodes) ≡ packedReserve n = length-append (header all) (p .nodes) ∙ omega (arith, p .size, reserve) in
+        let bytes : length (bytesOf (header all ++ p .nodes)) ≡ 4 * packedReserve n = rw (← count) (length-bytesOf (header all ++ p .nodes)) in
+        let head-size : 0 + length (bytesOf (header all)) ≡ 32 = omega (arith, length-bytesOf (header all)) in
+        let at : 0 + length (bytesOf (header all ++ p .nodes)) ≡ 4 * packedReserve n = omega (arith, bytes) in
+        let whole : l ≡ sets before 0 (bytesOf (header all ++ p .nodes)) =
+        p .words
+        ∙ ap (λ (z : List ℕ). sets z 32 (bytesOf (p .nodes))) head
+        ∙ ap (λ (k : ℕ). sets (sets before 0 (bytesOf (header all))) k (bytesOf (p .nodes))) (sym head-size)
+        ∙ sym (ap (sets before 0) (bytesOf-append (header all) (p .nodes)) ∙ sets-append before 0 (bytesOf (header all)) (bytesOf (p .nodes))) in
+        rw (packing-all p e) (
+          ap (λ (k : ℕ). given (some k)) (sym count),
+          whole ∙ sets-eq (bytesOf (header all ++ p .nodes)) before 0 (omega (arith, at))
+          ∙ ap (λ (k : ℕ). bytesOf (header all ++ p .nodes) ++ drop k before) at
+          ∙ sym (tray-full packedBytes (4 * packedReserve n) before (some (header all ++ p .nodes)) bytes),
+        )
+
+-- ---- the whole
+
+early-count : (bytes : List ℕ) → Early (nodeCount bytes)
 unfolding nodeCount
-count-known bytes n e = go (ltb maxNodes (length bytes / nodeBytes)) refl (eqb (length bytes % nodeBytes) 0) e
-  where
-    go : (b : Bool) → ltb maxNodes (length bytes / nodeBytes) ≡ b → (t : Bool)
-        → cond b (refused 2) (cond t (given (length bytes / nodeBytes)) (refused 1)) ≡ given n
-        → (n ≤ maxNodes) × (length bytes / nodeBytes ≡ n)
-    go true h t g = absurd (not-both g refl)
-    go false h false g = absurd (not-both g refl)
-    go false h true g =
-        let is : length bytes / nodeBytes ≡ n = given-injective g in
-        (rw is at (ltb-false maxNodes (length bytes / nodeBytes) h), is)
+early-count bytes =
+    only-cond (ltb maxNodes (length bytes / nodeBytes)) (only-refused (omega arith))
+    (only-cond (eqb (length bytes % nodeBytes) 0) only-given (only-refused (omega arith)))
 
-pub reserve-some : (n : ℕ) → 0 < n → packedReserve n ≡ 8 + 8 * n
-reserve-some zero h = absurd (omega arith)
-reserve-some (suc n) h = refl
+early-check : (nodes : List ℕ) (room : ℕ) → Early (packCheck nodes room)
+unfolding packCheck
+early-check nodes room =
+    only-then (early-count nodes) (λ n. only-cond (ltb room (4 * packedReserve n)) (only-refused (omega arith)) only-given)
 
-pub reserve-small : (n : ℕ) → n ≤ maxNodes → packedReserve n ≤ 65536
-reserve-small zero h = zero-le
-reserve-small (suc n) h = omega arith
+late-agreed : (n k : ℕ) (all : Option Bounds3) → Late (agreed n k all)
+unfolding agreed
+late-agreed n k none = only-cond (eqb n 0 && eqb k 0) only-given (only-refused (omega arith))
+late-agreed n k (some all) = only-cond (eqb n 0 || eqb k 0) (only-refused (omega arith)) (only-then (late-box all) (λ _. only-given))
+
+module _ (n k : ℕ) where
+  pub agreed-empty : (all : Bounds3) → n ≡ 0 → agreed n k (some all) ≡ refused 12
+  unfolding agreed
+  agreed-empty all e = rw (eq-eqb n 0 e)
+
+  pub agreed-dark : (all : Bounds3) → (n ≡ 0 → ⊥) → k ≡ 0 → agreed n k (some all) ≡ refused 12
+  unfolding agreed
+  agreed-dark all h e = rw (ne-eqb n 0 h, eq-eqb k 0 e)
+
+  pub agreed-box : (all : Bounds3) → (n ≡ 0 → ⊥) → (k ≡ 0 → ⊥) → agreed n k (some all) ≡ (boxCheck all then λ _. given (some all))
+  unfolding agreed
+  agreed-box all h e = rw (ne-eqb n 0 h, ne-eqb k 0 e)
+
+  pub agreed-nothing : n ≡ 0 → k ≡ 0 → agreed n k none ≡ given none
+  unfolding agreed
+  agreed-nothing h e = rw (eq-eqb n 0 h, eq-eqb k 0 e)
+
+  pub agreed-lamps : n ≡ 0 → (k ≡ 0 → ⊥) → agreed n k none ≡ refused 12
+  unfolding agreed
+  agreed-lamps h e = rw (eq-eqb n 0 h, ne-eqb k 0 e)
+
+  pub agreed-nodes : (n ≡ 0 → ⊥) → agreed n k none ≡ refused 12
+  unfolding agreed
+  agreed-nodes h = rw (ne-eqb n 0 h)
+
+-- nothing is zeroed where there are no nodes
+pub filled-none : (l : List ℕ) (n : ℕ) → n ≡ 0 → l ≡ filled l 0 (4 * packedReserve n) 0
+filled-none l n e = rw e (sym (filled-within l 0 0 0 zero-le zero-le))
+
+module _ (nodes : List ℕ) (k : ℕ) (all : Option Bounds3) (before : List ℕ) where
+  -- what is answered, and what is left in the lent bytes
+  abbrev pub Outcome : Answer (Option ℕ) → List ℕ → Type 0
+  Outcome a after = (a ≡ wordsPacked (packLightBvh nodes k all (length before)))
+      × (after ≡ tray packedBytes (bytesReserve nodes) (packLightBvh nodes k all (length before)) before)
+
+  pub outcome-early : (j : ℕ) → packCheck nodes (length before) ≡ refused j → Outcome (refused j) before
+  unfolding packLightBvh _then_
+  outcome-early j e =
+      let is : packLightBvh nodes k all (length before) ≡ refused j = rw e in
+      rw is (refl, sym (tray-early packedBytes (bytesReserve nodes) before j (only-number (early-check nodes (length before)) e)))
+
+  module _ (n : ℕ) (h : packCheck nodes (length before) ≡ given n) where
+    pub check-known : (n ≤ maxNodes) × (4 * packedReserve n ≤ length before) × (bytesReserve nodes ≡ 4 * packedReserve n)
+    unfolding packCheck _then_
+    check-known =
+        let (m, counted, passed) = then-given (nodeCount nodes) (λ (m : ℕ). cond (ltb (length before) (4 * packedReserve m)) (refused 3) (given m)) n h in
+        let (few, is) = count-known nodes m counted in
+        go m few is (ltb (length before) (4 * packedReserve m)) refl passed
+      where
+        go : (m : ℕ) → m ≤ maxNodes → length nodes / nodeBytes ≡ m → (b : Bool) → ltb (length before) (4 * packedReserve m) ≡ b
+            → cond b (refused 3) (given m) ≡ given n
+            → (n ≤ maxNodes) × (4 * packedReserve n ≤ length before) × (bytesReserve nodes ≡ 4 * packedReserve n)
+        go m few is true e g = absurd (not-both g refl)
+        go m few is false e g =
+            let same : m ≡ n = given-injective g in
+            rw (← same) (few, ltb-false (length before) (4 * packedReserve m) e, ap (λ (z : ℕ). 4 * packedReserve z) is)
+
+    pub outcome-late : {after : List ℕ} (j : ℕ) → agreed n k all ≡ refused j → after ≡ filled before 0 (4 * packedReserve n) 0 → Outcome (refused j) after
+    unfolding packLightBvh _then_
+    outcome-late j e zeroed =
+        let (few, room, reserve) = check-known in
+        let is : packLightBvh nodes k all (length before) ≡ refused j = rw (h, e) in
+        rw (is, reserve) (
+          refl,
+          zeroed ∙ tray-zeroed packedBytes (4 * packedReserve n) before before j room refl (only-number (late-agreed n k all) e),
+        )
+
+    pub outcome-agreed : {a : Answer (Option ℕ)} {after : List ℕ} (box : Option Bounds3) → agreed n k all ≡ given box
+        → a ≡ wordsPacked (packedTree (wordsOf nodes) n box)
+        → after ≡ tray packedBytes (4 * packedReserve n) (packedTree (wordsOf nodes) n box) before → Outcome a after
+    unfolding packLightBvh _then_
+    outcome-agreed box e words bytes =
+        let (few, room, reserve) = check-known in
+        let is : packLightBvh nodes k all (length before) ≡ packedTree (wordsOf nodes) n box = rw (h, e) in
+        rw (is, reserve) (words, bytes)
+
+    pub outcome-nothing : n ≡ 0 → agreed n k all ≡ given none → Outcome (given none) before
+    unfolding packedTree tray
+    outcome-nothing z e = outcome-agreed none e refl (rw z)
