@@ -299,9 +299,14 @@ module _ (n k : ℕ) where
   unfolding agreed
   agreed-dark all h e = rw (ne-eqb n 0 h, eq-eqb k 0 e)
 
-  pub agreed-box : (all : Bounds3) → (n ≡ 0 → ⊥) → (k ≡ 0 → ⊥) → agreed n k (some all) ≡ (boxCheck all then λ _. given (some all))
-  unfolding agreed
-  agreed-box all h e = rw (ne-eqb n 0 h, ne-eqb k 0 e)
+  module _ (all : Bounds3) (some-node : n ≡ 0 → ⊥) (some-lamp : k ≡ 0 → ⊥) where
+    pub agreed-valid : boxCheck all ≡ given tt → agreed n k (some all) ≡ given (some all)
+    unfolding agreed _then_
+    agreed-valid e = rw (ne-eqb n 0 some-node, ne-eqb k 0 some-lamp, e)
+
+    pub agreed-refused : (j : ℕ) → boxCheck all ≡ refused j → agreed n k (some all) ≡ refused j
+    unfolding agreed _then_
+    agreed-refused j e = rw (ne-eqb n 0 some-node, ne-eqb k 0 some-lamp, e)
 
   pub agreed-nothing : n ≡ 0 → k ≡ 0 → agreed n k none ≡ given none
   unfolding agreed
@@ -314,6 +319,23 @@ module _ (n k : ℕ) where
   pub agreed-nodes : (n ≡ 0 → ⊥) → agreed n k none ≡ refused 12
   unfolding agreed
   agreed-nodes h = rw (ne-eqb n 0 h)
+
+-- nodes that pass the first checks: few enough, and the room is lent
+pub check-known : (nodes before : List ℕ) (n : ℕ) → packCheck nodes (length before) ≡ given n
+    → (n ≤ maxNodes) × (4 * packedReserve n ≤ length before) × (bytesReserve nodes ≡ 4 * packedReserve n)
+unfolding packCheck _then_
+check-known nodes before n h =
+    let (m, counted, passed) = then-given (nodeCount nodes) (λ (m : ℕ). cond (ltb (length before) (4 * packedReserve m)) (refused 3) (given m)) n h in
+    let (few, is) = count-known nodes m counted in
+    go m few is (ltb (length before) (4 * packedReserve m)) refl passed
+  where
+    go : (m : ℕ) → m ≤ maxNodes → length nodes / nodeBytes ≡ m → (b : Bool) → ltb (length before) (4 * packedReserve m) ≡ b
+        → cond b (refused 3) (given m) ≡ given n
+        → (n ≤ maxNodes) × (4 * packedReserve n ≤ length before) × (bytesReserve nodes ≡ 4 * packedReserve n)
+    go m few is true e g = absurd (not-both g refl)
+    go m few is false e g =
+        let same : m ≡ n = given-injective g in
+        rw (← same) (few, ltb-false (length before) (4 * packedReserve m) e, ap (λ (z : ℕ). 4 * packedReserve z) is)
 
 -- nothing is zeroed where there are no nodes
 pub filled-none : (l : List ℕ) (n : ℕ) → n ≡ 0 → l ≡ filled l 0 (4 * packedReserve n) 0
@@ -332,28 +354,14 @@ module _ (nodes : List ℕ) (k : ℕ) (all : Option Bounds3) (before : List ℕ)
       rw is (refl, sym (tray-early packedBytes (bytesReserve nodes) before j (only-number (early-check nodes (length before)) e)))
 
   module _ (n : ℕ) (h : packCheck nodes (length before) ≡ given n) where
-    pub check-known : (n ≤ maxNodes) × (4 * packedReserve n ≤ length before) × (bytesReserve nodes ≡ 4 * packedReserve n)
-    unfolding packCheck _then_
-    check-known =
-        let (m, counted, passed) = then-given (nodeCount nodes) (λ (m : ℕ). cond (ltb (length before) (4 * packedReserve m)) (refused 3) (given m)) n h in
-        let (few, is) = count-known nodes m counted in
-        go m few is (ltb (length before) (4 * packedReserve m)) refl passed
-      where
-        go : (m : ℕ) → m ≤ maxNodes → length nodes / nodeBytes ≡ m → (b : Bool) → ltb (length before) (4 * packedReserve m) ≡ b
-            → cond b (refused 3) (given m) ≡ given n
-            → (n ≤ maxNodes) × (4 * packedReserve n ≤ length before) × (bytesReserve nodes ≡ 4 * packedReserve n)
-        go m few is true e g = absurd (not-both g refl)
-        go m few is false e g =
-            let same : m ≡ n = given-injective g in
-            rw (← same) (few, ltb-false (length before) (4 * packedReserve m) e, ap (λ (z : ℕ). 4 * packedReserve z) is)
-
-    pub outcome-late : {after : List ℕ} (j : ℕ) → agreed n k all ≡ refused j → after ≡ filled before 0 (4 * packedReserve n) 0 → Outcome (refused j) after
+    pub outcome-late : {a : Answer (Option ℕ)} {after : List ℕ} (j : ℕ) → agreed n k all ≡ refused j → a ≡ refused j
+        → after ≡ filled before 0 (4 * packedReserve n) 0 → Outcome a after
     unfolding packLightBvh _then_
-    outcome-late j e zeroed =
-        let (few, room, reserve) = check-known in
+    outcome-late j e refusal zeroed =
+        let (few, room, reserve) = check-known nodes before n h in
         let is : packLightBvh nodes k all (length before) ≡ refused j = rw (h, e) in
         rw (is, reserve) (
-          refl,
+          refusal,
           zeroed ∙ tray-zeroed packedBytes (4 * packedReserve n) before before j room refl (only-number (late-agreed n k all) e),
         )
 
@@ -362,7 +370,7 @@ module _ (nodes : List ℕ) (k : ℕ) (all : Option Bounds3) (before : List ℕ)
         → after ≡ tray packedBytes (4 * packedReserve n) (packedTree (wordsOf nodes) n box) before → Outcome a after
     unfolding packLightBvh _then_
     outcome-agreed box e words bytes =
-        let (few, room, reserve) = check-known in
+        let (few, room, reserve) = check-known nodes before n h in
         let is : packLightBvh nodes k all (length before) ≡ packedTree (wordsOf nodes) n box = rw (h, e) in
         rw (is, reserve) (words, bytes)
 
