@@ -2,36 +2,38 @@
 use Prim.Native.Nat.{ℕ, zero, suc, _+_, _*_, _/_, _%_, _-_, _≤_, _<_, zero-le}
 use mathlib.Core.Path.{_≡_, refl, ap, sym, subst, _∙_}
 use mathlib.Core.Bool.{Bool, true, false, cond, _&&_, _||_}
-use mathlib.Core.List.{List, [], _∷_, _++_, append-assoc}
+use mathlib.Core.List.{List, [], _∷_, _++_}
 use mathlib.Core.Option.{Option, none, some}
 use native.Mathlib.Numerals.{add-one}
 use native.Mathlib.Omega.{arith}
-use borrow.Author.Tests.{lt-ltb, eq-eqb, ne-eqb, ltb-false, eqb-true}
+use borrow.Author.Tests.{lt-ltb, eq-eqb, ne-eqb, ltb-false}
 use lib.Dec.{ltb, leb, eqb}
-use lib.ListN.{length, getD, drop, set, replicate, length-append}
-use lib.Seq.{sets, sets-eq, length-sets, drop-at, drop-append-add, drop-drop, drop-set-lt}
+use lib.ListN.{length, getD, drop, set, length-append}
+use lib.Seq.{sets, sets-eq, length-sets, drop-set-lt}
 use Rattle.words.specs.Answers.{Answer, given, refused, _then_}
 use Rattle.words.specs.Fill.{filled}
 use Rattle.words.specs.Heads.{kindOf}
 use Rattle.words.specs.LittleEndian.{bytesOf, bytesOfWord, setWord, wordsOf}
 use Rattle.words.specs.Tray.{tray}
 use Rattle.words.specs.TrayLaws.{tray-full, tray-early}
-use Rattle.words.proofs.AnswerLaws.{Early, Late, then-given, only-given, only-refused, only-cond, only-then, only-number, not-both, given-injective, refused-injective}
+use Rattle.words.proofs.AnswerLaws.{Early, Late, then-given, only-given, only-refused, only-cond, only-then, only-number, not-both, given-injective}
 use Rattle.words.proofs.LittleEndianLaws.{length-bytesOf}
 use Rattle.words.proofs.FillLaws.{filled-within}
 use Rattle.words.proofs.Reserves.{tray-zeroed}
 use Rattle.words.proofs.Stores.{sets-append}
 use Rattle.light_bounds.specs.Bounds.{boxCheck}
 use Rattle.light_bounds.specs.LightBounds.{validate}
-use Rattle.light_bounds.specs.RecordWords.{recordAt, recordWords, readRecord, sidePlace}
+use Rattle.light_bounds.specs.RecordWords.{recordAt, recordWords, sidePlace}
 use Rattle.light_bounds.specs.Side.{sideKnown}
 use Rattle.light_bounds.specs.Vecmath.{normalizeByDivision, dividing, vecLength}
 use Rattle.light_bounds.specs.declared.bounds.Bounds3.{Bounds3}
 use Rattle.light_bounds.specs.declared.light_bounds.LightBounds.{LightBounds}
 use Rattle.light_bounds.specs.declared.vecmath.Vec3.{Vec3}
 use Rattle.light_bounds.proofs.LateLaws.{late-validate, late-box}
-use Rattle.light_nodes.specs.Nodes.{LightBVHNode, leaf, interior, invalidIndex, parent, nodePlace, boundsPlace, nodeAt, nodeOf, boundsAt, nodeCount, nodeBytes, maxNodes}
-use Rattle.packed_bvh.specs.Packed.{indexMax, payload, payloadWord, compactWords, payloadCheck, parentCheck, leftCheck, packNode, packNodes, header, packedReserve}
+use Rattle.light_nodes.specs.Nodes.{LightBVHNode, leaf, interior, invalidIndex, parent, nodePlace, boundsPlace, nodeAt, nodeOf, boundsAt, nodeCount}
+use Rattle.light_nodes.specs.Nodes.{nodeBytes, maxNodes}
+use Rattle.packed_bvh.specs.Packed.{indexMax, payload, payloadWord, compactWords, payloadCheck, parentCheck, leftCheck, packNode, packNodes, header}
+use Rattle.packed_bvh.specs.Packed.{packedReserve}
 use Rattle.packed_bvh.specs.Packed.{packCheck, agreed, packedTree, packLightBvh, packedBytes, bytesReserve, wordsPacked}
 use Rattle.packed_bvh.specs.PackedParts.{placing, packBounds, packPlaced}
 
@@ -43,26 +45,26 @@ bytesOf-append [] ys = refl
 bytesOf-append (x ∷ xs) ys = ap (λ (z : List ℕ). bytesOfWord x ++ z) (bytesOf-append xs ys)
 
 -- l holds the words ws from place p on, and is d elsewhere
-abbrev pub Words : List ℕ → ℕ → List ℕ → List ℕ → Type 0
-Words d p ws l = l ≡ sets d (4 * p) (bytesOf ws)
+pub record Words (d : List ℕ) (p : ℕ) (ws l : List ℕ) : Type 0 where
+  pub is : l ≡ sets d (4 * p) (bytesOf ws)
 
 pub words-none : (d : List ℕ) (p : ℕ) → Words d p [] d
 unfolding bytesOf
-words-none d p = refl
+words-none d p = record { is = refl }
 
--- one word more
-pub words-one : (d : List ℕ) (p : ℕ) {l m : List ℕ} (ws : List ℕ) {v : ℕ} (w q : ℕ) → Words d p ws l → m ≡ setWord l q v → v ≡ w → q ≡ p + length ws
+-- one word more, v, of which it is known that it is w
+pub words-one : {d : List ℕ} {p : ℕ} {ws l m : List ℕ} {v w q : ℕ} → Words d p ws l → m ≡ setWord l q v → v ≡ w → q ≡ p + length ws
     → 4 * (q + 1) ≤ length d → Words d p (ws ++ w ∷ []) m
 unfolding setWord bytesOf
-words-one d p {l} {m} ws {v} w q h e is place room =
-    let same : length l ≡ length d = ap length h ∙ length-sets d (4 * p) (bytesOf ws) in
+words-one {d} {p} {ws} {l} {m} {v} {w} {q} h e is place room =
+    let same : length l ≡ length d = ap length (h .is) ∙ length-sets d (4 * p) (bytesOf ws) in
     let at : 4 * p + length (bytesOf ws) ≡ 4 * q = omega (arith, length-bytesOf ws) in
     let put : setWord l q w ≡ sets l (4 * q) (bytesOfWord w) = rw (lt-ltb q (length l / 4) (omega (arith, same))) in
     let all : sets d (4 * p) (bytesOf (ws ++ w ∷ [])) ≡ sets (sets d (4 * p) (bytesOf ws)) (4 * q) (bytesOfWord w) =
     ap (sets d (4 * p)) (bytesOf-append ws (w ∷ []))
     ∙ sets-append d (4 * p) (bytesOf ws) (bytesOf (w ∷ []))
     ∙ ap (λ (k : ℕ). sets (sets d (4 * p) (bytesOf ws)) k (bytesOfWord w)) at in
-    e ∙ ap (setWord l q) is ∙ put ∙ ap (λ (z : List ℕ). sets z (4 * q) (bytesOfWord w)) h ∙ sym all
+    record { is = e ∙ ap (setWord l q) is ∙ put ∙ ap (λ (z : List ℕ). sets z (4 * q) (bytesOfWord w)) (h .is) ∙ sym all }
 
 -- what lies behind stores stays
 pub drop-sets : (n : ℕ) (vs l : List ℕ) (i : ℕ) → i + length vs ≤ n → drop n (sets l i vs) ≡ drop n l
@@ -182,11 +184,11 @@ module _ (all : Bounds3) (ws : List ℕ) (n : ℕ) where
     pub nodes : List ℕ
     pub is : packNodes n all ws i ≡ given nodes
     pub size : length nodes ≡ 8 * i
-    pub words : Words d 8 nodes l
+    pub words : l ≡ sets d (4 * 8) (bytesOf nodes)
 
   pub packing-none : (d : List ℕ) → Packing 0 d d
   unfolding packNodes
-  packing-none d = record { nodes = []; is = refl; size = refl; words = words-none d 8 }
+  packing-none d = record { nodes = []; is = refl; size = refl; words = words-none d 8 .is }
 
   pub packing-one : {i : ℕ} {d l m : List ℕ} (row : List ℕ) → Packing i d l → packNode n all ws i ≡ given row → length row ≡ 8
       → m ≡ sets l (4 * (8 + 8 * i)) (bytesOf row) → Packing (i + 1) d m
@@ -226,7 +228,7 @@ module _ (all : Bounds3) (ws : List ℕ) (n : ℕ) where
   pub packing-length : {i : ℕ} {d l : List ℕ} → Packing i d l → length l ≡ length d
   packing-length {i} {d} p = ap length (p .words) ∙ length-sets d (4 * 8) (bytesOf (p .nodes))
 
-  module _ (before : List ℕ) {i : ℕ} {d l : List ℕ} (some-node : 0 < n) (room : 4 * packedReserve n ≤ length before) (head : Words before 0 (header all) d)
+  module _ (before : List ℕ) {i : ℕ} {d l : List ℕ} (some-node : 0 < n) (room : 4 * packedReserve n ≤ length before) (head : d ≡ sets before 0 (bytesOf (header all)))
       (p : Packing i d l) where
     reserve : packedReserve n ≡ 8 + 8 * n
     reserve = reserve-some n some-node
@@ -268,8 +270,8 @@ module _ (all : Bounds3) (ws : List ℕ) (n : ℕ) where
         rw (packing-all p e) (
           ap (λ (k : ℕ). given (some k)) (sym count),
           whole ∙ sets-eq (bytesOf (header all ++ p .nodes)) before 0 (omega (arith, at))
-          ∙ ap (λ (k : ℕ). bytesOf (header all ++ p .nodes) ++ drop k before) at
-          ∙ sym (tray-full packedBytes (4 * packedReserve n) before (some (header all ++ p .nodes)) bytes),
+              ∙ ap (λ (k : ℕ). bytesOf (header all ++ p .nodes) ++ drop k before) at
+              ∙ sym (tray-full packedBytes (4 * packedReserve n) before (some (header all ++ p .nodes)) bytes),
         )
 
 -- ---- the whole

@@ -1,7 +1,7 @@
--- `pack_light_bvh` of `webgpu/light_bvh.rs`, in document 01's order: 2, 1, 3, then the Rust's. Eight words of header, the overall box's corners, and eight a node.
--- Definitions only. Assumes nothing.
+-- `pack_light_bvh` of `webgpu/light_bvh.rs`, in document 01's order: 2, 1, 3, then the Rust's. Eight words of header, the overall box's corners, and eight a
+-- node. Definitions only. Assumes nothing.
 use Prim.Native.Nat.{ℕ, zero, suc, _+_, _*_, _/_}
-use mathlib.Core.Bool.{Bool, true, false, cond, _&&_, _||_}
+use mathlib.Core.Bool.{true, false, cond, _&&_, _||_}
 use mathlib.Core.List.{List, [], _∷_, _++_}
 use mathlib.Core.Option.{Option, none, some}
 use lib.Dec.{eqb, ltb}

@@ -1,27 +1,31 @@
 -- The quantised numbers are no larger than their last step. A value that is a NaN or at most a whole number n has a whole number of at most n next to it, and
 -- a cast of a NaN is 0. Assumes nothing.
-use Prim.Native.Nat.{ℕ, _+_, _*_, _/_, _-_, _^_, _≤_, _<_, min, zero-le}
+use Prim.Native.Nat.{ℕ, _+_, _*_, _-_, _≤_, _<_, zero-le}
 use mathlib.Core.Path.{_≡_, refl, sym, _∙_, ap, subst}
-use mathlib.Core.Bool.{Bool, true, false, cond, not}
+use mathlib.Core.Bool.{Bool, true, false, cond, not, _&&_, _||_}
 use mathlib.Core.Logic.{_⊎_, inl, inr}
-use native.Mathlib.Nat.{le-trans, le-of-eq, le-of-lt, le-of-mul-le-mul-right, lt-of-mul-lt-mul-right, mul-one, one-mul, min-le-left, div-one, lt-of-not-le, eq-or-lt-of-le}
+use native.Mathlib.Nat.{le-trans, le-of-eq, le-of-lt, le-of-mul-le-mul-right, lt-of-mul-lt-mul-right, mul-one, one-mul, lt-of-not-le, eq-or-lt-of-le}
 use native.Mathlib.Decide.{decLe}
 use native.Mathlib.Omega.{arith}
 use borrow.Author.Tests.{lt-ltb, le-ltb, ltb-false}
 use lib.Dec.{T, ltb, lit<, lit≤}
 use lib.IntN.{ℤ, pos}
-use lib.Ieee.{Float, nan, inf, fin, Format, binary32, up, down, round, sum, add, sub, mul, div, neg, lt, le, eq, isNan, fits, ofBits, toUnsigned}
+use lib.Ieee.{Float, nan, inf, fin, Format, binary32, up, down, sum, add, sub, mul, div, neg, lt, le, eq, isNan, fits, ofBits, toUnsigned}
 use lib.Ieee.Exact.{HasValue}
 use lib.Ieee.Fits.{down-pos, mul-fits, and-l, and-r}
-use lib.Ieee.Scale.{finite}
 use Rattle.ieee.specs.Choose.{clamp}
 use Rattle.ieee.specs.OperationOrder.{add-nonneg, sub-nonneg, mul-nonneg, div-nonneg, add-mono, mul-mono, div-mono, sub-le}
-use Rattle.ieee.specs.OrderLaws.{le-fin, le-left, le-right, le-refl, le-of-not-lt, le→nonneg, nonneg, nonneg-known, nonneg-up}
-use Rattle.ieee.specs.Single.{_⊕_, _⊖_, _⊗_, _⊘_, zerof, onef, twof, minusOne}
-use Rattle.ieee.specs.Whole.{outward, nextWhole, negative, floor, ceil, toU16, toU32}
+use Rattle.ieee.specs.OrderLaws.{le-fin, le-left, le-of-not-lt, le→nonneg, nonneg, nonneg-known}
+use Rattle.ieee.specs.Single.{_⊕_, _⊖_, _⊗_, _⊘_, zerof, half, onef, twof, minusOne}
+use Rattle.ieee.specs.Whole.{outward, nextWhole, negative, floor, ceil, roundAway, toU16, toU32}
 use Rattle.ieee.specs.WholeLaws.{toUnsigned-units}
 use Rattle.ieee.specs.WholeNumbers.{outward-under, outward-over, nextWhole-value}
-use Rattle.light_bounds.specs.LightBounds.{isCosine}
+use Rattle.words.specs.Answers.{Answer, given, refused}
+use Rattle.words.proofs.AnswerLaws.{then-given, not-both}
+use Rattle.light_bounds.specs.Bounds.{boxCheck}
+use Rattle.light_bounds.specs.LightBounds.{isCosine, finiteCone, rangeCheck, coneCheck, validate}
+use Rattle.light_bounds.specs.Vecmath.{dot}
+use Rattle.light_bounds.specs.declared.light_bounds.LightBounds.{LightBounds}
 use Rattle.packed_bvh.specs.Quantize.{lastStep, lastCosStep, stepsOf, quantizeBounds, quantizeCos, quantizeAxis}
 
 -- ---- the whole number next to a value
@@ -132,7 +136,7 @@ quantize-small up value lo hi = go (eq lo hi) up
 
 pub quantize-axis-small : (c : Float) → quantizeAxis c ≤ 65535
 unfolding quantizeAxis
-quantize-axis-small c = go (toU32 (Rattle.ieee.specs.Whole.roundAway binary32 ((c ⊕ onef) ⊗ Rattle.ieee.specs.Single.half ⊗ lastStep)))
+quantize-axis-small c = go (toU32 (roundAway binary32 ((c ⊕ onef) ⊗ half ⊗ lastStep)))
   where
     cut : (step : ℕ) (b : Bool) → ltb 65535 step ≡ b → cond b 65535 step ≤ 65535
     cut step true e = lit≤ tt
@@ -177,7 +181,7 @@ raised (inf false) h k = absurd (unfold le lt eq in k)
 raised (fin false m e) h k = (
   add-nonneg binary32 (fin false m e) onef tt tt,
   subst (λ (z : Float). T (le (fin false m e ⊕ onef) z)) one-and-one
-  (add-mono binary32 (fin false m e) onef onef onef tt tt k (unfold le eq in tt)),
+      (add-mono binary32 (fin false m e) onef onef onef tt tt k (unfold le eq in tt)),
 )
 raised (fin true m e) h k =
     let l = le-fin true 1 (pos 0) true m e .0 h in
@@ -185,7 +189,7 @@ raised (fin true m e) h k =
     rw below-zero (
       sub-nonneg binary32 onef (fin false m e) tt tt small,
       Rattle.ieee.specs.OrderLaws.le-trans (onef ⊖ fin false m e) onef twof
-      (sub-le binary32 onef (fin false m e) (unfold fits in tt) tt tt small) (unfold le lt in tt),
+          (sub-le binary32 onef (fin false m e) (unfold fits in tt) tt tt small) (unfold le lt in tt),
     )
 
 two-halved : twof ⊘ twof ≡ onef
@@ -223,3 +227,25 @@ cos-small c h =
     let s = lastCosStep ⊗ x in
     next-small 16 32767 (negative s) s (mul-fits binary32 lastCosStep x)
     (cos-steps x (halved (c ⊕ onef) (raised c (and-l (le minusOne c) (le c onef) t) (and-r (le minusOne c) (le c onef) t))))
+
+-- a record that passes its check has cosines, so that its cone word keeps fifteen bits for each
+pub valid-cosines : (b : LightBounds) → validate b ≡ given tt → (isCosine (b .«cos_theta_o») ≡ true) × (isCosine (b .«cos_theta_e») ≡ true)
+unfolding validate coneCheck rangeCheck
+valid-cosines b h =
+    let (u, box, cone) = then-given (boxCheck (b .bounds)) (λ _. coneCheck b) tt h in
+    go (finiteCone b) (eq (dot (b .direction) (b .direction)) zerof) (lt (b .phi) zerof) (isCosine (b .«cos_theta_o»)) (isCosine (b .«cos_theta_e»)) cone
+  where
+    go : (finite still below o e : Bool)
+        → _≡_ {A = Answer (Unit {0})} (cond finite (cond still (refused 7) (cond (below || not (o && e)) (refused 8) (given tt))) (refused 5)) (given tt)
+        → (o ≡ true) × (e ≡ true)
+    go false still below o e g = absurd (not-both g refl)
+    go true true below o e g = absurd (not-both g refl)
+    go true false true o e g = absurd (not-both g refl)
+    go true false false false e g = absurd (not-both g refl)
+    go true false false true false g = absurd (not-both g refl)
+    go true false false true true g = (refl, refl)
+
+pub valid-cos-small : (b : LightBounds) → validate b ≡ given tt → (quantizeCos (b .«cos_theta_o») ≤ 32767) × (quantizeCos (b .«cos_theta_e») ≤ 32767)
+valid-cos-small b h =
+    let (o, e) = valid-cosines b h in
+    (cos-small (b .«cos_theta_o») o, cos-small (b .«cos_theta_e») e)

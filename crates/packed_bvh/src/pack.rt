@@ -3,19 +3,17 @@ ghost use mathlib.Core.Bool.{_||_};
 ghost use mathlib.Core.Path.{_≡_};
 ghost use mathlib.Core.Option.{some};
 ghost use lib.Dec.{eqb, ltb};
-ghost use mathlib.Core.List.{List, [], _∷_};
-ghost use Prim.Native.Nat.{ℕ, _+_, _*_, _≤_, _<_};
+ghost use Prim.Native.Nat.{_+_, _*_, _≤_, _<_};
 ghost use lib.ListN.{length};
 ghost use lib.Seq.{sets};
-ghost use Rattle.words.specs.Answers.{counted, given, refused};
+ghost use Rattle.words.specs.Answers.{counted, refused};
 ghost use Rattle.words.specs.Refusals.{number};
 ghost use Rattle.words.specs.LittleEndian.{wordsOf, bytesOf};
 ghost use Rattle.words.specs.Fill.{filled};
 ghost use Rattle.words.specs.Tray.{tray};
-ghost use Rattle.light_bounds.specs.Bounds.{validity};
 ghost use Rattle.light_nodes.specs.Nodes.{leaf, interior, invalidIndex};
-ghost use Rattle.packed_bvh.specs.Packed.{paired, coneWord, payloadWord, compactWords, packNode, packNodes, header, packedReserve, packCheck};
-ghost use Rattle.packed_bvh.specs.Packed.{agreed, packedTree, packLightBvh, packedBytes, bytesReserve, wordsPacked, packed, allBoundsOf};
+ghost use Rattle.packed_bvh.specs.Packed.{paired, coneWord, compactWords, packNode, header, packedReserve, packCheck};
+ghost use Rattle.packed_bvh.specs.Packed.{packedTree, packLightBvh, packedBytes, bytesReserve, wordsPacked, packed, allBoundsOf};
 ghost use Rattle.packed_bvh.specs.PackedParts.{compactList, placing, placed, packBounds, packPlaced, nodePacked};
 use super::quantize::octahedral;
 use super::quantize::quantize_axis;
@@ -318,8 +316,9 @@ fn refuse(out: &mut [u8], n: usize, why: Refusal) -> Packed
 }
 
 // Packs the node words with k, the number of powered lamps, and their box: 8 + 8 × nodes words are written as bytes, little-endian, and no word without nodes.
-// Refusals 2, 1, 3 leave the lent bytes as they are; 12 where box, nodes and k do not agree, 5 and 6 of the box, then node by node 12 of its kind and its side,
-// 5 to 8 of its record, 7 of its direction's length, 13 of a payload over 2^31 - 1, 12 of its parent and its left child: these zero the reserve. No tree gives none.
+// Refusals 2, 1, 3 leave the lent bytes as they are; 12 where box, nodes and k do not agree, 5 and 6 of the box, then node by node 12 of its kind and its
+// side, 5 to 8 of its record, 7 of its direction's length, 13 of a payload over 2^31 - 1, 12 of its parent and its left child: these zero the reserve.
+// No tree gives none.
 pub fn pack_light_bvh(nodes: &[u8], k: usize, all_bounds: AllBounds, out: &mut [u8]) -> Packed
     ensures { λ r. ⌜ packed r ≡ wordsPacked (packLightBvh (now (nodes .entry)) k (allBoundsOf «all_bounds») (length (now (out .entry)))) ⌝ }
     ensures { λ _. ⌜ now (out .exit) ≡ tray packedBytes (bytesReserve (now (nodes .entry)))

@@ -1,6 +1,6 @@
 -- `packed_bvh::pack::compact_words` meets its contract: each word is the definition's, and no step is too wide for its half of one. Assumes nothing.
 use Prim.Native.Nat.{ℕ, _≤_, _<_}
-use mathlib.Core.Path.{_≡_, refl, sym, subst}
+use mathlib.Core.Path.{_≡_, refl}
 use native.Mathlib.Omega.{arith}
 use borrow.Author.Needs.{needs}
 use Rattle.packed_bvh.specs.Packed.{compactWords}

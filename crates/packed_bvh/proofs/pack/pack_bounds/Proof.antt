@@ -1,5 +1,5 @@
 -- `packed_bvh::pack::pack_bounds` meets its contract: the direction's length, then the node's own checks. Assumes nothing.
-use mathlib.Core.Path.{ap, sym, _∙_}
+use mathlib.Core.Path.{ap}
 use borrow.Author.Needs.{needs}
 use Rattle.words.specs.Answers.{_then_, given}
 use Rattle.packed_bvh.specs.PackedParts.{packBounds}

@@ -1,5 +1,4 @@
 -- `packed_bvh::pack::pack_placed` meets its contract: the record, its check, then what stands in pack_bounds. Assumes nothing.
-use mathlib.Core.Path.{_∙_}
 use borrow.Author.Needs.{needs}
 use Rattle.words.specs.Answers.{_then_}
 use Rattle.packed_bvh.specs.PackedParts.{packPlaced}

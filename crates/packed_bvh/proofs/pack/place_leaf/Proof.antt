@@ -1,5 +1,4 @@
 -- `packed_bvh::pack::place_leaf` meets its contract: the payload's check, then the parent's. Assumes nothing.
-use mathlib.Core.Path.{refl}
 use borrow.Author.Needs.{needs}
 use borrow.Author.Tests.{lt-ltb, le-ltb}
 use Rattle.words.specs.Answers.{_then_}
