@@ -228,8 +228,8 @@ module _ (all : Bounds3) (ws : List ℕ) (n : ℕ) where
   pub packing-length : {i : ℕ} {d l : List ℕ} → Packing i d l → length l ≡ length d
   packing-length {i} {d} p = ap length (p .words) ∙ length-sets d (4 * 8) (bytesOf (p .nodes))
 
-  module _ (before : List ℕ) {i : ℕ} {d l : List ℕ} (some-node : 0 < n) (room : 4 * packedReserve n ≤ length before) (head : d ≡ sets before 0 (bytesOf (header all)))
-      (p : Packing i d l) where
+  module _ (before : List ℕ) {i : ℕ} {d l : List ℕ} (some-node : 0 < n) (room : 4 * packedReserve n ≤ length before)
+      (head : d ≡ sets before 0 (bytesOf (header all))) (p : Packing i d l) where
     reserve : packedReserve n ≡ 8 + 8 * n
     reserve = reserve-some n some-node
 
