@@ -268,8 +268,8 @@ module _ (all : Bounds3) (ws : List ℕ) (n : ℕ) where
         rw (packing-all p e) (
           ap (λ (k : ℕ). given (some k)) (sym count),
           whole ∙ sets-eq (bytesOf (header all ++ p .nodes)) before 0 (omega (arith, at))
-          ∙ ap (λ (k : ℕ). bytesOf (header all ++ p .nodes) ++ drop k before) at
-          ∙ sym (tray-full packedBytes (4 * packedReserve n) before (some (header all ++ p .nodes)) bytes),
+              ∙ ap (λ (k : ℕ). bytesOf (header all ++ p .nodes) ++ drop k before) at
+              ∙ sym (tray-full packedBytes (4 * packedReserve n) before (some (header all ++ p .nodes)) bytes),
         )
 
 -- ---- the whole

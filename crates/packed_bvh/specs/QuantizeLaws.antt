@@ -177,7 +177,7 @@ raised (inf false) h k = absurd (unfold le lt eq in k)
 raised (fin false m e) h k = (
   add-nonneg binary32 (fin false m e) onef tt tt,
   subst (λ (z : Float). T (le (fin false m e ⊕ onef) z)) one-and-one
-  (add-mono binary32 (fin false m e) onef onef onef tt tt k (unfold le eq in tt)),
+      (add-mono binary32 (fin false m e) onef onef onef tt tt k (unfold le eq in tt)),
 )
 raised (fin true m e) h k =
     let l = le-fin true 1 (pos 0) true m e .0 h in
@@ -185,7 +185,7 @@ raised (fin true m e) h k =
     rw below-zero (
       sub-nonneg binary32 onef (fin false m e) tt tt small,
       Rattle.ieee.specs.OrderLaws.le-trans (onef ⊖ fin false m e) onef twof
-      (sub-le binary32 onef (fin false m e) (unfold fits in tt) tt tt small) (unfold le lt in tt),
+          (sub-le binary32 onef (fin false m e) (unfold fits in tt) tt tt small) (unfold le lt in tt),
     )
 
 two-halved : twof ⊘ twof ≡ onef

@@ -64,9 +64,11 @@ loop-again c =
     let words = write .before .before .before in
     let in-loop = writing (write .before) in
     let args = start (in-loop .before) .args in
-    let told = sym (words .before .before .pack-node .ensures) ∙ ap nodePacked (words .c .given .1) in
-    (omega (arith, turn in-loop), packing-one (args .all) (wordsOf (now (args .nodes))) (args .n) (compactList (words .c .given .0 .0))
-    (in-loop .before .loop .inv .1) told refl (write .write-compact .ensures))
+    let told = sym (words .before .before .pack-node .ensures) ∙ ap nodePacked (words .c .given .1) in (
+      omega (arith, turn in-loop),
+      packing-one (args .all) (wordsOf (now (args .nodes))) (args .n) (compactList (words .c .given .0 .0))
+          (in-loop .before .loop .inv .1) told refl (write .write-compact .ensures),
+    )
 
 -- the turn that is refused
 abbrev refusing : tie.After-reserve Inv-loop μ-loop → tie.In-loop Inv-loop μ-loop
