@@ -3,7 +3,7 @@ use Prim.Native.Nat.{ℕ, _+_, _*_, _%_}
 use mathlib.Core.Bool.{cond}
 use mathlib.Core.List.{List, _∷_, _++_}
 use mathlib.Core.Option.{Option, none, some}
-use lib.Dec.{leb}
+use lib.Dec.{leb, eqb}
 use lib.Ieee.{Float, binary32, toBits}
 use lib.ListN.{length}
 use lib.Seq.{sets}
@@ -11,14 +11,12 @@ use Rattle.ieee.specs.Single.{zerof}
 use Rattle.words.specs.Answers.{Answer, given, refused, _then_}
 use Rattle.light_bounds.specs.Importance.{weigh}
 use Rattle.light_bounds.specs.LightBounds.{validate, union}
-use Rattle.light_bounds.specs.RecordWords.{recordAt, recordWords, vecAt, vecWords}
+use Rattle.light_bounds.specs.RecordWords.{recordAt, recordWords, vecAt, boxAt, vecWords}
 use Rattle.light_bounds.specs.Vecmath.{vec}
 use Rattle.light_bounds.specs.declared.bounds.Bounds3.{Bounds3}
 use Rattle.light_bounds.specs.declared.importance.Query.{Query}
 use Rattle.light_bounds.specs.declared.light_bounds.LightBounds.{LightBounds}
 use Rattle.light_sampler.specs.Walks.{Draw}
-use lib.Dec.{eqb}
-use Rattle.light_bounds.specs.RecordWords.{boxAt}
 use Rattle.packed_bvh.specs.Packed.{packLightBvh}
 
 -- a count, or the largest number where it is refused
