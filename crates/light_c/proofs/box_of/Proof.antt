@@ -1,9 +1,9 @@
--- `parts_c::box_of` meets its contract: its two corners, where it is present. Assumes nothing.
+-- `light_c::box_of` meets its contract: its two corners, where it is present. Assumes nothing.
 use borrow.Author.Needs.{needs}
 use borrow.Author.Tests.{eq-eqb, ne-eqb}
-use Rattle.parts_c.specs.Codes.{boxOf}
-use Rattle.parts_c.proofs.box_of.Statement.{statement}
-use Rattle.parts_c.proofs.box_of.Tie as tie
+use Rattle.light_c.specs.Codes.{boxOf}
+use Rattle.light_c.proofs.box_of.Statement.{statement}
+use Rattle.light_c.proofs.box_of.Tie as tie
 
 returns : tie.Need-returns
 unfolding boxOf

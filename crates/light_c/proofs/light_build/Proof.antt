@@ -1,4 +1,4 @@
--- `parts_c::tree_build_light_bvh` meets its contract: what the build answers, as words; what it leaves is its own. Assumes nothing.
+-- `light_c::light_build` meets its contract: what the build answers, as words; what it leaves is its own. Assumes nothing.
 use mathlib.Core.Path.{_≡_, refl, sym, ap, _∙_}
 use mathlib.Core.Option.{some, none}
 use denote.Ref.{now}
@@ -6,10 +6,10 @@ use lib.Ieee.{ofBits}
 use lib.ListN.{length}
 use Rattle.words.specs.Answers.{Answer, given, refused, code}
 use Rattle.light_bvh.specs.Build.{LightBVH, buildLightBvh, summary, built}
-use Rattle.parts_c.specs.Codes.{summarised}
+use Rattle.light_c.specs.Codes.{summarised}
 use borrow.Author.Needs.{needs}
-use Rattle.parts_c.proofs.tree_build_light_bvh.Statement.{statement}
-use Rattle.parts_c.proofs.tree_build_light_bvh.Tie as tie
+use Rattle.light_c.proofs.light_build.Statement.{statement}
+use Rattle.light_c.proofs.light_build.Tie as tie
 
 coded : (x : Answer LightBVH) → code (summary x) ≡ code x
 coded (given b) = refl
@@ -42,8 +42,8 @@ returns-3 c =
     let s = c .before .before .before .before .before .before .before .before .before .before .before .before .before .before .before .before .before .before .before in
     (c .refusal-number .ensures ∙ sym (ap code told) ∙ coded (outcome s), (e .1 .0, (e .1 .1 .0, (e .1 .1 .1, sym (ap (λ a. summarised a (now (s .args .answer))) told)))))
 
-pub tree-build-light-bvh-spec : {M : Type 1} → statement M
-tree-build-light-bvh-spec =
+pub light-build-spec : {M : Type 1} → statement M
+light-build-spec =
     tie.close (tie.spec (λ c κs. search needs) (λ c. search needs) (λ c κs. search needs) (λ c. search needs) (λ c κs. search needs)
     (λ c. search needs) (λ c κs. search needs) (λ c. search needs) (λ c. search needs) (λ c. search needs) (λ c. search needs) returns
     (λ c. search needs) (λ c. search needs) (λ c. search needs) (λ c. search needs) returns-2 (λ c. search needs) (λ c. search needs)

@@ -1,7 +1,7 @@
--- `parts_c::draw_code` meets its contract: the light above its chance's bits, 2^62, or 2^63 and the number. Assumes nothing.
+-- `light_c::draw_code` meets its contract: the light above its chance's bits, 2^62, or 2^63 and the number. Assumes nothing.
 use borrow.Author.Needs.{needs}
-use Rattle.parts_c.proofs.draw_code.Statement.{statement}
-use Rattle.parts_c.proofs.draw_code.Tie as tie
+use Rattle.light_c.proofs.draw_code.Statement.{statement}
+use Rattle.light_c.proofs.draw_code.Tie as tie
 
 returns : tie.Need-returns
 returns c = rw (c .before .before .answer .given .1, c .word-of-f32 .ensures)

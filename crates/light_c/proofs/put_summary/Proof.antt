@@ -1,9 +1,9 @@
--- `parts_c::put_summary` meets its contract: its stores are those of `sets`. Assumes nothing.
+-- `light_c::put_summary` meets its contract: its stores are those of `sets`. Assumes nothing.
 use native.Mathlib.Omega.{arith}
 use lib.ListN.{length-set}
 use borrow.Author.Needs.{needs}
-use Rattle.parts_c.proofs.put_summary.Statement.{statement}
-use Rattle.parts_c.proofs.put_summary.Tie as tie
+use Rattle.light_c.proofs.put_summary.Statement.{statement}
+use Rattle.light_c.proofs.put_summary.Tie as tie
 
 returns : tie.Need-returns
 returns c =

@@ -1,12 +1,12 @@
--- `parts_c::write_summary` meets its contract: whether there are words enough is settled first. Assumes nothing.
+-- `light_c::write_summary` meets its contract: whether there are words enough is settled first. Assumes nothing.
 use mathlib.Core.Path.{refl}
 use denote.Ref.{now}
 use lib.ListN.{length}
 use borrow.Author.Needs.{needs}
 use borrow.Author.Tests.{le-leb, lt-leb}
-use Rattle.parts_c.specs.Codes.{summaryWords}
-use Rattle.parts_c.proofs.write_summary.Statement.{statement}
-use Rattle.parts_c.proofs.write_summary.Tie as tie
+use Rattle.light_c.specs.Codes.{summaryWords}
+use Rattle.light_c.proofs.write_summary.Statement.{statement}
+use Rattle.light_c.proofs.write_summary.Tie as tie
 
 returns : tie.Need-returns
 unfolding summaryWords

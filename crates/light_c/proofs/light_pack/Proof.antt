@@ -1,4 +1,4 @@
--- `parts_c::packed_pack_light_bvh` meets its contract: there are words enough for the box, then the nodes are packed. Assumes nothing.
+-- `light_c::light_pack` meets its contract: there are words enough for the box, then the nodes are packed. Assumes nothing.
 use mathlib.Core.Path.{refl, ap, _∙_}
 use denote.Ref.{now}
 use native.Mathlib.Omega.{arith}
@@ -6,9 +6,9 @@ use borrow.Author.Needs.{needs}
 use borrow.Author.Tests.{lt-leb, le-leb}
 use lib.ListN.{length}
 use Rattle.words.specs.Tray.{tray}
-use Rattle.parts_c.specs.Codes.{packedCode, packWords}
-use Rattle.parts_c.proofs.packed_pack_light_bvh.Statement.{statement}
-use Rattle.parts_c.proofs.packed_pack_light_bvh.Tie as tie
+use Rattle.light_c.specs.Codes.{packedCode, packWords}
+use Rattle.light_c.proofs.light_pack.Statement.{statement}
+use Rattle.light_c.proofs.light_pack.Tie as tie
 
 returns : tie.Need-returns
 unfolding packWords tray
@@ -23,6 +23,6 @@ returns-2 c =
     rw (le-leb 6 (length (now (args .all))) (omega (arith, box .before .if1 .left)), ← box .box-of .ensures)
     (c .packed-code .ensures ∙ ap packedCode (done .pack-light-bvh .ensures .0), done .pack-light-bvh .ensures .1)
 
-pub packed-pack-light-bvh-spec : {M : Type 1} → statement M
-packed-pack-light-bvh-spec =
+pub light-pack-spec : {M : Type 1} → statement M
+light-pack-spec =
     tie.close (tie.spec returns (λ c κs. search needs) (λ c κs. search needs) (λ c κs. search needs) (λ c. search needs) returns-2)
