@@ -3,7 +3,7 @@ use Prim.Native.Nat.{ℕ, _+_, _*_, _%_}
 use mathlib.Core.Bool.{cond}
 use mathlib.Core.List.{List, _∷_, _++_}
 use mathlib.Core.Option.{Option, none, some}
-use lib.Dec.{leb}
+use lib.Dec.{leb, eqb}
 use lib.Ieee.{Float, binary32, toBits}
 use lib.ListN.{length}
 use lib.Seq.{sets}
@@ -11,12 +11,13 @@ use Rattle.ieee.specs.Single.{zerof}
 use Rattle.words.specs.Answers.{Answer, given, refused, _then_}
 use Rattle.light_bounds.specs.Importance.{weigh}
 use Rattle.light_bounds.specs.LightBounds.{validate, union}
-use Rattle.light_bounds.specs.RecordWords.{recordAt, recordWords, vecAt, vecWords}
+use Rattle.light_bounds.specs.RecordWords.{recordAt, recordWords, vecAt, boxAt, vecWords}
 use Rattle.light_bounds.specs.Vecmath.{vec}
 use Rattle.light_bounds.specs.declared.bounds.Bounds3.{Bounds3}
 use Rattle.light_bounds.specs.declared.importance.Query.{Query}
 use Rattle.light_bounds.specs.declared.light_bounds.LightBounds.{LightBounds}
 use Rattle.light_sampler.specs.Walks.{Draw}
+use Rattle.packed_bvh.specs.Packed.{packLightBvh}
 
 -- a count, or the largest number where it is refused
 abbrev pub countCode : Answer ℕ → ℕ
@@ -70,3 +71,19 @@ abbrev pub drawCode : Answer Draw → ℕ
 drawCode (given (some (h, p))) = h * 0x1_0000_0000 + toBits binary32 p
 drawCode (given none) = 0x4000_0000_0000_0000
 drawCode (refused n) = 0x8000_0000_0000_0000 + n
+
+-- ---- the packed tree
+
+-- how many words were packed, 2^32 where there is no tree, or 2^33 and the refusal's number
+abbrev pub packedCode : Answer (Option ℕ) → ℕ
+packedCode (given (some n)) = n
+packedCode (given none) = 0x1_0000_0000
+packedCode (refused n) = 0x2_0000_0000 + n
+
+-- the box of six words; `present` is 0 where there is none
+unfoldable pub boxOf : ℕ → List ℕ → Option Bounds3
+boxOf present ws = cond (eqb present 0) none (some (boxAt ws 0))
+
+-- too few words for a box are refusal 1
+unfoldable pub packWords : List ℕ → ℕ → ℕ → List ℕ → ℕ → Answer (Option (List ℕ))
+packWords nodes k present all room = cond (leb 6 (length all)) (packLightBvh nodes k (boxOf present all) room) (refused 1)

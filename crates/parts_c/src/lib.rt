@@ -548,4 +548,53 @@ pub extern "C" fn sampler_pmf(
     ensures { λ r. ⌜ r ≡ valueCode (pmf (now (nodes .entry)) (now (table .entry)) (queryAt px py pz nx ny nz) handle) ⌝ }
 {
     chance_code(bvh_light_sampler_pmf(nodes, table, query_at(px, py, pz, nx, ny, nz), handle))
+
+// ---- the packed tree
+
+ghost use Rattle.packed_bvh.specs.Packed.{allBoundsOf, packed, packedBytes, bytesReserve, wordsPacked};
+ghost use Rattle.parts_c.specs.Codes.{packedCode, boxOf, packWords};
+use packed_bvh::pack::AllBounds;
+use packed_bvh::pack::Packed;
+use packed_bvh::pack::pack_light_bvh;
+
+// The box of six words, or its absence.
+fn box_of(present: u32, words: &[u32]) -> AllBounds
+    ensures { λ r. ⌜ allBoundsOf r ≡ boxOf present (now (words .entry)) ⌝ }
+{
+    if present == 0 {
+        return AllBounds::Absent;
+    }
+    let min = vec_at(words, 0);
+    let max = vec_at(words, 3);
+    AllBounds::Bounds(Bounds3 { min, max })
+}
+
+fn packed_code(answer: Packed) -> u64
+    ensures { λ r. ⌜ r ≡ packedCode (packed answer) ⌝ }
+{
+    match answer {
+        Packed::Words(n) => n as u64,
+        Packed::Nothing => 0x1_0000_0000,
+        Packed::Refused(why) => 0x2_0000_0000 + refusal_number(why) as u64,
+    }
+}
+
+// How many words were packed, 2^32 where there is no tree, or 2^33 and the refusal's number: 1 where the box has less than six words, whether it is present
+// (other than 0) or not.
+#[no_mangle]
+pub extern "C" fn packed_pack_light_bvh(
+    nodes: &[u8],
+    k: usize,
+    present: u32,
+    all: &[u32],
+    out: &mut [u8],
+) -> u64
+    ensures { λ r. ⌜ r ≡ packedCode (wordsPacked (packWords (now (nodes .entry)) k present (now (all .entry)) (length (now (out .entry))))) ⌝ }
+    ensures { λ _. ⌜ now (out .exit) ≡ tray packedBytes (bytesReserve (now (nodes .entry)))
+        (packWords (now (nodes .entry)) k present (now (all .entry)) (length (now (out .entry)))) (now (out .entry)) ⌝ }
+{
+    if all.len() < 6 {
+        return 0x2_0000_0001;
+    }
+    packed_code(pack_light_bvh(nodes, k, box_of(present, all), out))
 }

@@ -1,0 +1,4 @@
+pub mod Quantize
+pub mod Packed
+pub mod QuantizeLaws
+pub mod PackedParts
