@@ -25,6 +25,8 @@ ghost use Rattle.lamps.specs.Build.{buildLightBounds};
 ghost use Rattle.alias_table.specs.AliasTable.{Bin, buildPowerAliasTable, binWords};
 ghost use Rattle.light_bvh.specs.Build.{buildLightBvh, nodesWritten, tableWritten, workWritten, nodesReserve, workReserve, summary};
 ghost use Rattle.light_sampler.specs.Sampler.{sample, pmf, drawn, chance};
+ghost use Rattle.packed_bvh.specs.Packed.{allBoundsOf, packed, packedBytes, bytesReserve, wordsPacked};
+ghost use Rattle.parts_c.specs.Codes.{packedCode, boxOf, packWords};
 use alias_table::build_power_alias_table;
 use lamps::block::check_block;
 use lamps::build::build_light_bounds;
@@ -49,6 +51,9 @@ use light_sampler::pmf::Chance;
 use light_sampler::pmf::bvh_light_sampler_pmf;
 use light_sampler::sample::Drawn;
 use light_sampler::sample::bvh_light_sampler_sample;
+use packed_bvh::pack::AllBounds;
+use packed_bvh::pack::Packed;
+use packed_bvh::pack::pack_light_bvh;
 use words::answers::Counted;
 use words::answers::counted_code;
 use words::fill::zero_words;
@@ -548,14 +553,9 @@ pub extern "C" fn sampler_pmf(
     ensures { λ r. ⌜ r ≡ valueCode (pmf (now (nodes .entry)) (now (table .entry)) (queryAt px py pz nx ny nz) handle) ⌝ }
 {
     chance_code(bvh_light_sampler_pmf(nodes, table, query_at(px, py, pz, nx, ny, nz), handle))
+}
 
 // ---- the packed tree
-
-ghost use Rattle.packed_bvh.specs.Packed.{allBoundsOf, packed, packedBytes, bytesReserve, wordsPacked};
-ghost use Rattle.parts_c.specs.Codes.{packedCode, boxOf, packWords};
-use packed_bvh::pack::AllBounds;
-use packed_bvh::pack::Packed;
-use packed_bvh::pack::pack_light_bvh;
 
 // The box of six words, or its absence.
 fn box_of(present: u32, words: &[u32]) -> AllBounds
