@@ -214,8 +214,12 @@ fn flaw(case: &Case, before: &Lent<u8>, after: &Lent<u8>, answer: &Packed, numbe
     }
     let written = words(&after.words()[..reserve]);
     let (Ok(Some(packed)), Some(all)) = (answer, &case.all) else {
-        let none = answer.is_ok() != (count == 0 && case.k == 0 && case.all.is_none());
-        return (none || written.iter().any(|word| *word != 0)).then_some("none, or a refusal that left bytes");
+        let right = match answer {
+            Ok(Some(_)) => false,
+            Ok(None) => case.all.is_none(),
+            Err(_) => written.iter().all(|word| *word == 0),
+        };
+        return (!right).then_some("none, or a refusal that left bytes");
     };
     let (header, rows) = written.split_at(HEADER);
     if *packed != written.len() || header != [&all[..3], &[0], &all[3..], &[0]].concat() {
