@@ -18,8 +18,8 @@ fn main() {
     use coltoctober::walks::bytes;
 
     println!("Rooms of points, spots and panels; microseconds a packing, medians of {SAMPLES} samples.");
-    println!("Proved: the whole call by C, node bytes to packed bytes lent. Rust: pack_light_bvh with its own library functions, over its own nodes, to vectors of its own.");
-    println!("lamps | nodes | proved us | Rust us | ratio");
+    println!("Proved: the whole call by C, node bytes to packed bytes lent. Rust: pack_light_bvh with its own library functions, over its own nodes, to vectors of its own; or from the same bytes to the same.");
+    println!("lamps | nodes | Rust from | proved us | Rust us | ratio");
     let mut random = Random::new(0);
     for lamps in [64, 512, 4096] {
         let room = Room::new(&mut random, lamps);
@@ -32,12 +32,12 @@ fn main() {
         let mut out = vec![0; reserve(tree.nodes.len())];
         assert_eq!(packed_pack_light_bvh(&nodes, k, Some(corners), &mut out), Ok(Some(out.len() / 4)));
         assert!(out == own::packed(&tree), "the words packed of {lamps} lamps");
-        builds(
-            &format!("{lamps} | {}", tree.nodes.len()),
-            [&mut || packed_pack_light_bvh(&nodes, k, Some(corners), &mut out).unwrap().unwrap() as u64, &mut || {
-                own::pack(&tree)
-            }],
-        );
+        let label = |from: &str| format!("{lamps} | {} | {from}", tree.nodes.len());
+        let mut proved = || packed_pack_light_bvh(&nodes, k, Some(corners), &mut out).unwrap().unwrap() as u64;
+        builds(&label("nodes"), [&mut proved, &mut || own::pack(&tree)]);
+        let mut written = vec![0; reserve(tree.nodes.len())];
+        builds(&label("bytes"), [&mut proved, &mut || own::from_bytes(&nodes, &tree, &mut written)]);
+        assert!(out == written, "the words packed of {lamps} lamps from bytes");
     }
 }
 
@@ -46,6 +46,7 @@ fn main() {
 mod own {
     use coltoctober::reference::native::light_bvh::LightBVH;
     use coltoctober::reference::native::packed_bvh::pack_light_bvh;
+    use coltoctober::reference::native_of_node;
     use coltoctober::walks::bytes;
 
     #[inline(never)]
@@ -56,5 +57,21 @@ mod own {
     pub fn packed(tree: &LightBVH) -> Vec<u8> {
         let packed = pack_light_bvh(tree).unwrap().unwrap();
         bytes(&[&packed.header_words, packed.node_words.as_flattened()].concat())
+    }
+
+    /// The same with the nodes read from bytes and the packed words written to bytes.
+    #[inline(never)]
+    pub fn from_bytes(nodes: &[u8], tree: &LightBVH, out: &mut [u8]) -> u64 {
+        let node = |bytes: &[[u8; 4]; 16]| native_of_node(&bytes.map(u32::from_le_bytes)).unwrap();
+        let packed = pack_light_bvh(&LightBVH {
+            all_bounds: tree.all_bounds,
+            nodes: nodes.as_chunks().0.as_chunks().0.iter().map(node).collect(),
+            handle_to_leaf: vec![],
+            bounded_handles: vec![0],
+        });
+        let packed = packed.unwrap().unwrap();
+        let words = packed.header_words.iter().chain(packed.node_words.as_flattened());
+        out.as_chunks_mut().0.iter_mut().zip(words).for_each(|(bytes, word)| *bytes = word.to_le_bytes());
+        packed.node_words.len() as u64
     }
 }
