@@ -306,7 +306,7 @@ impl Random {
         Some(corners)
     }
 
-    /// A case about a built tree: half of them with words of some nodes made wrong, a third with another box, some with another k,
+    /// A case about a built tree: half of them with words of some nodes made wrong, two in five with another box, some with another k,
     /// another length or another tray.
     pub fn packing_case(&mut self, words: &Words, (k, all): Built) -> (Case, Vec<Change>) {
         let (mut words, mut all, mut changes) = (words.clone(), all, vec![]);
