@@ -70,11 +70,21 @@ fn write(name: &str, text: &str) {
     std::fs::write(PathBuf::from(std::env::var_os("OUT_DIR").unwrap()).join(name), text).unwrap();
 }
 
-fn prepare(bounds: &str, bvh: &str, sampler: &str, sampling: &str) {
+/// The text without the part from the first line to the second.
+fn cut(text: &str, [from, to]: [&str; 2]) -> String {
+    match (text.find(from), text.find(to)) {
+        (Some(from), Some(to)) if from < to => text[..from].to_string() + &text[to..],
+        _ => stop(format!("the reference has no {from:?} before {to:?}")),
+    }
+}
+
+fn prepare(bounds: &str, bvh: &str, sampler: &str, packed: &str, sampling: &str) {
     both("light_bounds", bounds, &[BORROWED, LOST], &[MARKS, LIBRARY]);
     both("light_bvh", bvh, &[BVH_BORROWED, BVH_LOST, BVH_PAST], &[BVH_MARKS, BVH_LIBRARY]);
     let Some(end) = sampler.find(SAMPLER_END) else { stop(format!("the reference has no {SAMPLER_END:?}")) };
     both("light_sampler", &sampler[..end], &[SAMPLER_BORROWED], &[SAMPLER_MARKS, SAMPLER_LIBRARY]);
+    let packed = cut(packed, PACKED_CUT);
+    both("packed_bvh", &packed, &[PACKED_BORROWED, PACKED_BOX], &[PACKED_MARKS, PACKED_LIBRARY]);
     write("angle_between.rs", &substitute(function(sampling, "pub fn angle_between("), BY_VALUE));
 }
 
@@ -92,9 +102,10 @@ fn main() {
     let bounds = read("src--src--gpu--flat--light_bounds.rs.txt");
     let bvh = read("src--src--gpu--flat--light_bvh.rs.txt");
     let sampler = read("src--src--gpu--webgpu--light_sampler.rs.txt");
+    let packed = read("src--src--gpu--webgpu--light_bvh.rs.txt");
     let sampling = read("src--src--util--sampling--sampling.rs.txt");
-    if let (Ok(bounds), Ok(bvh), Ok(sampler), Ok(sampling)) = (bounds, bvh, sampler, sampling) {
-        prepare(&bounds, &bvh, &sampler, &sampling);
+    if let (Ok(bounds), Ok(bvh), Ok(sampler), Ok(packed), Ok(sampling)) = (bounds, bvh, sampler, packed, sampling) {
+        prepare(&bounds, &bvh, &sampler, &packed, &sampling);
         println!("cargo:rustc-cfg=reference");
     }
 }

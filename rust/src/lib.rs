@@ -8,6 +8,11 @@ pub mod functions;
 pub mod lent;
 pub mod light_runs;
 pub mod lists;
+#[cfg(reference)]
+pub mod pack_oracle;
+#[cfg(reference)]
+pub mod pack_runs;
+pub mod packing;
 pub mod proved;
 pub mod records;
 #[cfg(reference)]
@@ -20,6 +25,7 @@ pub mod stored;
 pub mod stored_alias;
 pub mod stored_bounds;
 pub mod stored_lamps;
+pub mod stored_packed;
 pub mod stored_trees;
 pub mod stored_walks;
 pub mod timing;

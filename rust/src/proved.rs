@@ -1,7 +1,9 @@
 //! The proved functions: the one place that declares what the archives export, `light_c` for whoever links it and `parts_c` for the
 //! tests alone.
 
+use crate::packing::{Corners, Packed};
 use crate::records::Query;
+use crate::stored::PATTERN;
 use crate::walks::{Chance, Drawn};
 
 // SAFETY: nothing checks these lines against the Rattle source. There each function is proved for every input, so those on
@@ -110,6 +112,17 @@ unsafe extern "C" {
         ny: f32,
         nz: f32,
         handle: u32,
+    ) -> u64;
+    #[link_name = "packed_pack_light_bvh"]
+    fn pack_light_bvh(
+        nodes: *const u8,
+        len: usize,
+        k: usize,
+        present: u32,
+        all: *const u32,
+        all_len: usize,
+        out: *mut u8,
+        out_len: usize,
     ) -> u64;
 }
 
@@ -240,4 +253,24 @@ pub fn sampler_pmf(nodes: &[u8], table: &[u8], query: &Query, handle: u32) -> Ch
         1 => Err(answer as u32),
         _ => panic!("a chance's answer {answer:x}"),
     }
+}
+
+/// The packed words of a tree's nodes as bytes, written to the front of `out`: how many they are. The box is six words, and there where
+/// `present` is not 0; less than six words are refusal 1.
+pub fn packed_by_words(nodes: &[u8], k: usize, present: u32, all: &[u32], out: &mut [u8]) -> Packed {
+    let (nodes_len, out_len) = (nodes.len(), out.len());
+    let answer =
+        unsafe { pack_light_bvh(nodes.as_ptr(), nodes_len, k, present, all.as_ptr(), all.len(), out.as_mut_ptr(), out_len) };
+    let (high, low) = ((answer >> 32) as u32, answer as u32);
+    match high {
+        0 => Ok(Some(low as usize)),
+        1 if low == 0 => Ok(None),
+        2 => Err(low),
+        _ => panic!("a packing's answer {answer:x}"),
+    }
+}
+
+/// The same of a box or its absence, where its words, which make a box too, are not to be read.
+pub fn packed_pack_light_bvh(nodes: &[u8], k: usize, all: Option<Corners>, out: &mut [u8]) -> Packed {
+    packed_by_words(nodes, k, all.is_some().into(), &all.unwrap_or([PATTERN; 6]), out)
 }

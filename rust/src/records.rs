@@ -102,7 +102,7 @@ impl Random {
     }
 
     /// A record that passes its check, but for a direction too small.
-    fn sound(&mut self) -> Record {
+    pub(crate) fn sound(&mut self) -> Record {
         let (min, max) = self.bounds();
         let rest = [self.phi(), self.cosine(), self.cosine()];
         let mut record = [0; 13];

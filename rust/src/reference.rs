@@ -1,4 +1,4 @@
-//! The reference, `light_bounds.rs`, `light_bvh.rs` and `light_sampler.rs` of pbrt-r4, compiled from ../../shared/docs twice: as the
+//! The reference, `light_bounds.rs`, both `light_bvh.rs` and `light_sampler.rs` of pbrt-r4, compiled from ../../shared/docs twice: as the
 //! oracle, with document 01's library functions put in (substitution.rs), and as it is, with Rust's own. Around the oracle: records,
 //! lists, weights and trees as words, errors as numbers, lent slices.
 
@@ -55,6 +55,16 @@ pub const REFUSALS: &[(&str, u32)] = &[
     (UNKNOWN_NODE, 12),
     (UNKNOWN_PARENT, 12),
     (UNKNOWN_SIDE, 12),
+    ("Non-empty Light BVH must have global bounds.", 12),
+    ("Light BVH global bounds require non-empty nodes and handles.", 12),
+    (BOX_NOT_FINITE, 5),
+    (BOX_INVERTED, 6),
+    ("Light BVH direction must be finite and non-zero.", 7),
+    ("Light BVH payload exceeds the 31-bit packed index limit.", 13),
+    ("Light BVH node {index} has an invalid parent.", 12),
+    ("Light BVH nodes do not satisfy the DFS left-child invariant.", 12),
+    (PACKED_UNKNOWN_NODE, 12),
+    (PACKED_UNKNOWN_SIDE, 12),
 ];
 
 /// The walks' errors; no words lead to the two that are not here, "reached an invalid node" (it was weighed) and "has no right child".
@@ -71,6 +81,19 @@ pub const PAST_RIGHT: &str = "the right child is past the end";
 pub const UNKNOWN_NODE: &str = "the node entered has an unknown kind";
 pub const UNKNOWN_PARENT: &str = "the parent has an unknown kind";
 pub const UNKNOWN_SIDE: &str = "the node weighed has an unknown side";
+
+/// The same of the packing.
+pub const PACKED_UNKNOWN_NODE: &str = "a packed node has an unknown kind";
+pub const PACKED_UNKNOWN_SIDE: &str = "a packed node has an unknown side";
+/// The messages that substitution.rs gives to the one error of the overall box. No words lead to the packing's two others, "node count
+/// exceeds" (there are at most 8,191) and "quantization overflowed" (a share is at most 1 or NaN).
+const BOX_NOT_FINITE: &str = "Global Light BVH bounds are not finite.";
+const BOX_INVERTED: &str = "Global Light BVH bounds have min greater than max.";
+
+fn invalid_box(min: [f32; 3], max: [f32; 3]) -> PbrtError {
+    let finite = min.into_iter().chain(max).all(f32::is_finite);
+    PbrtError(if finite { BOX_INVERTED } else { BOX_NOT_FINITE })
+}
 
 fn past_left() -> PbrtError {
     PbrtError(PAST_LEFT)
@@ -171,6 +194,14 @@ branches! {
     NanShare "walk: a share that is NaN"
     NoShare "walk: a share of 0"
     WholeShare "walk: a share of 1"
+    NothingPacked "packing: no tree, none"
+    FlatBox "packing: 0 where the overall box is flat"
+    EndlessBox "packing: an overall box infinitely wide"
+    NanStep "packing: a coordinate's share is NaN"
+    BelowBox "packing: a coordinate below the overall box"
+    AboveBox "packing: a coordinate above the overall box"
+    Folded "packing: a direction downward, folded"
+    FoldedZero "packing: folded by the sign of -0"
 }
 
 thread_local!(static TAKEN: Cell<u128> = const { Cell::new(0) });
@@ -210,6 +241,9 @@ trait Standin {
     fn standin_clamp(self, lo: f32, hi: f32) -> f32;
     fn standin_abs(self) -> f32;
     fn standin_sqrt(self) -> f32;
+    fn standin_floor(self) -> f32;
+    fn standin_ceil(self) -> f32;
+    fn standin_round(self) -> f32;
     fn standin_cos(self) -> f32;
     fn standin_acos(self) -> f32;
     fn standin_sin_cos(self) -> (f32, f32);
@@ -231,6 +265,15 @@ impl Standin for f32 {
     }
     fn standin_sqrt(self) -> f32 {
         standins::sqrt(self)
+    }
+    fn standin_floor(self) -> f32 {
+        standins::floor(self)
+    }
+    fn standin_ceil(self) -> f32 {
+        standins::ceil(self)
+    }
+    fn standin_round(self) -> f32 {
+        standins::round(self)
     }
     fn standin_cos(self) -> f32 {
         trig::cos(self)
@@ -296,10 +339,21 @@ macro_rules! borrowed {
     };
 }
 
+/// What the packing knows of the tree's files.
+macro_rules! flat {
+    () => {
+        pub mod flat {
+            pub use super::light_bounds::{Bounds3, LightBounds};
+            pub use super::light_bvh::{LightBVH, LightBVHNode};
+            pub use crate::reference::INVALID_INDEX;
+        }
+    };
+}
+
 /// The reference over document 01's library functions.
 #[allow(dead_code)]
 pub mod oracle {
-    use super::{lost, mark, past_left, past_right, Branch, Light, PbrtError, Standin, INVALID_INDEX};
+    use super::{invalid_box, lost, mark, past_left, past_right, Branch, Light, PbrtError, Standin, INVALID_INDEX};
     borrowed!(crate::standins::sqrt, crate::trig::asin);
 
     pub mod light_bounds {
@@ -313,12 +367,18 @@ pub mod oracle {
     pub mod light_sampler {
         include!(concat!(env!("OUT_DIR"), "/oracle_light_sampler.rs"));
     }
+
+    flat!();
+
+    pub mod packed_bvh {
+        include!(concat!(env!("OUT_DIR"), "/oracle_packed_bvh.rs"));
+    }
 }
 
 /// The reference over Rust's own.
 #[allow(dead_code)]
 pub mod native {
-    use super::{lost, past_left, past_right, Light, PbrtError, INVALID_INDEX};
+    use super::{invalid_box, lost, past_left, past_right, Light, PbrtError, INVALID_INDEX};
 
     fn asin(x: f32) -> f32 {
         x.asin()
@@ -338,6 +398,12 @@ pub mod native {
 
     pub mod light_sampler {
         include!(concat!(env!("OUT_DIR"), "/native_light_sampler.rs"));
+    }
+
+    flat!();
+
+    pub mod packed_bvh {
+        include!(concat!(env!("OUT_DIR"), "/native_packed_bvh.rs"));
     }
 }
 

@@ -27,6 +27,25 @@ pub const SAMPLER_BORROWED: &[Pair] = &[
 
 pub const SAMPLER_END: &str = "pub fn resolve_light_sampler(";
 
+/// The same of webgpu/light_bvh.rs, the packing, whose text is cut from the first of these lines to the second: `LightBvhUploadData` is
+/// left out. A message names its node, which no number does.
+pub const PACKED_CUT: [&str; 2] = ["pub struct LightBvhUploadData {", "pub fn pack_light_bvh("];
+
+pub const PACKED_BORROWED: &[Pair] = &[
+    ("use crate::gpu::flat;", "use super::flat;"),
+    ("use crate::util::error::PbrtError;", "use super::PbrtError;"),
+    ("use super::abi::{LightTableUniform, LIGHT_SAMPLER_KIND_BVH};\n", ""),
+    ("use super::light_sampler::LightSamplerKind;\n", ""),
+    (
+        "&format!(\n                \"Light BVH node {index} has an invalid parent.\"\n            )",
+        "\"Light BVH node {index} has an invalid parent.\"",
+    ),
+];
+
+/// Rust's one error of the overall box, told apart where document 01 has 5 before 6.
+pub const PACKED_BOX: &[Pair] =
+    &[("PbrtError::error(\"Global Light BVH bounds are invalid.\")", "super::invalid_box(bounds.min, bounds.max)")];
+
 /// An error of a union within a group, told apart from the record's own check.
 pub const LOST: &[Pair] = &[("existing.union(current)?", "existing.union(current).map_err(super::lost)?")];
 
@@ -96,6 +115,34 @@ pub const SAMPLER_LIBRARY: &[Pair] = &[
     (".to_bits()", ".standin_word()"),
     (".sum::<f32>()", ".fold(0.0f32, |sum, term| sum + term)"),
     (".sum::<f64>()", ".fold(0.0f64, |sum, term| sum + term)"),
+];
+
+/// The same in the packing; its two `min` are of whole numbers.
+pub const PACKED_LIBRARY: &[Pair] = &[
+    ("use super::PbrtError;", "use super::PbrtError;\nuse super::Standin;"),
+    (".clamp(", ".standin_clamp("),
+    (".ceil()", ".standin_ceil()"),
+    (".floor()", ".standin_floor()"),
+    (".round()", ".standin_round()"),
+    ("value as u32", "crate::standins::to_u32(value)"),
+    (
+        "(32767.0 * ((value + 1.0) / 2.0)).standin_floor() as u16",
+        "crate::standins::to_u16((32767.0 * ((value + 1.0) / 2.0)).standin_floor())",
+    ),
+    (
+        "(((direction[0] + 1.0) * 0.5 * 65535.0).standin_round() as u32).min(u16::MAX as u32)",
+        "u32::min(crate::standins::to_u32(((direction[0] + 1.0) * 0.5 * 65535.0).standin_round()), u16::MAX as u32)",
+    ),
+    (
+        "(((direction[1] + 1.0) * 0.5 * 65535.0).standin_round() as u32).min(u16::MAX as u32)",
+        "u32::min(crate::standins::to_u32(((direction[1] + 1.0) * 0.5 * 65535.0).standin_round()), u16::MAX as u32)",
+    ),
+    ("f32::abs", "crate::standins::abs"),
+    (".abs()", ".standin_abs()"),
+    (".sqrt()", ".standin_sqrt()"),
+    (".sum::<f32>()", ".fold(0.0f32, |sum, term| sum + term)"),
+    (".to_bits()", ".standin_word()"),
+    ("value.is_sign_negative()", "crate::standins::is_sign_negative(value)"),
 ];
 
 /// The oracle only: marks of the branches taken. They change no figure.
@@ -185,6 +232,26 @@ pub const SAMPLER_MARKS: &[Pair] = &[
     ),
 ];
 
+pub const PACKED_MARKS: &[Pair] = &[
+    ("return Ok(None);", "{ super::mark(super::Branch::NothingPacked); return Ok(None); }"),
+    ("if min == max {", "if min == max { super::mark(super::Branch::FlatBox);"),
+    (
+        "let normalized =",
+        "let share = (value - min) / (max - min);
+    if !(max - min).is_finite() { super::mark(super::Branch::EndlessBox); }
+    if share.is_nan() { super::mark(super::Branch::NanStep); }
+    if share < 0.0 { super::mark(super::Branch::BelowBox); }
+    if share > 1.0 { super::mark(super::Branch::AboveBox); }
+    let normalized =",
+    ),
+    ("if direction[2] < 0.0 {", "if direction[2] < 0.0 { super::mark(super::Branch::Folded);"),
+    (
+        "if value.is_sign_negative() {",
+        "if value == 0.0 && value.is_sign_negative() { super::mark(super::Branch::FoldedZero); }
+    if value.is_sign_negative() {",
+    ),
+];
+
 /// `angle_between` of sampling.rs, by value as document 01 has it.
 pub const BY_VALUE: &[Pair] =
     &[("a: &Vector3f, b: &Vector3f", "a: Vector3f, b: Vector3f"), ("*a", "a"), ("*b", "b"), ("Float::asin(", "asin(")];
@@ -196,6 +263,9 @@ pub const METHODS: &[&str] = &[
     "standin_max",
     "standin_clamp",
     "standin_abs",
+    "standin_ceil",
+    "standin_floor",
+    "standin_round",
     "standin_sqrt",
     "standin_cos",
     "standin_acos",
@@ -250,4 +320,5 @@ pub const METHODS: &[&str] = &[
     "parent",
     "light_handle",
     "right_child",
+    "to_words",
 ];

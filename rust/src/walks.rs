@@ -5,7 +5,7 @@ use crate::blocks::block_of;
 use crate::cases::Random;
 use crate::lists::MOST_LAMPS;
 use crate::records::{Query, Record, ABOVE_1, SMALLEST, UNFIT};
-use crate::trees::{reserves, Build, INTERIOR, LEAF, NODE, PAYLOAD};
+use crate::trees::{reserves, Build, Built, INTERIOR, LEAF, NODE, PAYLOAD};
 
 /// What a draw gives: a lamp's handle and the word of its chance, or none; or a refusal's number.
 pub type Drawn = Result<Option<(u32, u32)>, u32>;
@@ -48,10 +48,15 @@ pub fn words(bytes: &[u8]) -> Vec<u32> {
 impl Words {
     /// The tree that is built of the records, the nodes that are used; none where build refuses them.
     pub fn built(build: Build, records: &[Record]) -> Option<Words> {
+        Words::with_box(build, records).map(|(words, _)| words)
+    }
+
+    /// The same with k and the overall box.
+    pub fn with_box(build: Build, records: &[Record]) -> Option<(Words, Built)> {
         let [mut nodes, mut table, mut work] = reserves(records.len()).map(|reserve| vec![0; reserve]);
-        let (k, _) = build(records.len() as u32, &block_of(records), &mut nodes, &mut table, &mut work).ok()?;
-        nodes.truncate(reserves(k as usize)[0]);
-        Some(Words { nodes: nodes.as_chunks().0.to_vec(), table })
+        let built = build(records.len() as u32, &block_of(records), &mut nodes, &mut table, &mut work).ok()?;
+        nodes.truncate(reserves(built.0 as usize)[0]);
+        Some((Words { nodes: nodes.as_chunks().0.to_vec(), table }, built))
     }
 
     pub fn tree(&self) -> Tree {
@@ -181,20 +186,25 @@ pub fn beside(u: f32, by: i32) -> f32 {
 impl Random {
     /// A built tree of at most so many lamps.
     pub fn grown(&mut self, build: Build, most: u64) -> Words {
+        self.grown_with_box(build, most).0
+    }
+
+    /// The same with k and the overall box.
+    pub fn grown_with_box(&mut self, build: Build, most: u64) -> (Words, Built) {
         loop {
             let most = self.of(&[2, 4, 8, 16, 24, most]).min(most);
             let lamps = if self.chance(40) { 0 } else { 1 + self.below(most) };
             let records = self.tree_records(lamps as usize);
             // few of no lamp or one
             let few = |words: &Words| words.nodes.len() < 3;
-            if let Some(words) = Words::built(build, &records).filter(|words| !few(words) || self.chance(4)) {
-                return words;
+            if let Some(grown) = Words::with_box(build, &records).filter(|(words, _)| !few(words) || self.chance(4)) {
+                return grown;
             }
         }
     }
 
     /// A node, mostly near the root, where every walk comes by.
-    fn near_root(&mut self, words: &Words) -> usize {
+    pub(crate) fn near_root(&mut self, words: &Words) -> usize {
         let reach = self.of(&[1, 3, 7, words.nodes.len()]);
         self.below(reach.min(words.nodes.len()) as u64) as usize
     }
@@ -266,7 +276,7 @@ impl Random {
     }
 
     /// Lengths made wrong, or as long as may be; one of the last of `DAMAGES`.
-    fn damage_bytes(&mut self, tree: &mut Tree, damage: Damage) {
+    pub(crate) fn damage_bytes(&mut self, tree: &mut Tree, damage: Damage) {
         let part = 1 + self.below(NODE_BYTES as u64 - 1) as usize;
         let limit = NODE_BYTES * MOST_NODES;
         match damage {

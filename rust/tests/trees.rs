@@ -271,7 +271,7 @@ coltoctober::differential! {
     fn trees() {
         let tally = coltoctober::tree_runs::trees(0, 40_000);
         println!("trees: {tally}");
-        let errors = ["error 5: Light", "error 6", "error 7: Light bounds", "error 8: Light bounds", "error 10"];
+        let errors = ["error 5: Light", "error 6: Light", "error 7: Light bounds", "error 8: Light bounds", "error 10"];
         let branches = ["cones", "tree", "split", "bucket", "cost", "refused", "order", "room"];
         tally.check(&[0, 1, 2, 3, 4, 5, 6, 7, 8, 10], &[&errors[..], &branches].concat());
         [9, 11, 12, 13].into_iter().for_each(|number| assert_eq!(tally.answers[number], 0, "{number}"));

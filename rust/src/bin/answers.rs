@@ -12,7 +12,8 @@ fn main() -> std::io::Result<()> {
     oracle::lamps()?;
     oracle::alias()?;
     oracle::trees()?;
-    oracle::walks()
+    oracle::walks()?;
+    oracle::packed()
 }
 
 #[cfg(reference)]
@@ -21,8 +22,8 @@ mod oracle {
     use coltoctober::functions::FUNCTIONS;
     use coltoctober::stored::{filled, padded, store, Answer, Case, FLOATS, FLOATS_PART};
     use coltoctober::{
-        lists, reference, standins, stored_alias, stored_bounds, stored_lamps, stored_trees, stored_walks, trig, walk_oracle,
-        weights,
+        lists, pack_oracle, reference, standins, stored_alias, stored_bounds, stored_lamps, stored_packed, stored_trees,
+        stored_walks, trig, walk_oracle, weights,
     };
     use std::io::Result;
 
@@ -106,5 +107,9 @@ mod oracle {
 
     pub fn walks() -> Result<()> {
         store_all(&stored_walks::sample(&walk_oracle::ORACLE))
+    }
+
+    pub fn packed() -> Result<()> {
+        store_all(&stored_packed::sample(reference::build_light_bvh, pack_oracle::pack_light_bvh))
     }
 }
