@@ -113,7 +113,7 @@ unsafe extern "C" {
         nz: f32,
         handle: u32,
     ) -> u64;
-    #[link_name = "packed_pack_light_bvh"]
+    #[link_name = "light_pack"]
     fn pack_light_bvh(
         nodes: *const u8,
         len: usize,
