@@ -8,7 +8,7 @@ mod text;
 
 use bench::Bench;
 use output::Output;
-use report::{Tally, head, sum, sum_text};
+use report::{Tally, counted, head, sum, sum_text};
 use room::Room;
 use std::fs::File;
 use std::io::{BufRead, BufReader, Read, stdin};
@@ -52,10 +52,10 @@ Draws a lamp for each bench and prints, a bench a line:
     line    the lamp's line in ROOM
     drawn   the chance with which it is drawn, multiplied on the way down the tree
     named   the same chance by the lamp's name, multiplied on the way up
-    drawn, named   their bits
+    bits    the bits of both, in the same order
     apart   how many last digits they part by: by how many floats one is from the other
-    sum     of all lamps' chances by name; below 1 where a branch that shines there by its bounds
-            holds no lamp that does
+    sum of named   all lamps' chances by name together; below 1 where a branch shines there by its
+            bounds but none of its lamps does: those draws end with none
 or `refused N` and why. Both chances multiply roundings, so that their last digits can part; they
 part grossly where weights overflow. The report goes on behind a bench that is refused.
 
@@ -138,8 +138,8 @@ impl Lines {
 
     fn far(&self, benches: usize) -> String {
         match self.size {
-            Some(size) if size > 0 => format!("{benches} benches, {} %", 100 * self.read.min(size) / size),
-            _ => format!("{benches} benches"),
+            Some(size) if size > 0 => format!("{}, {} %", counted(benches, "bench", "benches"), 100 * self.read.min(size) / size),
+            _ => counted(benches, "bench", "benches"),
         }
     }
 }
@@ -151,7 +151,8 @@ fn report(room_path: &str, benches: &str, output: &mut Output) -> Result<(), Sto
     let room = room(room_path)?;
     let tree = room.tree()?;
     let mut lines = Lines::open(benches)?;
-    output.line(&format!("# {room_path}: {} lamps, {} of them with power", room.len(), tree.powered()));
+    let lamps = counted(room.len(), "lamp", "lamps");
+    output.line(&format!("# {room_path}: {lamps}, {} of them with power", tree.powered()));
     output.line(&format!("{}  {}", head("bench"), "sum of named"));
     let mut tally = Tally::default();
     while lines.next()? {
@@ -170,7 +171,7 @@ fn report(room_path: &str, benches: &str, output: &mut Output) -> Result<(), Sto
         }
         output.pause(|| lines.far(tally.rows()))?;
     }
-    output.line(&tally.summary("benches"));
+    output.line(&tally.summary("bench", "benches"));
     Ok(())
 }
 
@@ -204,7 +205,7 @@ fn draw(path: &str, bench: &str, numbers: &[String], output: &mut Output) -> Res
         output.line(&format!("{text:>7} {}", tally.row(&room, &tree, bench, u)));
         output.pause(|| format!("{} draws", tally.rows()))?;
     }
-    output.line(&tally.summary("draws"));
+    output.line(&tally.summary("draw", "draws"));
     output.line(&format!("# sum of all named chances: {}", sum_text(sum(&tree, bench))));
     Ok(())
 }

@@ -17,7 +17,12 @@ pub struct Tally {
 }
 
 pub fn head(first: &str) -> String {
-    format!("#{first:>6} {:>5} {:>5}  {:<14} {:<14} {:8} {:8} {:>5}", "lamp", "line", "drawn", "named", "drawn", "named", "apart")
+    format!("#{first:>6} {:>5} {:>5}  {:<14} {:<14} {:8} {:8} {:>5}", "lamp", "line", "drawn", "named", "bits", "bits", "apart")
+}
+
+/// "1 bench", "2 benches".
+pub fn counted(count: usize, one: &str, more: &str) -> String {
+    format!("{count} {}", if count == 1 { one } else { more })
 }
 
 /// How many floats one is from the other, none where either is NaN.
@@ -63,10 +68,12 @@ impl Tally {
     }
 
     /// The last line of a report.
-    pub fn summary(&self, what: &str) -> String {
-        let mut line = format!("# {} {what}: {} drawn, {} none, {} refused", self.rows(), self.drawn, self.none, self.refused);
+    pub fn summary(&self, one: &str, more: &str) -> String {
+        let rows = counted(self.rows(), one, more);
+        let mut line = format!("# {rows}: {} drawn, {} none, {} refused", self.drawn, self.none, self.refused);
         if self.drawn > 0 {
-            let _ = write!(line, "; the chances part by at most {} last digits", self.most_apart);
+            let digits = counted(self.most_apart as usize, "last digit", "last digits");
+            let _ = write!(line, "; the chances part by at most {digits}");
         }
         line
     }
