@@ -1,6 +1,6 @@
 //! Benches: points and normals that lamps shine on, and the number by which one is drawn.
 
-use crate::text::{Wrong, Word, number, numbers, words};
+use crate::text::{Word, Wrong, number, numbers, words};
 
 /// A point and a normal there, zeros for none.
 #[derive(Clone, Copy)]

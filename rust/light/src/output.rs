@@ -35,9 +35,13 @@ impl Output {
         }
     }
 
+    pub fn text(&mut self, text: &str) {
+        self.waiting.extend_from_slice(text.as_bytes());
+    }
+
     pub fn line(&mut self, line: &str) {
-        self.waiting.extend_from_slice(line.as_bytes());
-        self.waiting.push(b'\n');
+        self.text(line);
+        self.text("\n");
     }
 
     /// Between two rows: writes what waits if it is much or has waited long, and says how far the work is.

@@ -39,8 +39,8 @@ impl Tally {
         self.drawn + self.none + self.refused
     }
 
-    /// A row after its first column, counted.
-    pub fn row(&mut self, room: &Room, tree: &LightTree, bench: Bench, u: f32) -> String {
+    /// A row after its first column, or what is said of a bench that is refused; counted.
+    pub fn row(&mut self, room: &Room, tree: &LightTree, bench: Bench, u: f32) -> Result<String, String> {
         let Bench { p, n } = bench;
         let answer = tree.sample(p, n, u).and_then(|drawn| match drawn {
             Some((lamp, chance)) => Ok(Some((lamp, chance, tree.pmf(p, n, lamp)?))),
@@ -54,15 +54,15 @@ impl Tally {
                 let apart = apart.map_or_else(|| "NaN".into(), |apart| apart.to_string());
                 let [a, b] = [drawn, named].map(decimal);
                 let [c, d] = [drawn, named].map(f32::to_bits);
-                format!("{lamp:>5} {:>5}  {a:<14} {b:<14} {c:08x} {d:08x} {apart:>5}", room.line(lamp))
+                Ok(format!("{lamp:>5} {:>5}  {a:<14} {b:<14} {c:08x} {d:08x} {apart:>5}", room.line(lamp)))
             }
             Ok(None) => {
                 self.none += 1;
-                format!("{:>5} {:>5}  {:<14} {:<14} {:<8} {:<8} {:>5}", "none", "-", "-", "-", "-", "-", "-")
+                Ok(format!("{:>5} {:>5}  {:<14} {:<14} {:<8} {:<8} {:>5}", "none", "-", "-", "-", "-", "-", "-"))
             }
             Err(refusal) => {
                 self.refused += 1;
-                refused(refusal)
+                Err(refused(refusal))
             }
         }
     }

@@ -5,7 +5,7 @@ use light_tree::{Block, Lamp, LightTree, Refusal, Triangle, bounds_block};
 
 pub struct Room {
     /// What the room is called in messages.
-    name: String,
+    pub name: String,
     lamps: Vec<Lamp>,
     /// The line of each lamp.
     lines: Vec<usize>,
@@ -150,11 +150,7 @@ fn lamp(line: &str) -> Result<Option<Lamp>, Wrong> {
     }
 }
 
-fn group<'a, 'b: 'a>(
-    first: &[Word],
-    end: usize,
-    parts: impl Iterator<Item = (&'a [Word<'b>], usize)>,
-) -> Result<Lamp, Wrong> {
+fn group<'a, 'b: 'a>(first: &[Word], end: usize, parts: impl Iterator<Item = (&'a [Word<'b>], usize)>) -> Result<Lamp, Wrong> {
     let [emission, scale, side] = fields(first, end, "EMISSION SCALE one|two")?;
     let [emission_max, scale] = [number(emission)?, number(scale)?];
     let two_sided = match side.text {

@@ -123,7 +123,7 @@ fn refused_benches() {
 ";
     let output = pair("refused", benches.as_bytes());
     let expected = "\
-# -: 2 lamps, 2 of them with power
+# standard input: 2 lamps, 2 of them with power
 # bench  lamp  line  drawn          named          bits     bits     apart  sum of named
       1     0     1  0.5            0.5            3f000000 3f000000     0  1.0000000
       2     1     2  0.5            0.5            3f000000 3f000000     0  1.0000000
@@ -180,8 +180,14 @@ fn draw() {
     assert_eq!(bad(1, &["draw", "room.txt", "benches.txt:0", "0"], ""), "benches.txt: line 0: there is no such line");
     assert_eq!(bad(1, &["draw", "room.txt", "benches.txt:99", "0"], ""), "benches.txt: line 99: there is no such line");
     assert_eq!(bad(1, &["draw", "room.txt", "0 0 x -", "0"], ""), "BENCH, column 5: 'x' is no number");
-    assert_eq!(bad(1, &["draw", "room.txt", "0 0 0 - 1", "0"], ""), "BENCH, column 9: 1 figures in place of 0: a bench here has no U");
-    assert_eq!(bad(1, &["draw", "room.txt", "0 0 0", "0"], ""), "BENCH, column 6: 0 figures in place of 3: NX NY NZ, or - for none");
+    assert_eq!(
+        bad(1, &["draw", "room.txt", "0 0 0 - 1", "0"], ""),
+        "BENCH, column 9: 1 figures in place of 0: a bench here has no U"
+    );
+    assert_eq!(
+        bad(1, &["draw", "room.txt", "0 0 0", "0"], ""),
+        "BENCH, column 6: 0 figures in place of 3: NX NY NZ, or - for none"
+    );
     assert_eq!(bad(1, &["draw", "room.txt", "0 0 0 -", "half"], ""), "U, column 1: 'half' is no number");
     assert!(bad(2, &["draw", "room.txt", "nowhere.txt:1", "0"], "").starts_with("nowhere.txt: "));
 }
@@ -228,7 +234,10 @@ fn refused_rooms() {
     wrong("point 0x7fc00000 0 0 1 1", "line 1: lamp 0, a point: refused 5: ");
     let bright = triangle.replace("0.5", "1");
     wrong(&format!("group 1e38 1 one {}", bright.repeat(4)), "line 1: lamp 0, a group, at its triangle 3: refused 10: ");
-    wrong(&"point 0 0 0 1 1\n".repeat(4097), "refused 2: over 4,096 lamps or weights, or over 2^20 words: this room has 4097 lamps");
+    wrong(
+        &"point 0 0 0 1 1\n".repeat(4097),
+        "refused 2: over 4,096 lamps or weights, or over 2^20 words: this room has 4097 lamps",
+    );
 
     // what only the tree refuses: a group's power that is infinite, by its line; powers that are so together, by the room
     let report = |room: &str| bad(1, &["report", "-", "benches.txt"], room);

@@ -1,4 +1,4 @@
-use crate::{sys, Refusal, MAX_LAMPS};
+use crate::{MAX_LAMPS, Refusal, sys};
 
 /// A bin of an [`AliasTable`].
 ///

@@ -1,4 +1,4 @@
-use crate::{sys, Refusal, INVALID_INDEX, MAX_LAMPS};
+use crate::{INVALID_INDEX, MAX_LAMPS, Refusal, sys};
 
 /// The words of a lamp's record: box 6, direction 3, phi, two cosines, side.
 pub(crate) const RECORD_WORDS: usize = 13;
@@ -36,14 +36,8 @@ impl Bounds3 {
     /// ```
     pub fn new(min: [f32; 3], max: [f32; 3]) -> Result<Bounds3, Refusal> {
         let bounds = Bounds3 { min, max };
-        let lamp = LightBounds {
-            bounds,
-            direction: [0.0, 0.0, 1.0],
-            phi: 1.0,
-            cos_theta_o: 1.0,
-            cos_theta_e: 1.0,
-            two_sided: false,
-        };
+        let lamp =
+            LightBounds { bounds, direction: [0.0, 0.0, 1.0], phi: 1.0, cos_theta_o: 1.0, cos_theta_e: 1.0, two_sided: false };
         lamp.validate().map(|_| bounds)
     }
 

@@ -1,5 +1,5 @@
-use crate::bounds::{block_words, Block};
-use crate::{sys, Refusal, MAX_LAMPS};
+use crate::bounds::{Block, block_words};
+use crate::{MAX_LAMPS, Refusal, sys};
 
 /// A lamp as a scene has it. Its handle is its place among the lamps.
 ///

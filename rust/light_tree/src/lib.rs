@@ -39,10 +39,10 @@ mod sys;
 mod tree;
 
 pub use alias::{AliasTable, PowerAliasBin};
-pub use bounds::{Block, Bounds3, LightBounds, EXHAUSTIVE_BOUNDS_WORDS};
-pub use lamp::{bounds_block, Lamp, Triangle};
+pub use bounds::{Block, Bounds3, EXHAUSTIVE_BOUNDS_WORDS, LightBounds};
+pub use lamp::{Lamp, Triangle, bounds_block};
 pub use refusal::Refusal;
-pub use tree::{LightBVHNode, LightTree, PackedLightBVH, LIGHT_BVH_HEADER_WORDS, LIGHT_BVH_NODE_WORDS};
+pub use tree::{LIGHT_BVH_HEADER_WORDS, LIGHT_BVH_NODE_WORDS, LightBVHNode, LightTree, PackedLightBVH};
 
 /// The most lamps, or weights, that are taken.
 ///

@@ -27,13 +27,13 @@
 //! # Ok::<(), Refusal>(())
 //! ```
 
-use crate::lamp::{block_of, group_words, write_group, write_point, write_spot, POINT_WORDS, SPOT_WORDS};
+use crate::lamp::{POINT_WORDS, SPOT_WORDS, block_of, group_words, write_group, write_point, write_spot};
 use crate::{AliasTable, Block, LightTree};
 use std::ops::Deref;
 
 pub use crate::{
-    Bounds3, LightBVHNode, LightBounds, PackedLightBVH, PowerAliasBin, Refusal, Triangle as AreaTriangleInput,
-    EXHAUSTIVE_BOUNDS_WORDS, INVALID_INDEX, LIGHT_BVH_HEADER_WORDS, LIGHT_BVH_NODE_WORDS,
+    Bounds3, EXHAUSTIVE_BOUNDS_WORDS, INVALID_INDEX, LIGHT_BVH_HEADER_WORDS, LIGHT_BVH_NODE_WORDS, LightBVHNode, LightBounds,
+    PackedLightBVH, PowerAliasBin, Refusal, Triangle as AreaTriangleInput,
 };
 
 /// The greatest handle or place that can be packed.
@@ -84,15 +84,7 @@ impl LightBoundInput {
             LightBoundInput::Point { handle, world_position, intensity_max, scale } => {
                 write_point(list, *handle, *world_position, [*intensity_max, *scale])
             }
-            LightBoundInput::Spot {
-                handle,
-                world_position,
-                direction,
-                intensity_max,
-                scale,
-                cos_theta_o,
-                cos_falloff_end,
-            } => {
+            LightBoundInput::Spot { handle, world_position, direction, intensity_max, scale, cos_theta_o, cos_falloff_end } => {
                 let figures = [*intensity_max, *scale, *cos_theta_o, *cos_falloff_end];
                 write_spot(list, *handle, *world_position, *direction, figures)
             }

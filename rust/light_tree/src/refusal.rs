@@ -96,7 +96,9 @@ impl fmt::Display for Refusal {
             Misplaced => "a handle is not the lamp's place",
             NotFinite => "a coordinate or another figure is not finite, or a power overflows",
             Inverted => "a box has a min above its max",
-            NoDirection => "a direction or a normal has no length, or one that is not finite, or the point is the centre of a box",
+            NoDirection => {
+                "a direction or a normal has no length, or one that is not finite, or the point is the centre of a box"
+            }
             OutOfRange => "an emission, intensity, scale, weight, power or cosine is out of its range",
             NoArea => "a triangle has no area, or a group no triangle",
             LostUnion => "bounds of lamps or triangles cannot be joined",

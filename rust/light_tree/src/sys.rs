@@ -9,8 +9,8 @@
 
 #![allow(unsafe_code)]
 
-use crate::refusal::Refusal;
 use crate::PowerAliasBin;
+use crate::refusal::Refusal;
 
 #[cfg(not(target_endian = "little"))]
 compile_error!("the light tree's words are little-endian, and the library is for x86-64");

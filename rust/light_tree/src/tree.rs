@@ -1,6 +1,6 @@
-use crate::bounds::{block_words, index, write_block, Bounds3, LightBounds};
-use crate::lamp::{bounds_block, Lamp};
-use crate::{sys, Refusal, MAX_LAMPS};
+use crate::bounds::{Bounds3, LightBounds, block_words, index, write_block};
+use crate::lamp::{Lamp, bounds_block};
+use crate::{MAX_LAMPS, Refusal, sys};
 
 /// The words of a node: head, right child, parent, record.
 const NODE_WORDS: usize = 16;

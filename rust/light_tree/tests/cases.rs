@@ -190,11 +190,8 @@ fn checks() {
 /// be joined to these.
 #[test]
 fn triangles() {
-    let half = Triangle {
-        world_positions: [[0.0; 3], [1.0, 0.0, 0.0], [0.0, 1.0, 0.0]],
-        area: 1.0,
-        geometric_normal: [0.0, 0.0, 1.0],
-    };
+    let half =
+        Triangle { world_positions: [[0.0; 3], [1.0, 0.0, 0.0], [0.0, 1.0, 0.0]], area: 1.0, geometric_normal: [0.0, 0.0, 1.0] };
     let group = |count| Lamp::Group { triangles: vec![half; count], emission_max: 1e38, scale: 1.0, two_sided: false };
     let phi = |count| bounds_block(&[group(count)]).map(|block| block.records().next().unwrap().phi.to_bits());
     assert_eq!([1, 2].map(phi), [Ok(0x7f6c_58e0), Ok(0x7f80_0000)]);

@@ -300,7 +300,8 @@ fn weights() {
     let mut random = Random(7);
     for _ in 0..20_000 {
         let count = random.below(4) + random.below(4) * random.below(12);
-        let weights: Vec<f32> = (0..count).map(|_| if random.below(40) == 0 { random.figure(1.0) } else { random.share() }).collect();
+        let weights: Vec<f32> =
+            (0..count).map(|_| if random.below(40) == 0 { random.figure(1.0) } else { random.share() }).collect();
         let (m, bits) = (weights.len(), words(&[&weights]));
         let (mut bins, mut work) = (vec![PATTERN; 3 * m], vec![PATTERN; 4 * m]);
         let number = unsafe { light_alias_table(bits.as_ptr(), m, bins.as_mut_ptr(), 3 * m, work.as_mut_ptr(), 4 * m) };
