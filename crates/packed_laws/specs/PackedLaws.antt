@@ -1,0 +1,212 @@
+-- What packed words hold: the overall box in front, a zero behind each corner (`packed-header`), and eight words a node (`packed-length`), whose last two give
+-- back the node exactly, its handle or its children and its parent (`packed-node`). Assumes nothing.
+use Prim.Native.Nat.{ℕ, zero, suc, _+_, _-_, _*_, _/_, _≤_, _<_}
+use mathlib.Core.Path.{_≡_, refl, ap, sym, subst, _∙_}
+use mathlib.Core.Bool.{Bool, true, false, cond, _&&_, _||_}
+use mathlib.Core.List.{List, [], _∷_, _++_}
+use mathlib.Core.Option.{Option, none, some, Option·some-injective, Option·none-ne-some}
+use native.Mathlib.Omega.{arith}
+use borrow.Author.Tests.{ltb-true, ltb-false, eqb-true, le-leb, lt-leb}
+use lib.Dec.{eqb, ltb, leb}
+use lib.ListN.{length, getD, take, length-append, List·getD-append}
+use lib.Seq.{getD-append-add}
+use Rattle.words.specs.Answers.{Answer, given, refused, _then_}
+use Rattle.words.specs.LittleEndian.{wordsOf}
+use Rattle.words.proofs.AnswerLaws.{then-given, given-injective, not-both}
+use Rattle.light_bounds.specs.Bounds.{boxCheck}
+use Rattle.light_bounds.specs.LightBounds.{validate}
+use Rattle.light_bounds.specs.Vecmath.{normalizeByDivision}
+use Rattle.light_bounds.specs.declared.bounds.Bounds3.{Bounds3}
+use Rattle.light_bounds.specs.declared.light_bounds.LightBounds.{LightBounds}
+use Rattle.light_bounds.specs.declared.vecmath.Vec3.{Vec3}
+use Rattle.light_nodes.specs.Nodes.{LightBVHNode, leaf, interior, parent, nodeBytes, nodeCount, nodeAt, boundsAt}
+use Rattle.packed_bvh.specs.Packed.{indexMax, payload, payloadWord, compactWords, payloadCheck, parentCheck, leftCheck, packNode, packNodes, header}
+use Rattle.packed_bvh.specs.Packed.{packedReserve, packCheck, agreed, packedTree, packLightBvh}
+use Rattle.packed_bvh.proofs.PackLaws.{count-known}
+use Rattle.packed_laws.specs.PackedRead.{readNode, packedPlace}
+
+-- ---- a node
+
+payload-small : (n : LightBVHNode) → payloadCheck n ≡ given tt → payload n ≤ indexMax
+unfolding payloadCheck
+payload-small n e = go (ltb indexMax (payload n)) refl e
+  where
+    go : (b : Bool) → ltb indexMax (payload n) ≡ b → _≡_ {A = Answer (Unit {0})} (cond b (refused 13) (given tt)) (given tt) → payload n ≤ indexMax
+    go true f e = absurd (not-both e refl)
+    go false f e = ltb-false indexMax (payload n) f
+
+left-next : (i l r p : ℕ) → leftCheck i (interior l r p) ≡ given tt → l ≡ i + 1
+unfolding leftCheck
+left-next i l r p e = go (eqb l (i + 1)) refl e
+  where
+    go : (b : Bool) → eqb l (i + 1) ≡ b → _≡_ {A = Answer (Unit {0})} (cond b (given tt) (refused 12)) (given tt) → l ≡ i + 1
+    go true f e = eqb-true l (i + 1) f
+    go false f e = absurd (not-both e refl)
+
+-- a node that passed its checks is read from its payload's word and its parent
+node-back : (i : ℕ) (n : LightBVHNode) → payloadCheck n ≡ given tt → leftCheck i n ≡ given tt → n ≡ readNode i (payloadWord n) (parent n)
+unfolding readNode
+node-back i (leaf h p) small left =
+    let over : 0x8000_0000 + h - 0x8000_0000 ≡ h = omega arith in
+    rw (le-leb 0x8000_0000 (0x8000_0000 + h) (omega arith), over)
+node-back i (interior l r p) small left =
+    let low = payload-small (interior l r p) small in
+    rw (lt-leb 0x8000_0000 r (omega arith), left-next i l r p left)
+
+-- the words of a node that is packed
+record Row (ws : List ℕ) (i : ℕ) (row : List ℕ) : Type 0 where
+  size : length row ≡ 8
+  node : nodeAt ws i ≡ given (readNode i (getD row 6 0) (getD row 7 0))
+
+-- behind its record's checks
+placed : (count : ℕ) (all : Bounds3) (ws : List ℕ) (i : ℕ) (n : LightBVHNode) (b : LightBounds) (d : Vec3) (row : List ℕ) → nodeAt ws i ≡ given n
+    → (payloadCheck n then λ _. parentCheck count n then λ _. leftCheck i n then λ _. given (compactWords all b d (payloadWord n) (parent n))) ≡ given row
+    → Row ws i row
+unfolding compactWords
+placed count all ws i n b d row node e =
+    let words = compactWords all b d (payloadWord n) (parent n) in
+    let (_, small, e₁) = then-given (payloadCheck n) (λ _. parentCheck count n then λ _. leftCheck i n then λ _. given words) row e in
+    let (_, _, e₂) = then-given (parentCheck count n) (λ _. leftCheck i n then λ _. given words) row e₁ in
+    let (_, left, e₃) = then-given (leftCheck i n) (λ _. given words) row e₂ in
+    subst (Row ws i) {x = words} (given-injective {a = words} e₃) (record { size = refl; node = node ∙ ap given (node-back i n small left) })
+
+row-of : (count : ℕ) (all : Bounds3) (ws : List ℕ) (i : ℕ) (row : List ℕ) → packNode count all ws i ≡ given row → Row ws i row
+unfolding packNode
+row-of count all ws i row e =
+    let rest : LightBVHNode → LightBounds → Vec3 → Answer (List ℕ) =
+    λ n b d. payloadCheck n then λ _. parentCheck count n then λ _. leftCheck i n then λ _. given (compactWords all b d (payloadWord n) (parent n)) in
+    let (n, node, e₁) =
+    then-given (nodeAt ws i)
+    (λ (n : LightBVHNode). boundsAt ws i then λ (b : LightBounds). validate b then λ _. normalizeByDivision (b .direction) then λ (d : Vec3). rest n b d) row e in
+    let (b, _, e₂) =
+    then-given (boundsAt ws i)
+    (λ (b : LightBounds). validate b then λ _. normalizeByDivision (b .direction) then λ (d : Vec3). rest n b d) row e₁ in
+    let (_, _, e₃) = then-given (validate b) (λ _. normalizeByDivision (b .direction) then λ (d : Vec3). rest n b d) row e₂ in
+    let (d, _, e₄) = then-given (normalizeByDivision (b .direction)) (λ (d : Vec3). rest n b d) row e₃ in
+    placed count all ws i n b d row node e₄
+
+-- ---- the nodes
+
+-- the words of n nodes, one behind another
+record Rows (ws : List ℕ) (n : ℕ) (rows : List ℕ) : Type 0 where
+  size : length rows ≡ 8 * n
+  nodes : (i : ℕ) → i < n → nodeAt ws i ≡ given (readNode i (getD rows (8 * i + 6) 0) (getD rows (8 * i + 7) 0))
+
+rows-one : (ws : List ℕ) (n : ℕ) (rows row : List ℕ) → Rows ws n rows → Row ws n row → Rows ws (suc n) (rows ++ row)
+rows-one ws n rows row before last =
+    record { size = length-append rows row ∙ omega (arith, before .size, last .size); nodes = λ i l. go i l (ltb i n) refl }
+  where
+    behind : (j : ℕ) → getD (rows ++ row) (8 * n + j) 0 ≡ getD row j 0
+    behind j = rw (← before .size) (getD-append-add rows row j 0)
+
+    go : (i : ℕ) → i < suc n → (b : Bool) → ltb i n ≡ b
+        → nodeAt ws i ≡ given (readNode i (getD (rows ++ row) (8 * i + 6) 0) (getD (rows ++ row) (8 * i + 7) 0))
+    go i l true e =
+        let low = ltb-true i n e in
+        rw (
+          List·getD-append rows row 0 (8 * i + 6) (omega (arith, before .size)),
+          List·getD-append rows row 0 (8 * i + 7) (omega (arith, before .size)),
+        ) (before .nodes i low)
+    go i l false e =
+        let here : i ≡ n = omega (arith, ltb-false i n e) in
+        rw (here, behind 6, behind 7) (last .node)
+
+rows-of : (count : ℕ) (all : Bounds3) (ws : List ℕ) (n : ℕ) (rows : List ℕ) → packNodes count all ws n ≡ given rows → Rows ws n rows
+unfolding packNodes
+rows-of count all ws zero rows e = subst (Rows ws 0) (given-injective e) (record { size = refl; nodes = λ i l. absurd (omega arith) })
+rows-of count all ws (suc n) rows e =
+    let (before, is, e₁) =
+    then-given (packNodes count all ws n) (λ (before : List ℕ). packNode count all ws n then λ (node : List ℕ). given (before ++ node)) rows e in
+    let (row, last, e₂) = then-given (packNode count all ws n) (λ (node : List ℕ). given (before ++ node)) rows e₁ in
+    subst (Rows ws (suc n)) (given-injective e₂) (rows-one ws n before row (rows-of count all ws n before is) (row-of count all ws n row last))
+
+-- ---- the tree
+
+check-count : (nodes : List ℕ) (room n : ℕ) → packCheck nodes room ≡ given n → length nodes / nodeBytes ≡ n
+unfolding packCheck
+check-count nodes room n e =
+    let (m, counted, e₁) = then-given (nodeCount nodes) (λ (m : ℕ). cond (ltb room (4 * packedReserve m)) (refused 3) (given m)) n e in
+    count-known nodes m counted .1 ∙ go m (ltb room (4 * packedReserve m)) e₁
+  where
+    go : (m : ℕ) (b : Bool) → cond b (refused 3) (given m) ≡ given n → m ≡ n
+    go m true e = absurd (not-both e refl)
+    go m false e = given-injective e
+
+-- what is agreed on is the box that was handed over
+agreed-is : (n k : ℕ) (all box : Option Bounds3) → agreed n k all ≡ given box → all ≡ box
+unfolding agreed
+agreed-is n k none box e = go (eqb n 0 && eqb k 0) e
+  where
+    go : (b : Bool) → cond b (given none) (refused 12) ≡ given box → none ≡ box
+    go true e = given-injective e
+    go false e = absurd (not-both e refl)
+agreed-is n k (some all) box e = go (eqb n 0 || eqb k 0) e
+  where
+    go : (b : Bool) → cond b (refused 12) (boxCheck all then λ _. given (some all)) ≡ given box → some all ≡ box
+    go true e = absurd (not-both e refl)
+    go false e = given-injective (then-given (boxCheck all) (λ _. given (some all)) box e .2)
+
+-- packed words are the header of the box and the words of the nodes
+record Made (nodes : List ℕ) (all : Option Bounds3) (ws : List ℕ) : Type 0 where
+  box : Bounds3
+  handed : all ≡ some box
+  rows : List ℕ
+  each : Rows (wordsOf nodes) (length nodes / nodeBytes) rows
+  is : header box ++ rows ≡ ws
+
+tree-made : (nodes : List ℕ) (n : ℕ) (box : Option Bounds3) (ws : List ℕ) → length nodes / nodeBytes ≡ n
+    → packedTree (wordsOf nodes) n box ≡ given (some ws) → Made nodes box ws
+unfolding packedTree
+tree-made nodes n none ws count e = absurd (Option·none-ne-some ws (given-injective e))
+tree-made nodes n (some all) ws count e =
+    let (rows, packed, e₁) = then-given (packNodes n all (wordsOf nodes) n) (λ (nodes : List ℕ). given (some (header all ++ nodes))) (some ws) e in
+    record {
+      box = all;
+      handed = refl;
+      rows = rows;
+      each = rw count (rows-of n all (wordsOf nodes) n rows packed);
+      is = Option·some-injective (header all ++ rows) ws (given-injective e₁);
+    }
+
+module _ (nodes : List ℕ) (all : Option Bounds3) (ws : List ℕ) (m : Made nodes all ws) where
+  made-length : length ws ≡ 8 + 8 * (length nodes / nodeBytes)
+  made-length = rw (← m .is) (length-append (header (m .box)) (m .rows) ∙ omega (arith, m .each .size))
+
+  made-node : (i : ℕ) → i < length nodes / nodeBytes
+      → nodeAt (wordsOf nodes) i ≡ given (readNode i (getD ws (packedPlace i + 6) 0) (getD ws (packedPlace i + 7) 0))
+  made-node i l = rw (behind 6, behind 7) (m .each .nodes i l)
+    where
+      behind : (j : ℕ) → getD ws (packedPlace i + j) 0 ≡ getD (m .rows) (8 * i + j) 0
+      behind j =
+          let at : packedPlace i + j ≡ 8 + (8 * i + j) = omega arith in
+          rw (← m .is, at) (getD-append-add (header (m .box)) (m .rows) (8 * i + j) 0)
+
+  made-header : take 8 ws ≡ header (m .box)
+  made-header = rw (← m .is) refl
+
+  made-zeros : (getD ws 3 0 ≡ 0) × (getD ws 7 0 ≡ 0)
+  made-zeros = rw (← m .is) (refl, refl)
+
+module _ (nodes : List ℕ) (k : ℕ) (all : Option Bounds3) (room : ℕ) (ws : List ℕ) (e : packLightBvh nodes k all room ≡ given (some ws)) where
+  made : Made nodes all ws
+  unfolding packLightBvh
+  made =
+      let (n, checked, e₁) =
+      then-given (packCheck nodes room) (λ (n : ℕ). agreed n k all then λ (box : Option Bounds3). packedTree (wordsOf nodes) n box) (some ws) e in
+      let (box, agrees, e₂) = then-given (agreed n k all) (λ (box : Option Bounds3). packedTree (wordsOf nodes) n box) (some ws) e₁ in
+      rw (agreed-is n k all box agrees) (tree-made nodes n box ws (check-count nodes room n checked) e₂)
+
+  pub packed-length : length ws ≡ 8 + 8 * (length nodes / nodeBytes)
+  packed-length = made-length nodes all ws made
+
+  -- parents, children and handles come back exactly, whatever nodes were packed
+  pub packed-node : (i : ℕ) → i < length nodes / nodeBytes
+      → nodeAt (wordsOf nodes) i ≡ given (readNode i (getD ws (packedPlace i + 6) 0) (getD ws (packedPlace i + 7) 0))
+  packed-node = made-node nodes all ws made
+
+  -- a box was handed over, and the first eight words are its corners, a zero behind each
+  pub packed-header : (box : Bounds3) × (all ≡ some box) × (take 8 ws ≡ header box)
+  packed-header = (made .box, made .handed, made-header nodes all ws made)
+
+  pub packed-zeros : (getD ws 3 0 ≡ 0) × (getD ws 7 0 ≡ 0)
+  packed-zeros = made-zeros nodes all ws made
