@@ -1,2 +1,3 @@
 pub mod PackedRead
 pub mod PackedLaws
+pub mod BuiltPacks

@@ -1,0 +1,232 @@
+-- An accepted build packs, with its own k and box. Its nodes pass every check of their places, so that no node is refused by 12 or 13 (`built-agrees`): what can
+-- be refused is the room, by 3, and a fork's record, by 5 to 8 (`built-refusals`). Without powered lamps nothing is packed (`nothing-packs`). Assumes nothing.
+use Prim.Native.Nat.{ℕ, zero, suc, _+_, _-_, _*_, _≤_, _<_}
+use mathlib.Core.Path.{_≡_, refl, ap, sym, subst, _∙_}
+use mathlib.Core.Bool.{Bool, true, false, cond, not, _||_}
+use mathlib.Core.List.{List, _++_}
+use mathlib.Core.Logic.{_⊎_, inl, inr, ⊎-elim}
+use mathlib.Core.Option.{Option, none, some, Option·some-injective, Option·none-ne-some}
+use native.Mathlib.Omega.{arith}
+use borrow.Author.Tests.{le-ltb, lt-ltb, eq-eqb, ne-eqb}
+use lib.Dec.{eqb, ltb}
+use lib.Ieee.{lt, eq}
+use lib.ListN.{length}
+use Rattle.ieee.specs.Single.{zerof}
+use Rattle.words.specs.Answers.{Answer, given, refused, _then_}
+use Rattle.words.specs.LittleEndian.{bytesOf, wordsOf}
+use Rattle.words.proofs.AnswerLaws.{Only, only-given, only-refused, only-cond, only-then, only-number, then-given, given-injective, refused-injective}
+use Rattle.light_bounds.specs.Bounds.{boxCheck, finiteBox, inverted}
+use Rattle.light_bounds.specs.LightBounds.{validate, coneCheck, finiteCone, rangeCheck, areCosines}
+use Rattle.light_bounds.specs.Vecmath.{vec, normalizeByDivision, dividing, dot, vecLength}
+use Rattle.light_bounds.specs.declared.bounds.Bounds3.{Bounds3}
+use Rattle.light_bounds.specs.declared.light_bounds.LightBounds.{LightBounds}
+use Rattle.light_bounds.specs.declared.vecmath.Vec3.{Vec3}
+use Rattle.light_nodes.specs.Nodes.{LightBVHNode, leaf as leafNode, interior, invalidIndex, parent, nodeAt, boundsAt}
+use Rattle.light_nodes.specs.Tree.{Tree, leaf, fork, leaves, rightPlace}
+use Rattle.light_nodes.specs.TreeLaws.{leaves-pos}
+use Rattle.light_bvh.specs.Build.{boundedHandles, allBounds, validated, LightBVH, treeOf, builtBvh, buildCheck, buildLightBvh, nodesWritten}
+use Rattle.light_bvh.specs.declared.build.Overall.{Overall}
+use Rattle.light_bvh.proofs.RowsLaws.{bounded-few, bounds-none, bounds-some}
+use Rattle.tree_laws.specs.AcceptedTree.{Parts, accepted-parts, accepted-none, accepted-leaves, accepted-read}
+use Rattle.tree_laws.specs.PlaceLaws.{nodeIn, nodeIn-fork, nodeIn-leaf, Reads}
+use Rattle.light_runs.specs.ByteLaws.{nodes-words, nodes-counted}
+use Rattle.light_runs.specs.NodeLaws.{leaf-powered}
+use Rattle.packed_bvh.specs.Packed.{indexMax, payload, payloadWord, compactWords, payloadCheck, parentCheck, leftCheck, packNode, packNodes, header}
+use Rattle.packed_bvh.specs.Packed.{packedReserve, packCheck, agreed, packedTree, packLightBvh}
+use Rattle.packed_bvh.proofs.PackLaws.{agreed-nothing}
+
+-- ---- the children and the parent of a node of a tree
+
+-- a node at place i whose left child is the next one, and whose right child is before the end
+abbrev Next : ℕ → ℕ → LightBVHNode → Type 0
+Next i end (leafNode h p) = Unit
+Next i end (interior l r p) = (l ≡ i + 1) × (r < end)
+
+-- and whose parent is before the end, or the one above the root
+abbrev Linked : ℕ → ℕ → ℕ → LightBVHNode → Type 0
+Linked p i end n = Next i end n × ((parent n ≡ p) ⊎ (parent n < end))
+
+found : (P : LightBVHNode → Type 0) (x y : LightBVHNode × LightBounds) → some x ≡ some y → P (x .0) → P (y .0)
+found P x y e h = subst (λ (z : LightBVHNode × LightBounds). P (z .0)) (Option·some-injective x y e) h
+
+linked-root : (p q i end : ℕ) (n : LightBVHNode) → p < end → Linked p i end n → Linked q i end n
+linked-root p q i end n low (next, up) = (next, inr (⊎-elim (λ e. rw e low) (λ l. l) up))
+
+linked : (at p : ℕ) (t : Tree) (i end : ℕ) (x : LightBVHNode × LightBounds) → nodeIn at p t i ≡ some x → at + (2 * leaves t - 1) ≤ end
+    → Linked p i end (x .0)
+unfolding leaves
+linked at p (leaf h b) i end x e low =
+    found (λ (n : LightBVHNode). Linked p i end n) (leafNode h p, b) x (nodeIn-leaf at p h b i x e .1) (tt, inl refl)
+linked at p (fork b l r) i end x e low =
+    let more-l = leaves-pos l in
+    let more-r = leaves-pos r in
+    ⊎-elim
+    (λ here. found (λ (n : LightBVHNode). Linked p i end n) (interior (at + 1) (rightPlace at l) p, b) x (here .1)
+    ((omega (arith, here .0), omega arith), inl refl))
+    (λ under. ⊎-elim
+    (λ f. linked-root at p i end (x .0) (omega arith) (linked (at + 1) at l i end x f (omega arith)))
+    (λ f. linked-root at p i end (x .0) (omega arith) (linked (rightPlace at l) at r i end x f (omega arith)))
+    under)
+    (nodeIn-fork at p b l r i x e)
+
+-- ---- which refusals
+
+-- of a record or of the box
+abbrev OfRecord : ℕ → Type 0
+OfRecord n = (5 ≤ n) × (n ≤ 8)
+
+small-box : (b : Bounds3) → Only OfRecord (boxCheck b)
+unfolding boxCheck
+small-box b =
+    only-cond (finiteBox b) (only-cond (inverted b) (only-refused (omega arith, omega arith)) only-given) (only-refused (omega arith, omega arith))
+
+small-validate : (r : LightBounds) → Only OfRecord (validate r)
+unfolding validate coneCheck rangeCheck
+small-validate r =
+    only-then (small-box (r .bounds))
+    (λ _. only-cond (finiteCone r)
+    (only-cond (eq (dot (r .direction) (r .direction)) zerof) (only-refused (omega arith, omega arith))
+    (only-cond (lt (r .phi) zerof || not (areCosines (r .«cos_theta_o») (r .«cos_theta_e»))) (only-refused (omega arith, omega arith)) only-given))
+    (only-refused (omega arith, omega arith)))
+
+small-by-division : (v : Vec3) → Only OfRecord (normalizeByDivision v)
+unfolding normalizeByDivision
+small-by-division v = only-cond (dividing (vecLength v)) only-given (only-refused (omega arith, omega arith))
+
+-- ---- a node that passes the checks of its place
+
+payload-passes : (n : LightBVHNode) → payload n ≤ indexMax → payloadCheck n ≡ given tt
+unfolding payloadCheck
+payload-passes n l = rw (le-ltb indexMax (payload n) l)
+
+parent-passes : (count : ℕ) (n : LightBVHNode) → (parent n ≡ invalidIndex) ⊎ (parent n < count) → parentCheck count n ≡ given tt
+unfolding parentCheck
+parent-passes count n (inl e) = rw (eq-eqb (parent n) invalidIndex e)
+parent-passes count n (inr l) = rw (lt-ltb (parent n) count l) (go (eqb (parent n) invalidIndex))
+  where
+    go : (b : Bool) → _≡_ {A = Answer (Unit {0})} (cond (b || true) (given tt) (refused 12)) (given tt)
+    go true = refl
+    go false = refl
+
+left-passes : (i end : ℕ) (n : LightBVHNode) → Next i end n → leftCheck i n ≡ given tt
+unfolding leftCheck
+left-passes i end (leafNode h p) next = refl
+left-passes i end (interior l r p) next = rw (eq-eqb l (i + 1) (next .0))
+
+-- it is packed, or its record is refused
+node-packs : (count : ℕ) (all : Bounds3) (ws : List ℕ) (i : ℕ) (x : LightBVHNode × LightBounds) → Reads ws i x → Linked invalidIndex i count (x .0)
+    → payload (x .0) ≤ indexMax → Only OfRecord (packNode count all ws i)
+unfolding packNode _then_
+node-packs count all ws i x (node, record-is) (next, up) small =
+    rw (node, record-is, payload-passes (x .0) small, parent-passes count (x .0) up, left-passes i count (x .0) next)
+    (only-then (small-validate (x .1)) (λ _. only-then (small-by-division (x .1 .direction)) (λ _. only-given)))
+
+nodes-pack : (count : ℕ) (all : Bounds3) (ws : List ℕ) (n : ℕ) → ((i : ℕ) → i < n → Only OfRecord (packNode count all ws i))
+    → Only OfRecord (packNodes count all ws n)
+unfolding packNodes
+nodes-pack count all ws zero each = only-given
+nodes-pack count all ws (suc n) each =
+    only-then (nodes-pack count all ws n (λ i l. each i (omega arith))) (λ _. only-then (each n (omega arith)) (λ _. only-given))
+
+-- ---- the box of an accepted build
+
+pub accepted-box : (lights : ℕ) (ws : List ℕ) (nodes table work : ℕ) (b : LightBVH) → buildLightBvh lights ws nodes table work ≡ given b
+    → b .all-bounds ≡ allBounds ws (b .rows)
+unfolding buildLightBvh builtBvh
+accepted-box lights ws nodes table work b e =
+    let (m, _, e₁) = then-given (buildCheck lights ws nodes table work) (λ (m : ℕ). validated ws m then λ _. builtBvh ws m) b e in
+    let (_, _, e₂) = then-given (validated ws m) (λ _. builtBvh ws m) b e₁ in
+    let (t, _, e₃) =
+    then-given (treeOf ws (boundedHandles ws m))
+    (λ (t : Option Tree). given (record { rows = m; k = length (boundedHandles ws m); all-bounds = allBounds ws m; tree = t })) b e₂ in
+    let made : LightBVH = record { rows = m; k = length (boundedHandles ws m); all-bounds = allBounds ws m; tree = t } in
+    subst (λ (b : LightBVH). b .all-bounds ≡ allBounds ws (b .rows)) {x = made} (given-injective {a = made} e₃) refl
+
+-- powered lamps have a box
+box-there : (ws : List ℕ) (m : ℕ) → 0 < length (boundedHandles ws m) → allBounds ws m ≡ none → ⊥
+box-there ws m l e =
+    let o : Overall = record { any = false; bounds = record { min = vec zerof zerof zerof; max = vec zerof zerof zerof } } in
+    Option·none-ne-some (o .bounds) (sym e ∙ bounds-some ws m o l (sym e))
+
+-- ---- of a build that was accepted
+
+module _ (ws : List ℕ) (b : LightBVH) (parts : Parts ws b) where
+  few : b .k ≤ 4096
+  few = omega (arith, parts .few, parts .powered, bounded-few ws (b .rows))
+
+  each-packs : (t : Tree) → b .tree ≡ some t → (all : Bounds3) (i : ℕ) → i < 2 * b .k - 1 → Only OfRecord (packNode (2 * b .k - 1) all (nodesWritten b) i)
+  each-packs t is all i l =
+      let (x, at, read) = accepted-read ws b t parts is i l in
+      let link = linked 0 invalidIndex t i (2 * b .k - 1) x at (omega (arith, accepted-leaves ws b t parts is)) in
+      node-packs (2 * b .k - 1) all (nodesWritten b) i x read link (narrow (x .0) (read .0) (link .0))
+    where
+      narrow : (n : LightBVHNode) → nodeAt (nodesWritten b) i ≡ given n → Next i (2 * b .k - 1) n → payload n ≤ indexMax
+      narrow (leafNode h p) e next = omega (arith, parts .few, leaf-powered ws b parts i h p e .0)
+      narrow (interior l r p) e next = omega (arith, few, next .1)
+
+  tree-packs : (t : Tree) → b .tree ≡ some t → (box : Option Bounds3) → Only OfRecord (packedTree (nodesWritten b) (2 * b .k - 1) box)
+  unfolding packedTree
+  tree-packs t is none = only-given
+  tree-packs t is (some all) =
+      only-then (nodes-pack (2 * b .k - 1) all (nodesWritten b) (2 * b .k - 1) (λ i l. each-packs t is all i l)) (λ _. only-given)
+
+  packed-check : (room : ℕ)
+      → packCheck (bytesOf (nodesWritten b)) room ≡ cond (ltb room (4 * packedReserve (2 * b .k - 1))) (refused 3) (given (2 * b .k - 1))
+  unfolding packCheck _then_
+  packed-check room = rw (nodes-counted ws b parts)
+
+  module _ (box-is : b .all-bounds ≡ allBounds ws (b .rows)) where
+    no-box : b .k ≡ 0 → b .all-bounds ≡ none
+    no-box e = box-is ∙ bounds-none ws (b .rows) (sym (parts .powered) ∙ e)
+
+    some-agreed : (t : Tree) → b .tree ≡ some t → (o : Option Bounds3) → b .all-bounds ≡ o → Only OfRecord (agreed (2 * b .k - 1) (b .k) o)
+    unfolding agreed
+    some-agreed t is none none-is = absurd (box-there ws (b .rows) (omega (arith, size)) (sym box-is ∙ none-is))
+      where
+        size : 0 < length (boundedHandles ws (b .rows))
+        size = omega (arith, parts .powered, accepted-leaves ws b t parts is, leaves-pos t)
+    some-agreed t is (some all) some-is =
+        let lamps : 0 < b .k = omega (arith, accepted-leaves ws b t parts is, leaves-pos t) in
+        rw (ne-eqb (2 * b .k - 1) 0 (λ e. omega arith), ne-eqb (b .k) 0 (λ e. omega arith)) (only-then (small-box all) (λ _. only-given))
+
+    behind : (o : Option Tree) → b .tree ≡ o
+        → Only OfRecord (agreed (2 * b .k - 1) (b .k) (b .all-bounds) then λ (box : Option Bounds3). packedTree (nodesWritten b) (2 * b .k - 1) box)
+    unfolding _then_ packedTree
+    behind none is =
+        let dark = accepted-none ws b parts is in
+        rw (no-box dark, agreed-nothing (2 * b .k - 1) (b .k) (omega arith) dark) only-given
+    behind (some t) is = only-then (some-agreed t is (b .all-bounds) refl) (tree-packs t is)
+
+    parts-refusals : (room n : ℕ) → packLightBvh (bytesOf (nodesWritten b)) (b .k) (b .all-bounds) room ≡ refused n → (n ≡ 3) ⊎ ((5 ≤ n) × (n ≤ 8))
+    unfolding packLightBvh _then_
+    parts-refusals room n e = go (ltb room (4 * packedReserve (2 * b .k - 1))) (rw (packed-check room, nodes-words ws b parts) at e)
+      where
+        go : (short : Bool) → (cond short (refused 3) (given (2 * b .k - 1)) then λ (n : ℕ). agreed n (b .k) (b .all-bounds) then
+            λ (box : Option Bounds3). packedTree (nodesWritten b) n box) ≡ refused n → (n ≡ 3) ⊎ ((5 ≤ n) × (n ≤ 8))
+        go true e = inl (sym (refused-injective e))
+        go false e = inr (only-number (behind (b .tree) refl) e)
+
+    parts-nothing : (room : ℕ) → b .k ≡ 0 → packLightBvh (bytesOf (nodesWritten b)) (b .k) (b .all-bounds) room ≡ given none
+    unfolding packLightBvh packedTree _then_
+    parts-nothing room dark =
+        let bare : 2 * b .k - 1 ≡ 0 = omega arith in
+        rw (packed-check room, bare, le-ltb room 0 (omega arith), no-box dark, agreed-nothing 0 (b .k) refl dark)
+
+module _ (lights : ℕ) (ws : List ℕ) (nodes table work : ℕ) (b : LightBVH) (accepted : buildLightBvh lights ws nodes table work ≡ given b) (room : ℕ) where
+  -- by the room, or by a record
+  pub built-refusals : (n : ℕ) → packLightBvh (bytesOf (nodesWritten b)) (b .k) (b .all-bounds) room ≡ refused n → (n ≡ 3) ⊎ ((5 ≤ n) × (n ≤ 8))
+  built-refusals n e =
+      parts-refusals ws b (accepted-parts lights ws nodes table work b accepted) (accepted-box lights ws nodes table work b accepted) room n e
+
+  -- the nodes agree with k, with the box and with their own places
+  pub built-agrees : (n : ℕ) → packLightBvh (bytesOf (nodesWritten b)) (b .k) (b .all-bounds) room ≡ refused n → (n ≡ 12 → ⊥) × (n ≡ 13 → ⊥)
+  built-agrees n e = go (built-refusals n e)
+    where
+      go : (n ≡ 3) ⊎ ((5 ≤ n) × (n ≤ 8)) → (n ≡ 12 → ⊥) × (n ≡ 13 → ⊥)
+      go (inl is) = (λ f. omega arith, λ f. omega arith)
+      go (inr (low, high)) = (λ f. omega arith, λ f. omega arith)
+
+  -- without powered lamps
+  pub nothing-packs : b .k ≡ 0 → packLightBvh (bytesOf (nodesWritten b)) (b .k) (b .all-bounds) room ≡ given none
+  nothing-packs dark =
+      parts-nothing ws b (accepted-parts lights ws nodes table work b accepted) (accepted-box lights ws nodes table work b accepted) room dark
