@@ -27,7 +27,7 @@ use Rattle.packed_bvh.specs.Quantize.{lastStep, lastCosStep, stepsOf, qu
 -- ---- the whole number next to a value
 
 -- the next whole number to m * 2 ^ e, which is at most n
-outward-small : (away : Bool) (m : ℕ) (e : ℤ) (n : ℕ) → m * up e ≤ n * down e → outward away m e ≤ n
+pub outward-small : (away : Bool) (m : ℕ) (e : ℤ) (n : ℕ) → m * up e ≤ n * down e → outward away m e ≤ n
 outward-small false m e n h = le-of-mul-le-mul-right (le-trans (outward-under m e .at-most) h) (down-pos e)
 outward-small true m e n h =
     let q = outward true m e in
@@ -35,14 +35,14 @@ outward-small true m e n h =
     let s : q < n + 1 = lt-of-mul-lt-mul-right (down e) l in
     omega arith
 
-cast-negative : (w : ℕ) (v : Float) (n : ℕ) → HasValue v true n 1 → toUnsigned w v ≡ 0
+pub cast-negative : (w : ℕ) (v : Float) (n : ℕ) → HasValue v true n 1 → toUnsigned w v ≡ 0
 unfolding toUnsigned
 cast-negative w nan n h = refl
 cast-negative w (inf t) n h = absurd h
 cast-negative w (fin t m e) n h = rw (h .0)
 
 -- a value that is a NaN or at most n
-abbrev Under : ℕ → Float → Type 0
+abbrev pub Under : ℕ → Float → Type 0
 Under n x = (x ≡ nan) ⊎ T (le x (fin false n (pos 0)))
 
 next-small : (w n : ℕ) (away : Bool) (x : Float) → T (fits binary32 x) → Under n x → toUnsigned w (nextWhole binary32 away x) ≤ n
@@ -63,10 +63,10 @@ next-small w n away (fin false m e) F (inr h) =
 -- ---- coordinates
 
 -- a clamped value is a NaN, or from 0 to 1
-abbrev Portion : Float → Type 0
+abbrev pub Portion : Float → Type 0
 Portion x = T (nonneg x) × T (le x onef)
 
-clamped : (x : Float) → (clamp x zerof onef ≡ nan) ⊎ Portion (clamp x zerof onef)
+pub clamped : (x : Float) → (clamp x zerof onef ≡ nan) ⊎ Portion (clamp x zerof onef)
 unfolding clamp ofBits lt
 clamped nan = inl refl
 clamped (inf s) = go s
@@ -105,7 +105,7 @@ nan-steps : nan ⊗ lastStep ≡ nan
 unfolding mul
 nan-steps = refl
 
-steps-under : (value lo hi : Float) → Under 65535 (stepsOf value lo hi)
+pub steps-under : (value lo hi : Float) → Under 65535 (stepsOf value lo hi)
 unfolding stepsOf
 steps-under value lo hi =
     let x = clamp ((value ⊖ lo) ⊘ (hi ⊖ lo)) zerof onef in
@@ -114,7 +114,7 @@ steps-under value lo hi =
       | inr h ↦ portion-steps x h
     ]
 
-steps-fit : (value lo hi : Float) → T (fits binary32 (stepsOf value lo hi))
+pub steps-fit : (value lo hi : Float) → T (fits binary32 (stepsOf value lo hi))
 unfolding stepsOf
 steps-fit value lo hi = mul-fits binary32 (clamp ((value ⊖ lo) ⊘ (hi ⊖ lo)) zerof onef) lastStep
 

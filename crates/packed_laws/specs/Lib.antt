@@ -1,3 +1,4 @@
 pub mod PackedRead
 pub mod PackedLaws
 pub mod BuiltPacks
+pub mod PackedBoxes
