@@ -91,7 +91,7 @@ all-steps : onef ⊗ lastStep ≡ fin false 65535 (pos 0)
 unfolding mul ofBits
 all-steps = refl
 
-portion-steps : (x : Float) → Portion x → Under 65535 (x ⊗ lastStep)
+pub portion-steps : (x : Float) → Portion x → Under 65535 (x ⊗ lastStep)
 unfolding ofBits
 portion-steps x (p, h) =
     elim (mul-nonneg binary32 x lastStep p tt) [
@@ -105,7 +105,7 @@ nan-steps : nan ⊗ lastStep ≡ nan
 unfolding mul
 nan-steps = refl
 
-pub steps-under : (value lo hi : Float) → Under 65535 (stepsOf value lo hi)
+steps-under : (value lo hi : Float) → Under 65535 (stepsOf value lo hi)
 unfolding stepsOf
 steps-under value lo hi =
     let x = clamp ((value ⊖ lo) ⊘ (hi ⊖ lo)) zerof onef in
@@ -114,7 +114,7 @@ steps-under value lo hi =
       | inr h ↦ portion-steps x h
     ]
 
-pub steps-fit : (value lo hi : Float) → T (fits binary32 (stepsOf value lo hi))
+steps-fit : (value lo hi : Float) → T (fits binary32 (stepsOf value lo hi))
 unfolding stepsOf
 steps-fit value lo hi = mul-fits binary32 (clamp ((value ⊖ lo) ⊘ (hi ⊖ lo)) zerof onef) lastStep
 

@@ -2,3 +2,4 @@ pub mod PackedRead
 pub mod PackedLaws
 pub mod BuiltPacks
 pub mod PackedBoxes
+pub mod StepsOrder
