@@ -3,3 +3,4 @@ pub mod PackedLaws
 pub mod BuiltPacks
 pub mod PackedBoxes
 pub mod StepsOrder
+pub mod OverallBox
