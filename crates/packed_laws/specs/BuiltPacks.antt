@@ -24,9 +24,8 @@ use Rattle.light_bounds.specs.declared.vecmath.Vec3.{Vec3}
 use Rattle.light_nodes.specs.Nodes.{LightBVHNode, leaf as leafNode, interior, invalidIndex, parent, nodeAt, boundsAt}
 use Rattle.light_nodes.specs.Tree.{Tree, leaf, fork, leaves, rightPlace}
 use Rattle.light_nodes.specs.TreeLaws.{leaves-pos}
-use Rattle.light_bvh.specs.Build.{boundedHandles, allBounds, validated, LightBVH, treeOf, builtBvh, buildCheck, buildLightBvh, nodesWritten}
-use Rattle.light_bvh.specs.declared.build.Overall.{Overall}
-use Rattle.light_bvh.proofs.RowsLaws.{bounded-few, bounds-none, bounds-some}
+use Rattle.light_bvh.specs.Build.{boundedHandles, allBounds, LightBVH, buildLightBvh, nodesWritten}
+use Rattle.light_bvh.proofs.RowsLaws.{bounded-few, bounds-none}
 use Rattle.tree_laws.specs.AcceptedTree.{Parts, accepted-parts, accepted-none, accepted-leaves, accepted-read}
 use Rattle.tree_laws.specs.PlaceLaws.{nodeIn, nodeIn-fork, nodeIn-leaf, Reads}
 use Rattle.light_runs.specs.ByteLaws.{nodes-words, nodes-counted}
@@ -34,6 +33,7 @@ use Rattle.light_runs.specs.NodeLaws.{leaf-powered}
 use Rattle.packed_bvh.specs.Packed.{indexMax, payload, payloadWord, compactWords, payloadCheck, parentCheck, leftCheck, packNode, packNodes, header}
 use Rattle.packed_bvh.specs.Packed.{packedReserve, packCheck, agreed, packedTree, packLightBvh}
 use Rattle.packed_bvh.proofs.PackLaws.{agreed-nothing}
+use Rattle.packed_laws.specs.OverallBox.{box-there, accepted-box}
 
 -- ---- the children and the parent of a node of a tree
 
@@ -127,26 +127,6 @@ unfolding packNodes
 nodes-pack count all ws zero each = only-given
 nodes-pack count all ws (suc n) each =
     only-then (nodes-pack count all ws n (λ i l. each i (omega arith))) (λ _. only-then (each n (omega arith)) (λ _. only-given))
-
--- ---- the box of an accepted build
-
-pub accepted-box : (lights : ℕ) (ws : List ℕ) (nodes table work : ℕ) (b : LightBVH) → buildLightBvh lights ws nodes table work ≡ given b
-    → b .all-bounds ≡ allBounds ws (b .rows)
-unfolding buildLightBvh builtBvh
-accepted-box lights ws nodes table work b e =
-    let (m, _, e₁) = then-given (buildCheck lights ws nodes table work) (λ (m : ℕ). validated ws m then λ _. builtBvh ws m) b e in
-    let (_, _, e₂) = then-given (validated ws m) (λ _. builtBvh ws m) b e₁ in
-    let (t, _, e₃) =
-    then-given (treeOf ws (boundedHandles ws m))
-    (λ (t : Option Tree). given (record { rows = m; k = length (boundedHandles ws m); all-bounds = allBounds ws m; tree = t })) b e₂ in
-    let made : LightBVH = record { rows = m; k = length (boundedHandles ws m); all-bounds = allBounds ws m; tree = t } in
-    subst (λ (b : LightBVH). b .all-bounds ≡ allBounds ws (b .rows)) {x = made} (given-injective {a = made} e₃) refl
-
--- powered lamps have a box
-box-there : (ws : List ℕ) (m : ℕ) → 0 < length (boundedHandles ws m) → allBounds ws m ≡ none → ⊥
-box-there ws m l e =
-    let o : Overall = record { any = false; bounds = record { min = vec zerof zerof zerof; max = vec zerof zerof zerof } } in
-    Option·none-ne-some (o .bounds) (sym e ∙ bounds-some ws m o l (sym e))
 
 -- ---- of a build that was accepted
 

@@ -1,6 +1,7 @@
 pub mod PackedRead
 pub mod PackedLaws
+pub mod OverallBox
 pub mod BuiltPacks
 pub mod PackedBoxes
 pub mod StepsOrder
-pub mod OverallBox
+pub mod PackedNesting

@@ -1,13 +1,14 @@
 -- The overall box of an accepted build: it passes its check (`overall-passes`) and holds the box of every node (`node-within`), whose own is finite and has its
 -- minimum at most its maximum. Boxes that pass their checks are so, and so is the union of two, which holds both. Assumes nothing.
-use Prim.Native.Nat.{ℕ, zero, suc, _<_}
+use Prim.Native.Nat.{ℕ, zero, suc, _+_, _-_, _*_, _/_, _<_}
 use mathlib.Core.Path.{_≡_, refl, ap, sym, subst, _∙_}
 use mathlib.Core.Bool.{Bool, true, false, cond, not, _&&_, _||_}
-use mathlib.Core.List.{List, [], _∷_, _++_}
+use mathlib.Core.List.{List, [], _∷_, _++_, append-nil}
 use mathlib.Core.Logic.{_⊎_, inl, inr, ⊎-elim}
 use mathlib.Core.Option.{Option, none, some, Option·some-injective, Option·none-ne-some}
 use native.Mathlib.Omega.{arith}
-use lib.Dec.{T}
+use borrow.Author.Tests.{ltb-true, ltb-false}
+use lib.Dec.{T, ltb}
 use lib.Ieee.{Float, nan, inf, fin, lt, le, eq, isNan}
 use lib.Ieee.Fits.{and-i, and-l, and-r}
 use lib.Ieee.Scale.{finite}
@@ -17,21 +18,25 @@ use Rattle.ieee.specs.ChooseOrder.{fmin-is, fmax-is, fmin-le, fmax-le}
 use Rattle.ieee.specs.OrderLaws.{le-left, le-right, le-trans, le-refl, le-of-not-lt, not-le-of-lt}
 use Rattle.ieee.specs.Single.{zerof}
 use Rattle.words.specs.Answers.{Answer, given, refused, _then_}
-use Rattle.words.proofs.AnswerLaws.{then-given, not-both}
+use Rattle.words.proofs.AnswerLaws.{then-given, given-injective, not-both}
 use Rattle.light_bounds.specs.Bounds.{boxCheck, finiteBox, inverted, boxUnion, leastOf, greatestOf}
 use Rattle.light_bounds.specs.BoundsLaws.{Holds, union-given}
 use Rattle.light_bounds.specs.LightBounds.{validate, coneCheck, join, joinPowered}
-use Rattle.light_bounds.specs.Vecmath.{finiteVec}
+use Rattle.light_bounds.specs.Vecmath.{vec, finiteVec}
 use Rattle.light_bounds.specs.declared.bounds.Bounds3.{Bounds3}
 use Rattle.light_bounds.specs.declared.light_bounds.LightBounds.{LightBounds}
-use Rattle.light_nodes.specs.Nodes.{LightBVHNode, leaf as leafNode, interior}
+use Rattle.light_nodes.specs.Nodes.{LightBVHNode, leaf as leafNode, interior, invalidIndex, nodeWords, boundsAt}
 use Rattle.light_nodes.specs.Tree.{Tree, leaf, fork, bounds, rightPlace}
+use Rattle.light_nodes.specs.TreeLaws.{boundsAt-past}
 use Rattle.light_split.specs.Lights.{lightOf}
-use Rattle.light_bvh.specs.Build.{isPowered, boundedHandles, grown, allBounds, validated}
+use Rattle.light_bvh.specs.Build.{isPowered, boundedHandles, grown, allBounds, validated, LightBVH, treeOf, builtBvh, buildCheck, buildLightBvh, nodesWritten}
 use Rattle.light_bvh.specs.Subtree.{buildSubtree}
-use Rattle.light_bvh.proofs.RowsLaws.{All, all-map, all-append, all-halves}
+use Rattle.light_bvh.specs.declared.build.Overall.{Overall}
+use Rattle.light_bvh.proofs.RowsLaws.{All, all-map, all-append, all-halves, bounds-some}
+use Rattle.tree_laws.specs.AcceptedTree.{Parts, accepted-parts, treeOf-built, accepted-none, accepted-read}
 use Rattle.tree_laws.specs.BuiltTrees.{built-holds}
 use Rattle.tree_laws.specs.PlaceLaws.{nodeIn, nodeIn-fork, nodeIn-leaf}
+use Rattle.light_runs.specs.NodeLaws.{node-words}
 
 -- ---- an axis
 
@@ -187,3 +192,146 @@ proper-check b p =
 pub validate-proper : (r : LightBounds) → validate r ≡ given tt → Proper (r .bounds)
 unfolding validate
 validate-proper r e = check-proper (r .bounds) (then-given (boxCheck (r .bounds)) (λ _. coneCheck r) tt e .1)
+
+-- ---- the box of the powered rows
+
+-- where one of them is, it is there
+pub box-there : (ws : List ℕ) (m : ℕ) → 0 < length (boundedHandles ws m) → allBounds ws m ≡ none → ⊥
+box-there ws m l e =
+    let o : Overall = record { any = false; bounds = record { min = vec zerof zerof zerof; max = vec zerof zerof zerof } } in
+    Option·none-ne-some (o .bounds) (sym e ∙ bounds-some ws m o l (sym e))
+
+-- it holds the box of each
+abbrev Around : List ℕ → Bounds3 → ℕ → Type 0
+Around ws all h = Holds all (lightOf ws h .bounds)
+
+abbrev Covers : List ℕ → Bounds3 → List ℕ → Type 0
+Covers ws all hs = Proper all × All (Around ws all) hs
+
+none-all : (P : ℕ → Type 0) (xs : List ℕ) → (0 < length xs → ⊥) → All P xs
+none-all P [] n = tt
+none-all P (x ∷ xs) n = absurd (n (omega arith))
+
+rows-covered : (ws : List ℕ) (m : ℕ) → validated ws m ≡ given tt → (all : Bounds3) → allBounds ws m ≡ some all → Covers ws all (boundedHandles ws m)
+unfolding validated allBounds boundedHandles grown
+rows-covered ws zero e all is = absurd (Option·none-ne-some all is)
+rows-covered ws (suc n) e all is =
+    let (_, before, last) = then-given (validated ws n) (λ _. validate (lightOf ws n)) tt e in
+    go (validate-proper (lightOf ws n) last) (rows-covered ws n before) (isPowered ws n) (allBounds ws n) refl is
+  where
+    go : Proper (lightOf ws n .bounds) → ((a : Bounds3) → allBounds ws n ≡ some a → Covers ws a (boundedHandles ws n)) → (c : Bool) (o : Option Bounds3)
+        → allBounds ws n ≡ o → cond c (grown o (lightOf ws n .bounds)) o ≡ some all → Covers ws all (boundedHandles ws n ++ cond c (n ∷ []) [])
+    go own ih true none h is =
+        let same : lightOf ws n .bounds ≡ all = Option·some-injective (lightOf ws n .bounds) all is in
+        subst (λ (z : Bounds3). Covers ws z (boundedHandles ws n ++ n ∷ [])) same (
+          own,
+          all-append (Around ws (lightOf ws n .bounds)) (boundedHandles ws n) (n ∷ [])
+          (none-all (Around ws (lightOf ws n .bounds)) (boundedHandles ws n) (λ l. box-there ws n l h)) (holds-itself (lightOf ws n .bounds) own, tt),
+        )
+    go own ih true (some a) h is =
+        let b = lightOf ws n .bounds in
+        let same : boxUnion a b ≡ all = Option·some-injective (boxUnion a b) all is in
+        let (proper, each) = ih a h in
+        let (holds-a, holds-b) = union-holds a b proper own in
+        subst (λ (z : Bounds3). Covers ws z (boundedHandles ws n ++ n ∷ [])) same (
+          proper-union a b proper own,
+          all-append (Around ws (boxUnion a b)) (boundedHandles ws n) (n ∷ [])
+          (all-map (λ h held. holds-trans (boxUnion a b) a (lightOf ws h .bounds) holds-a held) (boundedHandles ws n) each) (holds-b, tt),
+        )
+    go own ih false o h is = rw (append-nil (boundedHandles ws n)) (ih all (h ∙ is))
+
+-- ---- a tree within a box
+
+abbrev Within : Bounds3 → Tree → Type 0
+Within all (leaf h b) = Holds all (b .bounds)
+Within all (fork b l r) = Holds all (b .bounds) × Within all l × Within all r
+
+root-within : (all : Bounds3) (t : Tree) → Within all t → Holds all (bounds t .bounds)
+root-within all (leaf h b) w = w
+root-within all (fork b l r) w = w .0
+
+join-held : (all : Bounds3) (a b : LightBounds) → Holds all (a .bounds) → Holds all (b .bounds) → Holds all (join a b .bounds)
+unfolding join
+join-held all a b h k = go (eq (a .phi) zerof) (eq (b .phi) zerof)
+  where
+    go : (c d : Bool) → Holds all (cond c b (cond d a (joinPowered a b)) .bounds)
+    go true d = k
+    go false true = h
+    go false false = union-held all (a .bounds) (b .bounds) h k
+
+built-within : (ws : List ℕ) (all : Bounds3) (n : ℕ) (hs : List ℕ) (t : Tree) → buildSubtree ws n hs ≡ given t → All (Around ws all) hs → Within all t
+built-within ws all n hs t e =
+    built-holds ws (λ (hs : List ℕ) (t : Tree). All (Around ws all) hs → Within all t)
+    (λ h each. each .0)
+    (λ hs s l r b two e holds-l holds-r each.
+    let halves = all-halves (Around ws all) ws hs s each in
+    let left = holds-l (halves .0) in
+    let right = holds-r (halves .1) in
+    let is = union-given (bounds l) (bounds r) b e .2 in
+    (rw is (join-held all (bounds l) (bounds r) (root-within all l left) (root-within all r right)), left, right)) n hs t e
+
+place-within : (all : Bounds3) (at p : ℕ) (t : Tree) (i : ℕ) (x : LightBVHNode × LightBounds) → Within all t → nodeIn at p t i ≡ some x
+    → Holds all (x .1 .bounds)
+place-within all at p (leaf h b) i x w e = found all (leafNode h p, b) x (nodeIn-leaf at p h b i x e .1) w
+  where
+    found : (all : Bounds3) (x y : LightBVHNode × LightBounds) → some x ≡ some y → Holds all (x .1 .bounds) → Holds all (y .1 .bounds)
+    found all x y e h = subst (λ (z : LightBVHNode × LightBounds). Holds all (z .1 .bounds)) (Option·some-injective x y e) h
+place-within all at p (fork b l r) i x w e =
+    ⊎-elim
+    (λ here. subst (λ (z : LightBVHNode × LightBounds). Holds all (z .1 .bounds))
+    (Option·some-injective (interior (at + 1) (rightPlace at l) p, b) x (here .1)) (w .0))
+    (λ under. ⊎-elim (place-within all (at + 1) at l i x (w .1)) (place-within all (rightPlace at l) at r i x (w .2)) under)
+    (nodeIn-fork at p b l r i x e)
+
+-- ---- of a build that was accepted
+
+-- a record that is read is a node's
+pub record-low : (ws : List ℕ) (b : LightBVH) → Parts ws b → (i : ℕ) (r : LightBounds) → boundsAt (nodesWritten b) i ≡ given r → i < 2 * b .k - 1
+record-low ws b parts i r e = go (ltb i (length (nodesWritten b) / nodeWords)) refl
+  where
+    go : (c : Bool) → ltb i (length (nodesWritten b) / nodeWords) ≡ c → i < 2 * b .k - 1
+    go true f = omega (arith, ltb-true i (length (nodesWritten b) / nodeWords) f, node-words ws b parts)
+    go false f = absurd (not-both e (boundsAt-past (nodesWritten b) i (ltb-false i (length (nodesWritten b) / nodeWords) f)))
+
+module _ (lights : ℕ) (ws : List ℕ) (nodes table work : ℕ) (b : LightBVH) (accepted : buildLightBvh lights ws nodes table work ≡ given b) where
+  parts : Parts ws b
+  parts = accepted-parts lights ws nodes table work b accepted
+
+  -- the box is that of the powered rows
+  pub accepted-box : b .all-bounds ≡ allBounds ws (b .rows)
+  unfolding buildLightBvh builtBvh
+  accepted-box =
+      let (m, _, e₁) = then-given (buildCheck lights ws nodes table work) (λ (m : ℕ). validated ws m then λ _. builtBvh ws m) b accepted in
+      let (_, _, e₂) = then-given (validated ws m) (λ _. builtBvh ws m) b e₁ in
+      let (t, _, e₃) =
+      then-given (treeOf ws (boundedHandles ws m))
+      (λ (t : Option Tree). given (record { rows = m; k = length (boundedHandles ws m); all-bounds = allBounds ws m; tree = t })) b e₂ in
+      let made : LightBVH = record { rows = m; k = length (boundedHandles ws m); all-bounds = allBounds ws m; tree = t } in
+      subst (λ (b : LightBVH). b .all-bounds ≡ allBounds ws (b .rows)) {x = made} (given-injective {a = made} e₃) refl
+
+  module _ (all : Bounds3) (is : b .all-bounds ≡ some all) where
+    covered : Covers ws all (boundedHandles ws (b .rows))
+    covered = rows-covered ws (b .rows) (parts .checked) all (sym accepted-box ∙ is)
+
+    -- it passes its check
+    pub overall-passes : boxCheck all ≡ given tt
+    overall-passes = proper-check all (covered .0)
+
+    pub overall-proper : Proper all
+    overall-proper = covered .0
+
+    -- and holds the box of each node
+    pub node-within : (i : ℕ) (r : LightBounds) → boundsAt (nodesWritten b) i ≡ given r → Holds all (r .bounds)
+    node-within i r e = go (b .tree) refl
+      where
+        low : i < 2 * b .k - 1
+        low = record-low ws b parts i r e
+
+        go : (o : Option Tree) → b .tree ≡ o → Holds all (r .bounds)
+        go none bare = absurd (omega (arith, low, accepted-none ws b parts bare))
+        go (some t) grown-is =
+            let hs = boundedHandles ws (b .rows) in
+            let built = treeOf-built ws hs t (parts .grown ∙ ap given grown-is) in
+            let (x, at, read) = accepted-read ws b t parts grown-is i low in
+            subst (λ (z : LightBounds). Holds all (z .bounds)) (given-injective (sym (read .1) ∙ e))
+            (place-within all 0 invalidIndex t i x (built-within ws all (length hs) hs t built (covered .1)) at)

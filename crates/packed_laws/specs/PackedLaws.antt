@@ -64,20 +64,30 @@ record Row (all : Bounds3) (ws : List ℕ) (i : ℕ) (row : List ℕ) : Type 0 w
   unit : Vec3
   node-is : nodeAt ws i ≡ given node
   own-is : boundsAt ws i ≡ given own
+  passes : validate own ≡ given tt
   back : node ≡ readNode i (payloadWord node) (parent node)
   is : compactWords all own unit (payloadWord node) (parent node) ≡ row
 
 -- behind its record's checks
 placed : (count : ℕ) (all : Bounds3) (ws : List ℕ) (i : ℕ) (n : LightBVHNode) (b : LightBounds) (d : Vec3) (row : List ℕ)
-    → nodeAt ws i ≡ given n → boundsAt ws i ≡ given b
+    → nodeAt ws i ≡ given n → boundsAt ws i ≡ given b → validate b ≡ given tt
     → (payloadCheck n then λ _. parentCheck count n then λ _. leftCheck i n then λ _. given (compactWords all b d (payloadWord n) (parent n))) ≡ given row
     → Row all ws i row
-placed count all ws i n b d row node own e =
+placed count all ws i n b d row node own passes e =
     let words = compactWords all b d (payloadWord n) (parent n) in
     let (_, small, e₁) = then-given (payloadCheck n) (λ _. parentCheck count n then λ _. leftCheck i n then λ _. given words) row e in
     let (_, _, e₂) = then-given (parentCheck count n) (λ _. leftCheck i n then λ _. given words) row e₁ in
     let (_, left, e₃) = then-given (leftCheck i n) (λ _. given words) row e₂ in
-    record { node = n; own = b; unit = d; node-is = node; own-is = own; back = node-back i n small left; is = given-injective {a = words} e₃ }
+    record {
+      node = n;
+      own = b;
+      unit = d;
+      node-is = node;
+      own-is = own;
+      passes = passes;
+      back = node-back i n small left;
+      is = given-injective {a = words} e₃;
+    }
 
 row-of : (count : ℕ) (all : Bounds3) (ws : List ℕ) (i : ℕ) (row : List ℕ) → packNode count all ws i ≡ given row → Row all ws i row
 unfolding packNode
@@ -90,9 +100,9 @@ row-of count all ws i row e =
     let (b, own, e₂) =
     then-given (boundsAt ws i)
     (λ (b : LightBounds). validate b then λ _. normalizeByDivision (b .direction) then λ (d : Vec3). rest n b d) row e₁ in
-    let (_, _, e₃) = then-given (validate b) (λ _. normalizeByDivision (b .direction) then λ (d : Vec3). rest n b d) row e₂ in
+    let (_, passes, e₃) = then-given (validate b) (λ _. normalizeByDivision (b .direction) then λ (d : Vec3). rest n b d) row e₂ in
     let (d, _, e₄) = then-given (normalizeByDivision (b .direction)) (λ (d : Vec3). rest n b d) row e₃ in
-    placed count all ws i n b d row node own e₄
+    placed count all ws i n b d row node own passes e₄
 
 row-size : (all : Bounds3) (ws : List ℕ) (i : ℕ) (row : List ℕ) → Row all ws i row → length row ≡ 8
 unfolding compactWords
@@ -233,6 +243,11 @@ module _ (nodes : List ℕ) (all : Option Bounds3) (ws : List ℕ) (m : Made nod
       let first : getD ws (packedPlace i) 0 ≡ getD row 0 0 = ap (λ (k : ℕ). getD ws k 0) (sym (add-zero (packedPlace i))) ∙ words 0 (omega arith) in
       rw (first, words 1 (omega arith), words 2 (omega arith)) (row-box (m .box) (wordsOf nodes) i row b is e)
 
+  made-valid : (i : ℕ) (b : LightBounds) → i < length nodes / nodeBytes → boundsAt (wordsOf nodes) i ≡ given b → validate b ≡ given tt
+  made-valid i b l e =
+      let (row, is, words) = made-row i l in
+      subst (λ (r : LightBounds). validate r ≡ given tt) (given-injective (sym (is .own-is) ∙ e)) (is .passes)
+
   made-header : take 8 ws ≡ header (m .box)
   made-header = rw (← m .is) refl
 
@@ -256,7 +271,11 @@ module _ (nodes : List ℕ) (k : ℕ) (all : Option Bounds3) (room : ℕ) (ws : 
       → nodeAt (wordsOf nodes) i ≡ given (readNode i (getD ws (packedPlace i + 6) 0) (getD ws (packedPlace i + 7) 0))
   packed-node = made-node nodes all ws made
 
-  -- and a record's box in steps
+  -- each record passed its check
+  pub packed-valid : (i : ℕ) → i < length nodes / nodeBytes → (b : LightBounds) → boundsAt (wordsOf nodes) i ≡ given b → validate b ≡ given tt
+  packed-valid i l b e = made-valid nodes all ws made i b l e
+
+  -- and its box is packed in steps
   pub packed-box : (box : Bounds3) → all ≡ some box → (i : ℕ) → i < length nodes / nodeBytes → (b : LightBounds) → boundsAt (wordsOf nodes) i ≡ given b
       → boxAt ws i ≡ boxSteps box (b .bounds)
   packed-box box is i l b e =
