@@ -1,5 +1,6 @@
--- An accepted build packs, with its own k and box. Its nodes pass every check of their places, so that no node is refused by 12 or 13 (`built-agrees`): what can
--- be refused is the room, by 3, and a fork's record, by 5 to 8 (`built-refusals`). Without powered lamps nothing is packed (`nothing-packs`). Assumes nothing.
+-- An accepted build packs, with its own k and box. Its nodes pass every check of their places, so none is refused by 12 or 13 (`built-agrees`); its boxes are
+-- proper, so what can be refused is the room, by 3, and a record, by 5, 7 or 8 (`built-refusals`). Without powered lamps nothing is packed (`nothing-packs`).
+-- Assumes nothing.
 use Prim.Native.Nat.{ℕ, zero, suc, _+_, _-_, _*_, _≤_, _<_}
 use mathlib.Core.Path.{_≡_, refl, ap, sym, subst, _∙_}
 use mathlib.Core.Bool.{Bool, true, false, cond, not, _||_}
@@ -15,7 +16,7 @@ use Rattle.ieee.specs.Single.{zerof}
 use Rattle.words.specs.Answers.{Answer, given, refused, _then_}
 use Rattle.words.specs.LittleEndian.{bytesOf, wordsOf}
 use Rattle.words.proofs.AnswerLaws.{Only, only-given, only-refused, only-cond, only-then, only-number, then-given, given-injective, refused-injective}
-use Rattle.light_bounds.specs.Bounds.{boxCheck, finiteBox, inverted}
+use Rattle.light_bounds.specs.Bounds.{boxCheck}
 use Rattle.light_bounds.specs.LightBounds.{validate, coneCheck, finiteCone, rangeCheck, areCosines}
 use Rattle.light_bounds.specs.Vecmath.{vec, normalizeByDivision, dividing, dot, vecLength}
 use Rattle.light_bounds.specs.declared.bounds.Bounds3.{Bounds3}
@@ -32,8 +33,8 @@ use Rattle.light_runs.specs.ByteLaws.{nodes-words, nodes-counted}
 use Rattle.light_runs.specs.NodeLaws.{leaf-powered}
 use Rattle.packed_bvh.specs.Packed.{indexMax, payload, payloadWord, compactWords, payloadCheck, parentCheck, leftCheck, packNode, packNodes, header}
 use Rattle.packed_bvh.specs.Packed.{packedReserve, packCheck, agreed, packedTree, packLightBvh}
-use Rattle.packed_bvh.proofs.PackLaws.{agreed-nothing}
-use Rattle.packed_laws.specs.OverallBox.{box-there, accepted-box}
+use Rattle.packed_bvh.proofs.PackLaws.{agreed-valid, agreed-nothing}
+use Rattle.packed_laws.specs.OverallBox.{Proper, proper-check, box-there, accepted-box, overall-proper, node-within}
 
 -- ---- the children and the parent of a node of a tree
 
@@ -71,27 +72,22 @@ linked at p (fork b l r) i end x e low =
 
 -- ---- which refusals
 
--- of a record or of the box
-abbrev OfRecord : ℕ → Type 0
-OfRecord n = (5 ≤ n) × (n ≤ 8)
+-- of a record whose box is proper: a value that is not finite, a direction of no length, a range
+abbrev pub OfRecord : ℕ → Type 0
+OfRecord n = (n ≡ 5) ⊎ ((n ≡ 7) ⊎ (n ≡ 8))
 
-small-box : (b : Bounds3) → Only OfRecord (boxCheck b)
-unfolding boxCheck
-small-box b =
-    only-cond (finiteBox b) (only-cond (inverted b) (only-refused (omega arith, omega arith)) only-given) (only-refused (omega arith, omega arith))
+of-validate : (r : LightBounds) → Proper (r .bounds) → Only OfRecord (validate r)
+unfolding validate coneCheck rangeCheck _then_
+of-validate r p =
+    rw (proper-check (r .bounds) p)
+    (only-cond (finiteCone r)
+    (only-cond (eq (dot (r .direction) (r .direction)) zerof) (only-refused (inr (inl refl)))
+    (only-cond (lt (r .phi) zerof || not (areCosines (r .«cos_theta_o») (r .«cos_theta_e»))) (only-refused (inr (inr refl))) only-given))
+    (only-refused (inl refl)))
 
-small-validate : (r : LightBounds) → Only OfRecord (validate r)
-unfolding validate coneCheck rangeCheck
-small-validate r =
-    only-then (small-box (r .bounds))
-    (λ _. only-cond (finiteCone r)
-    (only-cond (eq (dot (r .direction) (r .direction)) zerof) (only-refused (omega arith, omega arith))
-    (only-cond (lt (r .phi) zerof || not (areCosines (r .«cos_theta_o») (r .«cos_theta_e»))) (only-refused (omega arith, omega arith)) only-given))
-    (only-refused (omega arith, omega arith)))
-
-small-by-division : (v : Vec3) → Only OfRecord (normalizeByDivision v)
+of-direction : (v : Vec3) → Only OfRecord (normalizeByDivision v)
 unfolding normalizeByDivision
-small-by-division v = only-cond (dividing (vecLength v)) only-given (only-refused (omega arith, omega arith))
+of-direction v = only-cond (dividing (vecLength v)) only-given (only-refused (inr (inl refl)))
 
 -- ---- a node that passes the checks of its place
 
@@ -115,11 +111,11 @@ left-passes i end (interior l r p) next = rw (eq-eqb l (i + 1) (next .0))
 
 -- it is packed, or its record is refused
 node-packs : (count : ℕ) (all : Bounds3) (ws : List ℕ) (i : ℕ) (x : LightBVHNode × LightBounds) → Reads ws i x → Linked invalidIndex i count (x .0)
-    → payload (x .0) ≤ indexMax → Only OfRecord (packNode count all ws i)
+    → payload (x .0) ≤ indexMax → Proper (x .1 .bounds) → Only OfRecord (packNode count all ws i)
 unfolding packNode _then_
-node-packs count all ws i x (node, record-is) (next, up) small =
+node-packs count all ws i x (node, record-is) (next, up) small proper =
     rw (node, record-is, payload-passes (x .0) small, parent-passes count (x .0) up, left-passes i count (x .0) next)
-    (only-then (small-validate (x .1)) (λ _. only-then (small-by-division (x .1 .direction)) (λ _. only-given)))
+    (only-then (of-validate (x .1) proper) (λ _. only-then (of-direction (x .1 .direction)) (λ _. only-given)))
 
 nodes-pack : (count : ℕ) (all : Bounds3) (ws : List ℕ) (n : ℕ) → ((i : ℕ) → i < n → Only OfRecord (packNode count all ws i))
     → Only OfRecord (packNodes count all ws n)
@@ -130,83 +126,81 @@ nodes-pack count all ws (suc n) each =
 
 -- ---- of a build that was accepted
 
-module _ (ws : List ℕ) (b : LightBVH) (parts : Parts ws b) where
+module _ (lights : ℕ) (ws : List ℕ) (nodes table work : ℕ) (b : LightBVH) (accepted : buildLightBvh lights ws nodes table work ≡ given b) where
+  parts : Parts ws b
+  parts = accepted-parts lights ws nodes table work b accepted
+
   few : b .k ≤ 4096
   few = omega (arith, parts .few, parts .powered, bounded-few ws (b .rows))
 
-  each-packs : (t : Tree) → b .tree ≡ some t → (all : Bounds3) (i : ℕ) → i < 2 * b .k - 1 → Only OfRecord (packNode (2 * b .k - 1) all (nodesWritten b) i)
-  each-packs t is all i l =
-      let (x, at, read) = accepted-read ws b t parts is i l in
-      let link = linked 0 invalidIndex t i (2 * b .k - 1) x at (omega (arith, accepted-leaves ws b t parts is)) in
-      node-packs (2 * b .k - 1) all (nodesWritten b) i x read link (narrow (x .0) (read .0) (link .0))
-    where
-      narrow : (n : LightBVHNode) → nodeAt (nodesWritten b) i ≡ given n → Next i (2 * b .k - 1) n → payload n ≤ indexMax
-      narrow (leafNode h p) e next = omega (arith, parts .few, leaf-powered ws b parts i h p e .0)
-      narrow (interior l r p) e next = omega (arith, few, next .1)
+  -- how many nodes there are
+  abbrev count : ℕ
+  count = 2 * b .k - 1
 
-  tree-packs : (t : Tree) → b .tree ≡ some t → (box : Option Bounds3) → Only OfRecord (packedTree (nodesWritten b) (2 * b .k - 1) box)
-  unfolding packedTree
-  tree-packs t is none = only-given
-  tree-packs t is (some all) =
-      only-then (nodes-pack (2 * b .k - 1) all (nodesWritten b) (2 * b .k - 1) (λ i l. each-packs t is all i l)) (λ _. only-given)
+  module _ (t : Tree) (is : b .tree ≡ some t) where
+    lamps : 0 < b .k
+    lamps = omega (arith, accepted-leaves ws b t parts is, leaves-pos t)
 
-  packed-check : (room : ℕ)
-      → packCheck (bytesOf (nodesWritten b)) room ≡ cond (ltb room (4 * packedReserve (2 * b .k - 1))) (refused 3) (given (2 * b .k - 1))
-  unfolding packCheck _then_
-  packed-check room = rw (nodes-counted ws b parts)
+    module _ (all : Bounds3) (box : b .all-bounds ≡ some all) where
+      each-packs : (i : ℕ) → i < count → Only OfRecord (packNode count all (nodesWritten b) i)
+      each-packs i l =
+          let (x, at, read) = accepted-read ws b t parts is i l in
+          let link = linked 0 invalidIndex t i count x at (omega (arith, accepted-leaves ws b t parts is)) in
+          node-packs count all (nodesWritten b) i x read link (narrow (x .0) (read .0) (link .0))
+          (node-within lights ws nodes table work b accepted all box i (x .1) (read .1) .proper)
+        where
+          narrow : (n : LightBVHNode) → nodeAt (nodesWritten b) i ≡ given n → Next i count n → payload n ≤ indexMax
+          narrow (leafNode h p) e next = omega (arith, parts .few, leaf-powered ws b parts i h p e .0)
+          narrow (interior l r p) e next = omega (arith, few, next .1)
 
-  module _ (box-is : b .all-bounds ≡ allBounds ws (b .rows)) where
-    no-box : b .k ≡ 0 → b .all-bounds ≡ none
-    no-box e = box-is ∙ bounds-none ws (b .rows) (sym (parts .powered) ∙ e)
+      tree-packs : Only OfRecord (agreed count (b .k) (some all) then λ (box : Option Bounds3). packedTree (nodesWritten b) count box)
+      unfolding packedTree _then_
+      tree-packs =
+          rw (agreed-valid count (b .k) all (λ e. omega (arith, lamps)) (λ e. omega (arith, lamps))
+          (proper-check all (overall-proper lights ws nodes table work b accepted all box)))
+          (only-then (nodes-pack count all (nodesWritten b) count each-packs) (λ _. only-given))
 
-    some-agreed : (t : Tree) → b .tree ≡ some t → (o : Option Bounds3) → b .all-bounds ≡ o → Only OfRecord (agreed (2 * b .k - 1) (b .k) o)
-    unfolding agreed
-    some-agreed t is none none-is = absurd (box-there ws (b .rows) (omega (arith, size)) (sym box-is ∙ none-is))
-      where
-        size : 0 < length (boundedHandles ws (b .rows))
-        size = omega (arith, parts .powered, accepted-leaves ws b t parts is, leaves-pos t)
-    some-agreed t is (some all) some-is =
-        let lamps : 0 < b .k = omega (arith, accepted-leaves ws b t parts is, leaves-pos t) in
-        rw (ne-eqb (2 * b .k - 1) 0 (λ e. omega arith), ne-eqb (b .k) 0 (λ e. omega arith)) (only-then (small-box all) (λ _. only-given))
+  no-box : b .k ≡ 0 → b .all-bounds ≡ none
+  no-box e = accepted-box lights ws nodes table work b accepted ∙ bounds-none ws (b .rows) (sym (parts .powered) ∙ e)
 
-    behind : (o : Option Tree) → b .tree ≡ o
-        → Only OfRecord (agreed (2 * b .k - 1) (b .k) (b .all-bounds) then λ (box : Option Bounds3). packedTree (nodesWritten b) (2 * b .k - 1) box)
-    unfolding _then_ packedTree
-    behind none is =
-        let dark = accepted-none ws b parts is in
-        rw (no-box dark, agreed-nothing (2 * b .k - 1) (b .k) (omega arith) dark) only-given
-    behind (some t) is = only-then (some-agreed t is (b .all-bounds) refl) (tree-packs t is)
+  behind : (o : Option Tree) → b .tree ≡ o → (a : Option Bounds3) → b .all-bounds ≡ a
+      → Only OfRecord (agreed count (b .k) a then λ (box : Option Bounds3). packedTree (nodesWritten b) count box)
+  unfolding _then_ packedTree
+  behind none is a box =
+      let dark = accepted-none ws b parts is in
+      rw (sym box ∙ no-box dark, agreed-nothing count (b .k) (omega arith) dark) only-given
+  behind (some t) is none box =
+      absurd (box-there ws (b .rows) (omega (arith, parts .powered, lamps t is)) (sym (accepted-box lights ws nodes table work b accepted) ∙ box))
+  behind (some t) is (some all) box = tree-packs t is all box
 
-    parts-refusals : (room n : ℕ) → packLightBvh (bytesOf (nodesWritten b)) (b .k) (b .all-bounds) room ≡ refused n → (n ≡ 3) ⊎ ((5 ≤ n) × (n ≤ 8))
+  module _ (room : ℕ) where
+    checked : packCheck (bytesOf (nodesWritten b)) room ≡ cond (ltb room (4 * packedReserve count)) (refused 3) (given count)
+    unfolding packCheck _then_
+    checked = rw (nodes-counted ws b parts)
+
+    -- by the room, or by a record
+    pub built-refusals : (n : ℕ) → packLightBvh (bytesOf (nodesWritten b)) (b .k) (b .all-bounds) room ≡ refused n → (n ≡ 3) ⊎ OfRecord n
     unfolding packLightBvh _then_
-    parts-refusals room n e = go (ltb room (4 * packedReserve (2 * b .k - 1))) (rw (packed-check room, nodes-words ws b parts) at e)
+    built-refusals n e = go (ltb room (4 * packedReserve count)) (rw (checked, nodes-words ws b parts) at e)
       where
-        go : (short : Bool) → (cond short (refused 3) (given (2 * b .k - 1)) then λ (n : ℕ). agreed n (b .k) (b .all-bounds) then
-            λ (box : Option Bounds3). packedTree (nodesWritten b) n box) ≡ refused n → (n ≡ 3) ⊎ ((5 ≤ n) × (n ≤ 8))
+        go : (short : Bool) → (cond short (refused 3) (given count) then λ (n : ℕ). agreed n (b .k) (b .all-bounds) then
+            λ (box : Option Bounds3). packedTree (nodesWritten b) n box) ≡ refused n → (n ≡ 3) ⊎ OfRecord n
         go true e = inl (sym (refused-injective e))
-        go false e = inr (only-number (behind (b .tree) refl) e)
+        go false e = inr (only-number (behind (b .tree) refl (b .all-bounds) refl) e)
 
-    parts-nothing : (room : ℕ) → b .k ≡ 0 → packLightBvh (bytesOf (nodesWritten b)) (b .k) (b .all-bounds) room ≡ given none
+    -- the nodes agree with k, with the box and with their own places
+    pub built-agrees : (n : ℕ) → packLightBvh (bytesOf (nodesWritten b)) (b .k) (b .all-bounds) room ≡ refused n → (n ≡ 12 → ⊥) × (n ≡ 13 → ⊥)
+    built-agrees n e = go (built-refusals n e)
+      where
+        go : (n ≡ 3) ⊎ OfRecord n → (n ≡ 12 → ⊥) × (n ≡ 13 → ⊥)
+        go (inl is) = (λ f. omega arith, λ f. omega arith)
+        go (inr (inl is)) = (λ f. omega arith, λ f. omega arith)
+        go (inr (inr (inl is))) = (λ f. omega arith, λ f. omega arith)
+        go (inr (inr (inr is))) = (λ f. omega arith, λ f. omega arith)
+
+    -- without powered lamps
+    pub nothing-packs : b .k ≡ 0 → packLightBvh (bytesOf (nodesWritten b)) (b .k) (b .all-bounds) room ≡ given none
     unfolding packLightBvh packedTree _then_
-    parts-nothing room dark =
+    nothing-packs dark =
         let bare : 2 * b .k - 1 ≡ 0 = omega arith in
-        rw (packed-check room, bare, le-ltb room 0 (omega arith), no-box dark, agreed-nothing 0 (b .k) refl dark)
-
-module _ (lights : ℕ) (ws : List ℕ) (nodes table work : ℕ) (b : LightBVH) (accepted : buildLightBvh lights ws nodes table work ≡ given b) (room : ℕ) where
-  -- by the room, or by a record
-  pub built-refusals : (n : ℕ) → packLightBvh (bytesOf (nodesWritten b)) (b .k) (b .all-bounds) room ≡ refused n → (n ≡ 3) ⊎ ((5 ≤ n) × (n ≤ 8))
-  built-refusals n e =
-      parts-refusals ws b (accepted-parts lights ws nodes table work b accepted) (accepted-box lights ws nodes table work b accepted) room n e
-
-  -- the nodes agree with k, with the box and with their own places
-  pub built-agrees : (n : ℕ) → packLightBvh (bytesOf (nodesWritten b)) (b .k) (b .all-bounds) room ≡ refused n → (n ≡ 12 → ⊥) × (n ≡ 13 → ⊥)
-  built-agrees n e = go (built-refusals n e)
-    where
-      go : (n ≡ 3) ⊎ ((5 ≤ n) × (n ≤ 8)) → (n ≡ 12 → ⊥) × (n ≡ 13 → ⊥)
-      go (inl is) = (λ f. omega arith, λ f. omega arith)
-      go (inr (low, high)) = (λ f. omega arith, λ f. omega arith)
-
-  -- without powered lamps
-  pub nothing-packs : b .k ≡ 0 → packLightBvh (bytesOf (nodesWritten b)) (b .k) (b .all-bounds) room ≡ given none
-  nothing-packs dark =
-      parts-nothing ws b (accepted-parts lights ws nodes table work b accepted) (accepted-box lights ws nodes table work b accepted) room dark
+        rw (checked, bare, le-ltb room 0 (omega arith), no-box dark, agreed-nothing 0 (b .k) refl dark)

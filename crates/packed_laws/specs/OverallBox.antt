@@ -1,5 +1,6 @@
--- The overall box of an accepted build: it passes its check (`overall-passes`) and holds the box of every node (`node-within`), whose own is finite and has its
--- minimum at most its maximum. Boxes that pass their checks are so, and so is the union of two, which holds both. Assumes nothing.
+-- The overall box of an accepted build is proper, finite with its minimum at most its maximum, and so is the box of every node, which it holds
+-- (`overall-proper`, `node-within`). Boxes that pass their checks are proper (`check-proper`, `proper-check`), and so is the union of two, which holds both.
+-- Assumes nothing.
 use Prim.Native.Nat.{ℕ, zero, suc, _+_, _-_, _*_, _/_, _<_}
 use mathlib.Core.Path.{_≡_, refl, ap, sym, subst, _∙_}
 use mathlib.Core.Bool.{Bool, true, false, cond, not, _&&_, _||_}
@@ -201,9 +202,13 @@ box-there ws m l e =
     let o : Overall = record { any = false; bounds = record { min = vec zerof zerof zerof; max = vec zerof zerof zerof } } in
     Option·none-ne-some (o .bounds) (sym e ∙ bounds-some ws m o l (sym e))
 
--- it holds the box of each
+-- it holds the box of each, which is proper
+pub record Fit (all b : Bounds3) : Type 0 where
+  pub held : Holds all b
+  pub proper : Proper b
+
 abbrev Around : List ℕ → Bounds3 → ℕ → Type 0
-Around ws all h = Holds all (lightOf ws h .bounds)
+Around ws all h = Fit all (lightOf ws h .bounds)
 
 abbrev Covers : List ℕ → Bounds3 → List ℕ → Type 0
 Covers ws all hs = Proper all × All (Around ws all) hs
@@ -226,7 +231,7 @@ rows-covered ws (suc n) e all is =
         subst (λ (z : Bounds3). Covers ws z (boundedHandles ws n ++ n ∷ [])) same (
           own,
           all-append (Around ws (lightOf ws n .bounds)) (boundedHandles ws n) (n ∷ [])
-          (none-all (Around ws (lightOf ws n .bounds)) (boundedHandles ws n) (λ l. box-there ws n l h)) (holds-itself (lightOf ws n .bounds) own, tt),
+          (none-all (Around ws (lightOf ws n .bounds)) (boundedHandles ws n) (λ l. box-there ws n l h)) (record { held = holds-itself (lightOf ws n .bounds) own; proper = own }, tt),
         )
     go own ih true (some a) h is =
         let b = lightOf ws n .bounds in
@@ -236,28 +241,32 @@ rows-covered ws (suc n) e all is =
         subst (λ (z : Bounds3). Covers ws z (boundedHandles ws n ++ n ∷ [])) same (
           proper-union a b proper own,
           all-append (Around ws (boxUnion a b)) (boundedHandles ws n) (n ∷ [])
-          (all-map (λ h held. holds-trans (boxUnion a b) a (lightOf ws h .bounds) holds-a held) (boundedHandles ws n) each) (holds-b, tt),
+          (all-map (λ h fit. record { held = holds-trans (boxUnion a b) a (lightOf ws h .bounds) holds-a (fit .held); proper = fit .proper })
+          (boundedHandles ws n) each) (record { held = holds-b; proper = own }, tt),
         )
     go own ih false o h is = rw (append-nil (boundedHandles ws n)) (ih all (h ∙ is))
 
 -- ---- a tree within a box
 
 abbrev Within : Bounds3 → Tree → Type 0
-Within all (leaf h b) = Holds all (b .bounds)
-Within all (fork b l r) = Holds all (b .bounds) × Within all l × Within all r
+Within all (leaf h b) = Fit all (b .bounds)
+Within all (fork b l r) = Fit all (b .bounds) × Within all l × Within all r
 
-root-within : (all : Bounds3) (t : Tree) → Within all t → Holds all (bounds t .bounds)
+root-within : (all : Bounds3) (t : Tree) → Within all t → Fit all (bounds t .bounds)
 root-within all (leaf h b) w = w
 root-within all (fork b l r) w = w .0
 
-join-held : (all : Bounds3) (a b : LightBounds) → Holds all (a .bounds) → Holds all (b .bounds) → Holds all (join a b .bounds)
+join-fit : (all : Bounds3) (a b : LightBounds) → Fit all (a .bounds) → Fit all (b .bounds) → Fit all (join a b .bounds)
 unfolding join
-join-held all a b h k = go (eq (a .phi) zerof) (eq (b .phi) zerof)
+join-fit all a b h k = go (eq (a .phi) zerof) (eq (b .phi) zerof)
   where
-    go : (c d : Bool) → Holds all (cond c b (cond d a (joinPowered a b)) .bounds)
+    go : (c d : Bool) → Fit all (cond c b (cond d a (joinPowered a b)) .bounds)
     go true d = k
     go false true = h
-    go false false = union-held all (a .bounds) (b .bounds) h k
+    go false false = record {
+      held = union-held all (a .bounds) (b .bounds) (h .held) (k .held);
+      proper = proper-union (a .bounds) (b .bounds) (h .proper) (k .proper);
+    }
 
 built-within : (ws : List ℕ) (all : Bounds3) (n : ℕ) (hs : List ℕ) (t : Tree) → buildSubtree ws n hs ≡ given t → All (Around ws all) hs → Within all t
 built-within ws all n hs t e =
@@ -268,17 +277,15 @@ built-within ws all n hs t e =
     let left = holds-l (halves .0) in
     let right = holds-r (halves .1) in
     let is = union-given (bounds l) (bounds r) b e .2 in
-    (rw is (join-held all (bounds l) (bounds r) (root-within all l left) (root-within all r right)), left, right)) n hs t e
+    (rw is (join-fit all (bounds l) (bounds r) (root-within all l left) (root-within all r right)), left, right)) n hs t e
 
 place-within : (all : Bounds3) (at p : ℕ) (t : Tree) (i : ℕ) (x : LightBVHNode × LightBounds) → Within all t → nodeIn at p t i ≡ some x
-    → Holds all (x .1 .bounds)
-place-within all at p (leaf h b) i x w e = found all (leafNode h p, b) x (nodeIn-leaf at p h b i x e .1) w
-  where
-    found : (all : Bounds3) (x y : LightBVHNode × LightBounds) → some x ≡ some y → Holds all (x .1 .bounds) → Holds all (y .1 .bounds)
-    found all x y e h = subst (λ (z : LightBVHNode × LightBounds). Holds all (z .1 .bounds)) (Option·some-injective x y e) h
+    → Fit all (x .1 .bounds)
+place-within all at p (leaf h b) i x w e =
+    subst (λ (z : LightBVHNode × LightBounds). Fit all (z .1 .bounds)) (Option·some-injective (leafNode h p, b) x (nodeIn-leaf at p h b i x e .1)) w
 place-within all at p (fork b l r) i x w e =
     ⊎-elim
-    (λ here. subst (λ (z : LightBVHNode × LightBounds). Holds all (z .1 .bounds))
+    (λ here. subst (λ (z : LightBVHNode × LightBounds). Fit all (z .1 .bounds))
     (Option·some-injective (interior (at + 1) (rightPlace at l) p, b) x (here .1)) (w .0))
     (λ under. ⊎-elim (place-within all (at + 1) at l i x (w .1)) (place-within all (rightPlace at l) at r i x (w .2)) under)
     (nodeIn-fork at p b l r i x e)
@@ -313,25 +320,21 @@ module _ (lights : ℕ) (ws : List ℕ) (nodes table work : ℕ) (b : LightBVH) 
     covered : Covers ws all (boundedHandles ws (b .rows))
     covered = rows-covered ws (b .rows) (parts .checked) all (sym accepted-box ∙ is)
 
-    -- it passes its check
-    pub overall-passes : boxCheck all ≡ given tt
-    overall-passes = proper-check all (covered .0)
-
     pub overall-proper : Proper all
     overall-proper = covered .0
 
-    -- and holds the box of each node
-    pub node-within : (i : ℕ) (r : LightBounds) → boundsAt (nodesWritten b) i ≡ given r → Holds all (r .bounds)
+    -- and holds the box of each node, which is proper
+    pub node-within : (i : ℕ) (r : LightBounds) → boundsAt (nodesWritten b) i ≡ given r → Fit all (r .bounds)
     node-within i r e = go (b .tree) refl
       where
         low : i < 2 * b .k - 1
         low = record-low ws b parts i r e
 
-        go : (o : Option Tree) → b .tree ≡ o → Holds all (r .bounds)
+        go : (o : Option Tree) → b .tree ≡ o → Fit all (r .bounds)
         go none bare = absurd (omega (arith, low, accepted-none ws b parts bare))
         go (some t) grown-is =
             let hs = boundedHandles ws (b .rows) in
             let built = treeOf-built ws hs t (parts .grown ∙ ap given grown-is) in
             let (x, at, read) = accepted-read ws b t parts grown-is i low in
-            subst (λ (z : LightBounds). Holds all (z .bounds)) (given-injective (sym (read .1) ∙ e))
+            subst (λ (z : LightBounds). Fit all (z .bounds)) (given-injective (sym (read .1) ∙ e))
             (place-within all 0 invalidIndex t i x (built-within ws all (length hs) hs t built (covered .1)) at)

@@ -1,6 +1,5 @@
 -- Packed boxes nest as boxes do: where one box holds another, both within the overall box, its steps hold the other's (`steps-nest`). So in the packed words of
--- an accepted build the box of an interior node, in steps, holds those of its children (`packed-nests`), and the box of every node is within the overall box's
--- own steps, from 0 to 65535. Assumes nothing.
+-- an accepted build the box of an interior node, in steps, holds those of its children (`packed-nests`). Assumes nothing.
 use Prim.Native.Nat.{ℕ, _-_, _*_, _/_, _≤_, _<_}
 use mathlib.Core.Path.{_≡_, refl, ap, sym, subst, _∙_}
 use mathlib.Core.Bool.{Bool, true, false}
@@ -23,8 +22,8 @@ use Rattle.light_runs.specs.ByteLaws.{nodes-words, nodes-bytes}
 use Rattle.light_runs.specs.NodeLaws.{boxes}
 use Rattle.packed_bvh.specs.Packed.{packLightBvh}
 use Rattle.packed_bvh.specs.Quantize.{quantizeBounds}
-use Rattle.packed_laws.specs.OverallBox.{Axis, Proper, validate-proper, record-low, overall-proper, node-within}
-use Rattle.packed_laws.specs.PackedLaws.{packed-header, packed-valid, packed-box}
+use Rattle.packed_laws.specs.OverallBox.{Axis, Proper, record-low, overall-proper, node-within}
+use Rattle.packed_laws.specs.PackedLaws.{packed-header, packed-box}
 use Rattle.packed_laws.specs.PackedRead.{StepBox, boxAt, boxSteps, StepHolds}
 use Rattle.packed_laws.specs.StepsOrder.{quantize-mono}
 
@@ -74,9 +73,6 @@ module _ (lights : ℕ) (ws : List ℕ) (nodes table work : ℕ) (b : LightBVH) 
     reread : boundsAt (wordsOf (bytesOf (nodesWritten b))) i ≡ given r
     reread = rw (nodes-words ws b parts) e
 
-    record-proper : Proper (r .bounds)
-    record-proper = validate-proper r (packed-valid (bytesOf (nodesWritten b)) (b .k) (b .all-bounds) room words packed i place r reread)
-
     record-box : (all : Bounds3) → b .all-bounds ≡ some all → boxAt words i ≡ boxSteps all (r .bounds)
     record-box all is = packed-box (bytesOf (nodesWritten b)) (b .k) (b .all-bounds) room words packed all is i place r reread
 
@@ -85,15 +81,16 @@ module _ (lights : ℕ) (ws : List ℕ) (nodes table work : ℕ) (b : LightBVH) 
       → StepHolds (boxAt words i) (boxAt words l) × StepHolds (boxAt words i) (boxAt words r)
   packed-nests i l r p e =
       let (all, is, _) = packed-header (bytesOf (nodesWritten b)) (b .k) (b .all-bounds) room words packed in
-      let held = boxes ws b parts i l r p e in
-      let own = held .own in
-      let outer = node-within lights ws nodes table work b accepted all is i own (held .own-is) in
       let whole = overall-proper lights ws nodes table work b accepted all is in
+      let within = node-within lights ws nodes table work b accepted all is in
+      let held = boxes ws b parts i l r p e in
+      let outer = within i (held .own) (held .own-is) .held in
+      let box = held .own .bounds in
       rw (
-        record-box i own (held .own-is) all is,
+        record-box i (held .own) (held .own-is) all is,
         record-box l (held .left) (held .left-is) all is,
         record-box r (held .right) (held .right-is) all is,
       ) (
-        steps-nest all (own .bounds) (held .left .bounds) whole outer (held .holds-left) (record-proper l (held .left) (held .left-is)),
-        steps-nest all (own .bounds) (held .right .bounds) whole outer (held .holds-right) (record-proper r (held .right) (held .right-is)),
+        steps-nest all box (held .left .bounds) whole outer (held .holds-left) (within l (held .left) (held .left-is) .proper),
+        steps-nest all box (held .right .bounds) whole outer (held .holds-right) (within r (held .right) (held .right-is) .proper),
       )
