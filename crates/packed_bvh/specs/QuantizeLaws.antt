@@ -42,7 +42,7 @@ cast-negative w (inf t) n h = absurd h
 cast-negative w (fin t m e) n h = rw (h .0)
 
 -- a value that is a NaN or at most n
-abbrev pub Under : ℕ → Float → Type 0
+abbrev Under : ℕ → Float → Type 0
 Under n x = (x ≡ nan) ⊎ T (le x (fin false n (pos 0)))
 
 next-small : (w n : ℕ) (away : Bool) (x : Float) → T (fits binary32 x) → Under n x → toUnsigned w (nextWhole binary32 away x) ≤ n

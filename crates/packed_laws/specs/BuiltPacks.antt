@@ -2,36 +2,34 @@
 -- proper, so what can be refused is the room, by 3, and a record, by 5, 7 or 8 (`built-refusals`). Without powered lamps nothing is packed (`nothing-packs`).
 -- Assumes nothing.
 use Prim.Native.Nat.{ℕ, zero, suc, _+_, _-_, _*_, _≤_, _<_}
-use mathlib.Core.Path.{_≡_, refl, ap, sym, subst, _∙_}
+use mathlib.Core.Path.{_≡_, refl, sym, subst, _∙_}
 use mathlib.Core.Bool.{Bool, true, false, cond, not, _||_}
-use mathlib.Core.List.{List, _++_}
+use mathlib.Core.List.{List}
 use mathlib.Core.Logic.{_⊎_, inl, inr, ⊎-elim}
-use mathlib.Core.Option.{Option, none, some, Option·some-injective, Option·none-ne-some}
+use mathlib.Core.Option.{Option, none, some, Option·some-injective}
 use native.Mathlib.Omega.{arith}
-use borrow.Author.Tests.{le-ltb, lt-ltb, eq-eqb, ne-eqb}
+use borrow.Author.Tests.{le-ltb, lt-ltb, eq-eqb}
 use lib.Dec.{eqb, ltb}
 use lib.Ieee.{lt, eq}
-use lib.ListN.{length}
 use Rattle.ieee.specs.Single.{zerof}
 use Rattle.words.specs.Answers.{Answer, given, refused, _then_}
-use Rattle.words.specs.LittleEndian.{bytesOf, wordsOf}
-use Rattle.words.proofs.AnswerLaws.{Only, only-given, only-refused, only-cond, only-then, only-number, then-given, given-injective, refused-injective}
-use Rattle.light_bounds.specs.Bounds.{boxCheck}
+use Rattle.words.specs.LittleEndian.{bytesOf}
+use Rattle.words.proofs.AnswerLaws.{Only, only-given, only-refused, only-cond, only-then, only-number, refused-injective}
 use Rattle.light_bounds.specs.LightBounds.{validate, coneCheck, finiteCone, rangeCheck, areCosines}
-use Rattle.light_bounds.specs.Vecmath.{vec, normalizeByDivision, dividing, dot, vecLength}
+use Rattle.light_bounds.specs.Vecmath.{normalizeByDivision, dividing, dot, vecLength}
 use Rattle.light_bounds.specs.declared.bounds.Bounds3.{Bounds3}
 use Rattle.light_bounds.specs.declared.light_bounds.LightBounds.{LightBounds}
 use Rattle.light_bounds.specs.declared.vecmath.Vec3.{Vec3}
-use Rattle.light_nodes.specs.Nodes.{LightBVHNode, leaf as leafNode, interior, invalidIndex, parent, nodeAt, boundsAt}
+use Rattle.light_nodes.specs.Nodes.{LightBVHNode, leaf as leafNode, interior, invalidIndex, parent, nodeAt}
 use Rattle.light_nodes.specs.Tree.{Tree, leaf, fork, leaves, rightPlace}
 use Rattle.light_nodes.specs.TreeLaws.{leaves-pos}
-use Rattle.light_bvh.specs.Build.{boundedHandles, allBounds, LightBVH, buildLightBvh, nodesWritten}
+use Rattle.light_bvh.specs.Build.{LightBVH, buildLightBvh, nodesWritten}
 use Rattle.light_bvh.proofs.RowsLaws.{bounded-few, bounds-none}
 use Rattle.tree_laws.specs.AcceptedTree.{Parts, accepted-parts, accepted-none, accepted-leaves, accepted-read}
 use Rattle.tree_laws.specs.PlaceLaws.{nodeIn, nodeIn-fork, nodeIn-leaf, Reads}
 use Rattle.light_runs.specs.ByteLaws.{nodes-words, nodes-counted}
 use Rattle.light_runs.specs.NodeLaws.{leaf-powered}
-use Rattle.packed_bvh.specs.Packed.{indexMax, payload, payloadWord, compactWords, payloadCheck, parentCheck, leftCheck, packNode, packNodes, header}
+use Rattle.packed_bvh.specs.Packed.{indexMax, payload, payloadCheck, parentCheck, leftCheck, packNode, packNodes}
 use Rattle.packed_bvh.specs.Packed.{packedReserve, packCheck, agreed, packedTree, packLightBvh}
 use Rattle.packed_bvh.proofs.PackLaws.{agreed-valid, agreed-nothing}
 use Rattle.packed_laws.specs.OverallBox.{Proper, proper-check, box-there, accepted-box, overall-proper, node-within}

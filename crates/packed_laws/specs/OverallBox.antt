@@ -11,12 +11,12 @@ use native.Mathlib.Omega.{arith}
 use borrow.Author.Tests.{ltb-true, ltb-false}
 use lib.Dec.{T, ltb}
 use lib.Ieee.{Float, nan, inf, fin, lt, le, eq, isNan}
-use lib.Ieee.Fits.{and-i, and-l, and-r}
+use lib.Ieee.Fits.{and-l, and-r}
 use lib.Ieee.Scale.{finite}
 use lib.ListN.{length}
 use Rattle.ieee.specs.Choose.{fmin, fmax}
 use Rattle.ieee.specs.ChooseOrder.{fmin-is, fmax-is, fmin-le, fmax-le}
-use Rattle.ieee.specs.OrderLaws.{le-left, le-right, le-trans, le-refl, le-of-not-lt, not-le-of-lt}
+use Rattle.ieee.specs.OrderLaws.{le-trans, le-refl, le-of-not-lt, not-le-of-lt}
 use Rattle.ieee.specs.Single.{zerof}
 use Rattle.words.specs.Answers.{Answer, given, refused, _then_}
 use Rattle.words.proofs.AnswerLaws.{then-given, given-injective, not-both}
@@ -231,7 +231,7 @@ rows-covered ws (suc n) e all is =
         subst (λ (z : Bounds3). Covers ws z (boundedHandles ws n ++ n ∷ [])) same (
           own,
           all-append (Around ws (lightOf ws n .bounds)) (boundedHandles ws n) (n ∷ [])
-          (none-all (Around ws (lightOf ws n .bounds)) (boundedHandles ws n) (λ l. box-there ws n l h)) (record { held = holds-itself (lightOf ws n .bounds) own; proper = own }, tt),
+              (none-all (Around ws (lightOf ws n .bounds)) (boundedHandles ws n) (λ l. box-there ws n l h)) (record { held = holds-itself (lightOf ws n .bounds) own; proper = own }, tt),
         )
     go own ih true (some a) h is =
         let b = lightOf ws n .bounds in
@@ -241,8 +241,8 @@ rows-covered ws (suc n) e all is =
         subst (λ (z : Bounds3). Covers ws z (boundedHandles ws n ++ n ∷ [])) same (
           proper-union a b proper own,
           all-append (Around ws (boxUnion a b)) (boundedHandles ws n) (n ∷ [])
-          (all-map (λ h fit. record { held = holds-trans (boxUnion a b) a (lightOf ws h .bounds) holds-a (fit .held); proper = fit .proper })
-          (boundedHandles ws n) each) (record { held = holds-b; proper = own }, tt),
+              (all-map (λ h fit. record { held = holds-trans (boxUnion a b) a (lightOf ws h .bounds) holds-a (fit .held); proper = fit .proper })
+              (boundedHandles ws n) each) (record { held = holds-b; proper = own }, tt),
         )
     go own ih false o h is = rw (append-nil (boundedHandles ws n)) (ih all (h ∙ is))
 

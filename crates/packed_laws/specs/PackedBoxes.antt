@@ -1,14 +1,14 @@
 -- The packed box of a node: on each axis its steps lie around the computed ones (`down-below`, `up-above`), as far as these are computed. The plain sentences
--- fail: a step below a coordinate can stand for more than it (`step-above`), and a step above one can be read back as a float below it (`corner-below`). Assumes
--- nothing.
-use Prim.Native.Nat.{ℕ, zero, suc, _+_, _*_, _^_, _-_, _/_, _≤_, _<_, min, zero-le}
-use mathlib.Core.Path.{_≡_, refl, ap, sym, subst, _∙_}
+-- fail: a step below a coordinate can stand for more than it (`step-above`), a step above one can be read back as a float below it (`corner-below`), and an axis
+-- wider than any float has no steps (`wide-corner`). Assumes nothing.
+use Prim.Native.Nat.{ℕ, zero, suc, _+_, _*_, _^_, _≤_, _<_}
+use mathlib.Core.Path.{_≡_, refl, _∙_}
 use mathlib.Core.Bool.{Bool, true, false, cond, not}
-use mathlib.Core.Logic.{_⊎_, inl, inr}
-use native.Mathlib.Nat.{le-trans, le-of-eq, div-one}
+use mathlib.Core.Logic.{inl, inr}
+use native.Mathlib.Nat.{le-trans}
 use native.Mathlib.Omega.{arith}
-use lib.Dec.{T, ltb, eqb, lit<, lit≤, eqb→eq}
-use lib.IntN.{ℤ, pos, negsuc}
+use lib.Dec.{T, ltb, lit<, lit≤, eqb→eq}
+use lib.IntN.{ℤ, pos}
 use lib.Ieee.{Float, nan, inf, fin, Format, binary32, prec, emax, low as lowest, unlike, up, down, size, span, climb, odd, units, round, neg, sum, add, sub, mul, div, lt, le, eq, isNan, fits}
 use lib.Ieee.{ofFields, ofBits, ofInt, toUnsigned}
 use lib.Ieee.Back.{round-whole}
@@ -20,11 +20,11 @@ use Rattle.ieee.specs.Choose.{clamp}
 use Rattle.ieee.specs.OperationOrder.{mul-nonneg}
 use Rattle.ieee.specs.OrderLaws.{nonneg, le-fin, finite-below}
 use Rattle.ieee.specs.Single.{_⊕_, _⊖_, _⊗_, _⊘_, single, zerof, onef}
-use Rattle.ieee.specs.Whole.{outward, nextWhole, negative, floor, ceil, toU32}
+use Rattle.ieee.specs.Whole.{outward, nextWhole, floor, ceil, toU32}
 use Rattle.ieee.specs.WholeLaws.{toUnsigned-units}
 use Rattle.ieee.specs.WholeNumbers.{outward-under, outward-over, nextWhole-value}
 use Rattle.packed_bvh.specs.Quantize.{lastStep, stepsOf, quantizeBounds}
-use Rattle.packed_bvh.specs.QuantizeLaws.{Under, Portion, clamped, portion-steps, outward-small, cast-negative}
+use Rattle.packed_bvh.specs.QuantizeLaws.{Portion, clamped, portion-steps, outward-small, cast-negative}
 
 -- ---- a number of steps
 
@@ -143,6 +143,11 @@ module _ (v lo hi : Float) (extent : eq lo hi ≡ false) (known : T (not (isNan 
 pub step-above : (quantizeBounds false (single 0x3780_0080) zerof onef ≡ 1) × HasValue (single 0x3780_0080) false 8388736 (2 ^ 39) × (8388736 * 65535 < 1 * 2 ^ 39)
 unfolding quantizeBounds stepsOf toU32 floor nextWhole clamp ofFields ofBits span climb size odd units round neg sum add sub mul div lt eq toUnsigned
 step-above = (refl, (refl, refl), lit< tt)
+
+-- on an axis wider than any float, from -2 ^ 127 to 2 ^ 127, the maximum itself is packed as step 0: its steps are a NaN (StepsOrder's `wide-steps`)
+pub wide-corner : quantizeBounds true (single 0x7f00_0000) (single 0xff00_0000) (single 0x7f00_0000) ≡ 0
+unfolding quantizeBounds stepsOf toU32 ceil nextWhole clamp ofFields ofBits span climb size odd units round neg sum add sub mul div lt eq toUnsigned
+wide-corner = refl
 
 -- the step q read back in floats
 abbrev pub stepBack : ℕ → Float → Float → Float

@@ -4,12 +4,12 @@
 use Prim.Native.Nat.{ℕ, zero, suc, _+_, _-_, _*_, _/_, _%_, _≤_, _<_}
 use mathlib.Core.Path.{_≡_, refl, ap, sym, subst, _∙_}
 use mathlib.Core.Bool.{Bool, true, false, cond, _&&_, _||_}
-use mathlib.Core.List.{List, [], _∷_, _++_}
+use mathlib.Core.List.{List, _++_}
 use mathlib.Core.Option.{Option, none, some, Option·some-injective, Option·none-ne-some}
 use native.Mathlib.Nat.{add-zero}
 use native.Mathlib.Omega.{arith}
 use borrow.Author.Tests.{ltb-true, ltb-false, eqb-true, le-leb, lt-leb}
-use lib.Dec.{eqb, ltb, leb}
+use lib.Dec.{eqb, ltb}
 use lib.ListN.{length, getD, take, length-append, List·getD-append}
 use lib.Seq.{getD-append-add}
 use Rattle.words.specs.Answers.{Answer, given, refused, _then_}
@@ -27,7 +27,7 @@ use Rattle.packed_bvh.specs.Packed.{packedReserve, packCheck, agreed, packedTre
 use Rattle.packed_bvh.specs.Quantize.{quantizeBounds}
 use Rattle.packed_bvh.specs.QuantizeLaws.{quantize-small}
 use Rattle.packed_bvh.proofs.PackLaws.{count-known}
-use Rattle.packed_laws.specs.PackedRead.{readNode, packedPlace, StepBox, readBox, boxAt, boxSteps}
+use Rattle.packed_laws.specs.PackedRead.{readNode, packedPlace, readBox, boxAt, boxSteps}
 
 -- ---- a node
 

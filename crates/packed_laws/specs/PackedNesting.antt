@@ -1,10 +1,10 @@
 -- Packed boxes nest as boxes do: where one box holds another, both within the overall box, its steps hold the other's (`steps-nest`). So in the packed words of
 -- an accepted build the box of an interior node, in steps, holds those of its children (`packed-nests`). Assumes nothing.
-use Prim.Native.Nat.{ℕ, _-_, _*_, _/_, _≤_, _<_}
-use mathlib.Core.Path.{_≡_, refl, ap, sym, subst, _∙_}
-use mathlib.Core.Bool.{Bool, true, false}
+use Prim.Native.Nat.{ℕ, _/_, _≤_, _<_}
+use mathlib.Core.Path.{_≡_}
+use mathlib.Core.Bool.{true, false}
 use mathlib.Core.List.{List}
-use mathlib.Core.Option.{Option, none, some}
+use mathlib.Core.Option.{some}
 use native.Mathlib.Omega.{arith}
 use lib.Dec.{T}
 use lib.Ieee.{Float, le}
@@ -24,7 +24,7 @@ use Rattle.packed_bvh.specs.Packed.{packLightBvh}
 use Rattle.packed_bvh.specs.Quantize.{quantizeBounds}
 use Rattle.packed_laws.specs.OverallBox.{Axis, Proper, record-low, overall-proper, node-within}
 use Rattle.packed_laws.specs.PackedLaws.{packed-header, packed-box}
-use Rattle.packed_laws.specs.PackedRead.{StepBox, boxAt, boxSteps, StepHolds}
+use Rattle.packed_laws.specs.PackedRead.{boxAt, boxSteps, StepHolds}
 use Rattle.packed_laws.specs.StepsOrder.{quantize-mono}
 
 -- ---- boxes

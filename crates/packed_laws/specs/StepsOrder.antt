@@ -1,28 +1,32 @@
 -- Packed coordinates keep the order: of two values within the overall box's axis, the greater one has a step that is no smaller, whichever way both are rounded
--- (`quantize-mono`). Every part of the computation keeps it: the difference, the quotient, the clamp, the product, the next whole number. Assumes nothing.
-use Prim.Native.Nat.{ℕ, zero, suc, _+_, _*_, _^_, _-_, _≤_, _<_, zero-le}
-use mathlib.Core.Path.{_≡_, refl, ap, sym, subst, _∙_}
-use mathlib.Core.Bool.{Bool, true, false, cond, not, _&&_, _||_}
+-- (`quantize-mono`). Every part of the computation keeps it: the difference, the quotient, the clamp, the product, the next whole number. The computed steps are
+-- known where the difference of the axis's ends is finite (`steps-known`); where it is not, all are 0 (`wide-steps`). Assumes nothing.
+use Prim.Native.Nat.{ℕ, suc, _+_, _*_, _^_, _-_, _≤_, _<_, zero-le}
+use mathlib.Core.Path.{_≡_, refl, ap, sym, _∙_}
+use mathlib.Core.Bool.{Bool, true, false, cond, not, _&&_}
 use mathlib.Core.Logic.{_⊎_, inl, inr}
-use native.Mathlib.Nat.{le-trans as ≤-trans, le-of-eq, lt-of-mul-lt-mul-right, le-of-mul-le-mul-right, mul-pos, mul-le-mul-right, eq-zero-or-pos}
+use native.Mathlib.Nat.{lt-of-mul-lt-mul-right, le-of-mul-le-mul-right, mul-pos, mul-one, mul-assoc, mul-comm, mul-right-comm, lt-of-not-le, mul-le-mul-right, eq-zero-or-pos}
+use native.Mathlib.Decide.{decLe}
 use native.Mathlib.Omega.{arith}
-use borrow.Author.Tests.{ltb-true, ltb-false, lt-ltb, le-ltb, eq-eqb, ne-eqb}
-use lib.Dec.{T, eqb, ltb, eqb→eq, lt→ltb}
-use lib.IntN.{ℤ, pos}
-use lib.Ieee.{Float, nan, inf, fin, Format, binary32, binary64, unlike, prec, low, emax, up, down, size, span, climb, odd, units, round, neg, sum, add, sub, mul, div, lt, le, eq, isNan}
+use borrow.Author.Tests.{ltb-false, lt-ltb, le-ltb, eq-eqb}
+use lib.Dec.{T, ltb, eqb→eq, ltb→lt, lt→ltb}
+use lib.IntN.{ℤ, pos, negsuc}
+use lib.Ieee.{Float, nan, inf, fin, Format, binary32, binary64, unlike, low, up, down, size, span, climb, odd, units, round, neg, sum, add, sub, mul, div, lt, le, eq, isNan}
 use lib.Ieee.{fits, ofBits, toUnsigned}
-use lib.Ieee.Fits.{down-pos, up-pos, mul-fits, round-is}
+use lib.Ieee.Fits.{down-pos, up-pos}
 use lib.Ieee.Order.{round-mono}
 use lib.Ieee.Scale.{finite}
+use lib.Pow.{pow-pos, pow-lt, pow-add}
 use Rattle.ieee.specs.Choose.{clamp, fmin, fmax}
 use Rattle.ieee.specs.ChooseOrder.{fmin-mono, fmax-mono}
-use Rattle.ieee.specs.OperationOrder.{mul-nonneg, sub-nonneg, sub-mono, div-mono, mul-mono, positive→lt}
-use Rattle.ieee.specs.OrderLaws.{gain, loss, nonneg, le-fin, le-left, le-right, le-refl, le-trans, le→nonneg, nonneg-known, nonneg-up, finite-below}
+use Rattle.ieee.specs.NearestLaws.{held}
+use Rattle.ieee.specs.OperationOrder.{sub-nonneg, sub-mono, div-mono, mul-mono, positive→lt}
+use Rattle.ieee.specs.OrderLaws.{gain, loss, nonneg, le-fin, le-left, le-right, le-refl, le-trans, le→nonneg, nonneg-known, nonneg-up, finite-below, lt-of-lt-of-le}
 use Rattle.ieee.specs.Single.{_⊖_, _⊗_, _⊘_, zerof, onef}
 use Rattle.ieee.specs.Whole.{outward, nextWhole, negative, floor, ceil, toU32}
-use Rattle.ieee.specs.WholeNumbers.{outward-under, outward-over, nextWhole-value}
+use Rattle.ieee.specs.WholeNumbers.{outward-under, outward-over}
 use Rattle.packed_bvh.specs.Quantize.{lastStep, stepsOf, quantizeBounds}
-use Rattle.packed_bvh.specs.QuantizeLaws.{Portion, clamped, outward-small, cast-negative}
+use Rattle.packed_bvh.specs.QuantizeLaws.{Portion, clamped, outward-small}
 use Rattle.packed_laws.specs.PackedBoxes.{Steps, steps-of, nan-known, cast-next, cast-zero}
 
 -- ---- a difference of a value and one below it
@@ -103,6 +107,81 @@ module _ (f : Format) where
   difference-mono (fin true n d) (fin s m e) (inf t) a b c h k = absurd c
   difference-mono (fin true n d) (fin s m e) (fin t j g) a b c h k =
       over-mono f n d s m e t j g h k (le-trans (fin true n d) (fin s m e) (fin t j g) h k)
+
+-- ---- a difference of values of the format is above zero, or they are equal: it is at least one unit
+
+-- how many units a value has
+units-in : (f : Format) (m : ℕ) (e : ℤ) → down e ≤ 2 ^ low f → (u : ℕ) × (m * up e * 2 ^ low f ≡ u * down e)
+units-in f m (pos k) h = (m * 2 ^ k * 2 ^ low f, sym (mul-one (m * 2 ^ k * 2 ^ low f)))
+units-in f m (negsuc k) h =
+    let enough : suc k ≤ low f = elim (decLe (suc k) (low f)) [ yes l ↦ l | no n ↦ absurd (omega (arith, pow-lt (lt-of-not-le n))) ] in
+    let parts : low f - suc k + suc k ≡ low f = omega arith in
+    let split : 2 ^ low f ≡ 2 ^ (low f - suc k) * 2 ^ suc k = ap (λ (z : ℕ). 2 ^ z) (sym parts) ∙ pow-add 2 (low f - suc k) (suc k) in
+    (m * 1 * 2 ^ (low f - suc k), ap (λ (z : ℕ). m * 1 * z) split ∙ sym (mul-assoc (m * 1) (2 ^ (low f - suc k)) (2 ^ suc k)))
+
+-- two numbers of units apart are a unit apart
+apart : (p q g u v c l : ℕ) → p ≡ q + g → p * l ≡ u * c → q * l ≡ v * c → 0 < g → 0 < l → c ≤ g * l
+apart p q g u v c l is a b some-g some-l =
+    let sum : p * l ≡ (q + g) * l = ap (λ (z : ℕ). z * l) is in
+    let more : v * c < u * c = omega (arith, mul-pos some-g some-l) in
+    let next : v < u = lt-of-mul-lt-mul-right c more in
+    let least : suc v * c ≤ u * c = mul-le-mul-right c next in
+    omega arith
+
+unit-above : (f : Format) → T (lt (fin false 0 (pos 0)) (round f false 1 (2 ^ low f)))
+unfolding round size span climb units odd lt
+unit-above binary32 = tt
+unit-above binary64 = tt
+
+rounds-above : (f : Format) (g c : ℕ) → 0 < c → c ≤ g * 2 ^ low f → T (lt (fin false 0 (pos 0)) (round f false g c))
+rounds-above f g c some-c h =
+    lt-of-lt-of-le (fin false 0 (pos 0)) (round f false 1 (2 ^ low f)) (round f false g c) (unit-above f)
+    (round-mono f 1 (2 ^ low f) g c (pow-pos (low f)) some-c (omega arith))
+
+module _ (f : Format) (m : ℕ) (e : ℤ) (n : ℕ) (d : ℤ) (H : down e ≤ 2 ^ low f) (K : down d ≤ 2 ^ low f) where
+  abbrev A : ℕ
+  A = m * up e * down d
+
+  abbrev B : ℕ
+  B = n * up d * down e
+
+  units-apart : (p q g u v : ℕ) → p ≡ q + g → p * 2 ^ low f ≡ u * (down e * down d) → q * 2 ^ low f ≡ v * (down e * down d) → 0 < g
+      → T (lt (fin false 0 (pos 0)) (round f false g (down e * down d)))
+  units-apart p q g u v is a b some-g =
+      rounds-above f g (down e * down d) (mul-pos (down-pos e) (down-pos d)) (apart p q g u v (down e * down d) (2 ^ low f) is a b some-g (pow-pos (low f)))
+
+  units-a : (u : ℕ) × (A * 2 ^ low f ≡ u * (down e * down d))
+  units-a = let (u, is) = units-in f m e H in (u, mul-right-comm (m * up e) (down d) (2 ^ low f) ∙ ap (λ (z : ℕ). z * down d) is ∙ mul-assoc u (down e) (down d))
+
+  units-b : (v : ℕ) × (B * 2 ^ low f ≡ v * (down e * down d))
+  units-b =
+      let (v, is) = units-in f n d K in (
+        v,
+        mul-right-comm (n * up d) (down e) (2 ^ low f) ∙ ap (λ (z : ℕ). z * down e) is ∙ mul-assoc v (down d) (down e)
+            ∙ ap (λ (z : ℕ). v * z) (mul-comm (down d) (down e)),
+      )
+
+  sub-above : (s t : Bool) → T (lt (fin t n d) (fin s m e)) → T (lt (fin false 0 (pos 0)) (sub f (fin s m e) (fin t n d)))
+  unfolding lt sub add neg sum
+  sub-above true false h = absurd h
+  sub-above false true h =
+      let (u, a) = units-a in
+      let (v, b) = units-b in
+      units-apart (A + B) 0 (A + B) (u + v) 0 (omega arith) (omega arith) (omega arith) (omega (arith, ltb→lt 0 (B + A) h))
+  sub-above false false h =
+      let l = ltb→lt B A h in
+      rw (le-ltb A B (omega arith)) (units-apart A B (A - B) (units-a .0) (units-b .0) (omega arith) (units-a .1) (units-b .1) (omega arith))
+  sub-above true true h =
+      let l = ltb→lt A B h in
+      rw (lt-ltb A B l) (units-apart B A (B - A) (units-b .0) (units-a .0) (omega arith) (units-b .1) (units-a .1) (omega arith))
+
+difference-above : (f : Format) (lo hi : Float) → T (fits f lo) → T (fits f hi) → T (finite lo) → T (finite hi) → T (lt lo hi)
+    → T (lt (fin false 0 (pos 0)) (sub f hi lo))
+difference-above f nan hi F G a b h = absurd a
+difference-above f (inf s) hi F G a b h = absurd a
+difference-above f (fin t n d) nan F G a b h = absurd b
+difference-above f (fin t n d) (inf s) F G a b h = absurd b
+difference-above f (fin t n d) (fin s m e) F G a b h = sub-above f m e n d (held f s m e G .places) (held f t n d F .places) s t h
 
 -- what lies between finite values is finite
 between : (lo x hi : Float) → T (finite lo) → T (finite hi) → T (le lo x) → T (le x hi) → T (finite x)
@@ -304,3 +383,27 @@ quantize-mono to v w lo hi a b low h high = rw (quantize-is to v lo hi, quantize
     go false =
         quotient-mono to (v ⊖ lo) (w ⊖ lo) (hi ⊖ lo) (difference-nonneg binary32 lo v a finite-v low)
         (difference-mono binary32 lo v w a finite-v finite-w low h) (difference-mono binary32 lo w hi a finite-w b below-w high)
+
+-- ---- where the steps are known
+
+-- of a value from lo to hi, where the difference of the ends is finite and not 0
+pub steps-known : (v lo hi : Float) → T (fits binary32 lo) → T (fits binary32 hi) → T (finite lo) → T (finite hi) → T (lt lo hi) → T (finite (hi ⊖ lo))
+    → T (le lo v) → T (le v hi) → T (not (isNan (stepsOf v lo hi)))
+unfolding stepsOf
+steps-known v lo hi F G a b h narrow low high =
+    let finite-v = between lo v hi a b low high in
+    let d = hi ⊖ lo in
+    let x = v ⊖ lo in
+    let p = difference-nonneg binary32 lo v a finite-v low in
+    let finite-x = finite-below x d p (difference-mono binary32 lo v hi a finite-v b low high) narrow in
+    let above = difference-above binary32 lo hi F G a b h in
+    let l = div-mono binary32 x x d p finite-x narrow above (le-refl x (nonneg-known x p)) in
+    nonneg-known (stepsAt (x ⊘ d)) (steps-of (clamp (x ⊘ d) zerof onef) (portion (x ⊘ d) (x ⊘ d) l .0) .low)
+
+-- where it is not, all steps are 0
+pub wide-steps : (to : Bool) (v lo hi : Float) → T (finite lo) → T (finite v) → T (le lo v) → hi ⊖ lo ≡ inf false → quantizeBounds to v lo hi ≡ 0
+wide-steps to v lo hi a b low wide = quantize-is to v lo hi ∙ rw wide (go (eq lo hi))
+  where
+    go : (e : Bool) → cond e 0 (stepAt to ((v ⊖ lo) ⊘ inf false)) ≡ 0
+    go true = refl
+    go false = over-infinity to (v ⊖ lo) (difference-nonneg binary32 lo v a b low)
