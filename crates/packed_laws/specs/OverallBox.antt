@@ -231,7 +231,8 @@ rows-covered ws (suc n) e all is =
         subst (λ (z : Bounds3). Covers ws z (boundedHandles ws n ++ n ∷ [])) same (
           own,
           all-append (Around ws (lightOf ws n .bounds)) (boundedHandles ws n) (n ∷ [])
-              (none-all (Around ws (lightOf ws n .bounds)) (boundedHandles ws n) (λ l. box-there ws n l h)) (record { held = holds-itself (lightOf ws n .bounds) own; proper = own }, tt),
+              (none-all (Around ws (lightOf ws n .bounds)) (boundedHandles ws n) (λ l. box-there ws n l h))
+              (record { held = holds-itself (lightOf ws n .bounds) own; proper = own }, tt),
         )
     go own ih true (some a) h is =
         let b = lightOf ws n .bounds in
@@ -320,6 +321,7 @@ module _ (lights : ℕ) (ws : List ℕ) (nodes table work : ℕ) (b : LightBVH) 
     covered : Covers ws all (boundedHandles ws (b .rows))
     covered = rows-covered ws (b .rows) (parts .checked) all (sym accepted-box ∙ is)
 
+    -- it is proper, so it passes its check
     pub overall-proper : Proper all
     overall-proper = covered .0
 
