@@ -142,7 +142,9 @@ module _ (f : Format) (m : ℕ) (e : ℤ) (n : ℕ) (d : ℤ) (H : down e ≤ 2 
       rounds-above f g (down e * down d) (mul-pos (down-pos e) (down-pos d)) (apart p q g u v (down e * down d) (2 ^ low f) is a b some-g (pow-pos (low f)))
 
   units-a : (u : ℕ) × (A * 2 ^ low f ≡ u * (down e * down d))
-  units-a = let (u, is) = units-in f m e H in (u, mul-right-comm (m * up e) (down d) (2 ^ low f) ∙ ap (λ (z : ℕ). z * down d) is ∙ mul-assoc u (down e) (down d))
+  units-a =
+      let (u, is) = units-in f m e H in
+      (u, mul-right-comm (m * up e) (down d) (2 ^ low f) ∙ ap (λ (z : ℕ). z * down d) is ∙ mul-assoc u (down e) (down d))
 
   units-b : (v : ℕ) × (B * 2 ^ low f ≡ v * (down e * down d))
   units-b =

@@ -1,6 +1,6 @@
 -- The packed box of a node: on each axis its steps lie around the computed ones (`down-below`, `up-above`), as far as these are computed. The plain sentences
--- fail: a step below a coordinate can stand for more than it (`step-above`), a step above one can be read back as a float below it (`corner-below`), and an axis
--- wider than any float has no steps (`wide-corner`). Assumes nothing.
+-- fail: a step below a coordinate can stand for more than it (`step-above`), a step above one can be read back as a float below it (`corner-below`), and an
+-- axis wider than any float has no steps (`wide-corner`). Assumes nothing.
 use Prim.Native.Nat.{ℕ, zero, suc, _+_, _*_, _^_, _≤_, _<_}
 use mathlib.Core.Path.{_≡_, refl, _∙_}
 use mathlib.Core.Bool.{Bool, true, false, cond, not}
@@ -141,7 +141,8 @@ module _ (v lo hi : Float) (extent : eq lo hi ≡ false) (known : T (not (isNan 
 -- ---- not of the coordinates
 
 -- in the box from 0 to 1 the float 37800080, which is 8388736 / 2 ^ 39, has step 1 below it, and 1 / 65535 is above it
-pub step-above : (quantizeBounds false (single 0x3780_0080) zerof onef ≡ 1) × HasValue (single 0x3780_0080) false 8388736 (2 ^ 39) × (8388736 * 65535 < 1 * 2 ^ 39)
+pub step-above : (quantizeBounds false (single 0x3780_0080) zerof onef ≡ 1) × HasValue (single 0x3780_0080) false 8388736 (2 ^ 39)
+    × (8388736 * 65535 < 1 * 2 ^ 39)
 unfolding quantizeBounds stepsOf toU32 floor nextWhole clamp ofFields ofBits span climb size odd units round neg sum add sub mul div lt eq toUnsigned
 step-above = (refl, (refl, refl), lit< tt)
 

@@ -1,6 +1,6 @@
--- What packed words hold: the overall box in front, a zero behind each corner (`packed-header`, `packed-zeros`), and eight words a node (`packed-length`), of
--- which the last two give back the node exactly, its handle or its children and its parent (`packed-node`), and the first three its box in steps (`packed-box`).
--- Assumes nothing.
+-- What packed words hold: the overall box in front, a zero behind each corner (`packed-header`, `packed-zeros`), and eight words a node (`packed-length`). The
+-- last two give back the node exactly, its handle or its children and its parent (`packed-node`), and the first three its box in steps (`packed-box`). Assumes
+-- nothing.
 use Prim.Native.Nat.{ℕ, zero, suc, _+_, _-_, _*_, _/_, _%_, _≤_, _<_}
 use mathlib.Core.Path.{_≡_, refl, ap, sym, subst, _∙_}
 use mathlib.Core.Bool.{Bool, true, false, cond, _&&_, _||_}
@@ -96,7 +96,8 @@ row-of count all ws i row e =
     λ n b d. payloadCheck n then λ _. parentCheck count n then λ _. leftCheck i n then λ _. given (compactWords all b d (payloadWord n) (parent n)) in
     let (n, node, e₁) =
     then-given (nodeAt ws i)
-    (λ (n : LightBVHNode). boundsAt ws i then λ (b : LightBounds). validate b then λ _. normalizeByDivision (b .direction) then λ (d : Vec3). rest n b d) row e in
+    (λ (n : LightBVHNode). boundsAt ws i then λ (b : LightBounds). validate b then λ _. normalizeByDivision (b .direction) then λ (d : Vec3). rest n b d)
+    row e in
     let (b, own, e₂) =
     then-given (boundsAt ws i)
     (λ (b : LightBounds). validate b then λ _. normalizeByDivision (b .direction) then λ (d : Vec3). rest n b d) row e₁ in

@@ -1,6 +1,6 @@
 -- Packed coordinates keep the order: of two values within the overall box's axis, the greater one has a step that is no smaller, whichever way both are rounded
--- (`quantize-mono`). Every part of the computation keeps it: the difference, the quotient, the clamp, the product, the next whole number. The computed steps are
--- known where the difference of the axis's ends is finite (`steps-known`); where it is not, all are 0 (`wide-steps`). Assumes nothing.
+-- (`quantize-mono`). Every part of the computation keeps it: the difference, the quotient, the clamp, the product, the next whole number. The computed steps
+-- are known where the difference of the axis's ends is finite (`steps-known`); where it is not, all are 0 (`wide-steps`). Assumes nothing.
 use Prim.Native.Nat.{ℕ, suc, _+_, _*_, _≤_, _<_, zero-le}
 use mathlib.Core.Path.{_≡_, refl, _∙_}
 use mathlib.Core.Bool.{Bool, true, false, cond, not}
