@@ -89,7 +89,8 @@ fn prepare(bounds: &str, bvh: &str, sampler: &str, packed: &str, sampling: &str)
 }
 
 fn main() {
-    link(&folder(ARCHIVES, "../target/staticlib"), "parts_c");
+    let archives = folder(ARCHIVES, "../target/staticlib");
+    ["light_c", "parts_c"].iter().for_each(|name| link(&archives, name));
 
     println!("cargo:rustc-check-cfg=cfg(reference)");
     let files = folder(REFERENCE, "../../shared/docs");

@@ -1,4 +1,5 @@
-//! The proved functions: the one place that declares what the archive of `parts_c` exports.
+//! The proved functions: the one place that declares what the archives export, `light_c` for whoever links it and `parts_c` for the
+//! tests alone.
 
 use crate::packing::{Corners, Packed};
 use crate::records::Query;
@@ -69,11 +70,11 @@ unsafe extern "C" {
     #[link_name = "bounds_importance"]
     fn importance(record: *const u32, len: usize, query: *const u32, query_len: usize) -> u64;
 
-    #[link_name = "lamps_build_light_bounds"]
+    #[link_name = "light_bounds_block"]
     fn build_light_bounds(list: *const u32, len: usize, block: *mut u32, block_len: usize) -> u32;
     #[link_name = "lamps_check_block"]
     fn check_block(block: *const u32, len: usize) -> u32;
-    #[link_name = "alias_build_power_alias_table"]
+    #[link_name = "light_alias_table"]
     fn build_power_alias_table(
         weights: *const u32,
         len: usize,
@@ -82,7 +83,7 @@ unsafe extern "C" {
         work: *mut u32,
         work_len: usize,
     ) -> u32;
-    #[link_name = "tree_build_light_bvh"]
+    #[link_name = "light_build"]
     fn build_light_bvh(
         lights: usize,
         block: *const u32,
@@ -96,9 +97,9 @@ unsafe extern "C" {
         answer: *mut u32,
         answer_len: usize,
     ) -> u32;
-    #[link_name = "sampler_sample"]
+    #[link_name = "light_sample"]
     fn sample(nodes: *const u8, len: usize, px: f32, py: f32, pz: f32, nx: f32, ny: f32, nz: f32, u: f32) -> u64;
-    #[link_name = "sampler_pmf"]
+    #[link_name = "light_pmf"]
     fn pmf(
         nodes: *const u8,
         len: usize,
@@ -112,7 +113,7 @@ unsafe extern "C" {
         nz: f32,
         handle: u32,
     ) -> u64;
-    #[link_name = "packed_pack_light_bvh"]
+    #[link_name = "light_pack"]
     fn pack_light_bvh(
         nodes: *const u8,
         len: usize,

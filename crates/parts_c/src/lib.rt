@@ -1,10 +1,9 @@
-// Every part for C and Rust, for the differential runs and the benchmarks: plain numbers, slices as a pointer and a length, answers as words.
+// What only the differential runs and the benchmarks call, for C and Rust: plain numbers, slices as a pointer and a length, answers as words. What a renderer
+// calls is in light_c.
 ghost use mathlib.Core.Path.{_≡_};
 ghost use Prim.Native.Nat.{ℕ, _*_, _/_, _≤_};
 ghost use lib.Ieee.{binary32, binary64, ofBits, toBits};
 ghost use lib.ListN.{getD, length};
-ghost use lib.Seq.{sets};
-ghost use mathlib.Core.List.{List, []};
 ghost use Rattle.ieee.specs.Choose.{fmin, fmax, clamp, fabs, isSignNegative};
 ghost use Rattle.ieee.specs.Narrow.{narrow};
 ghost use Rattle.ieee.specs.Sqrt.{sqrt};
@@ -13,24 +12,15 @@ ghost use Rattle.words.specs.Fill.{filled};
 ghost use Rattle.words.specs.LittleEndian.{wordsOf, bytesOf, setWord, wordCount, readWords, writtenWords};
 ghost use Rattle.words.specs.Answers.{counted, code};
 ghost use Rattle.words.specs.Tray.{tray};
-ghost use Rattle.parts_c.specs.Codes.{countCode, valueCode, validateWords, importanceWords, unionWords, queryOf, summaryWords, summaryList, summarised};
-ghost use Rattle.parts_c.specs.Codes.{queryAt, drawCode};
 ghost use Rattle.trig.specs.Trig.{cos as cosOf, sin as sinOf, acos as acosOf, asin as asinOf};
 ghost use Rattle.light_bounds.specs.Bounds.{validity};
 ghost use Rattle.light_bounds.specs.Importance.{weight};
 ghost use Rattle.light_bounds.specs.LightBounds.{union as unionOf};
 ghost use Rattle.light_bounds.specs.RecordWords.{recordList, recordWords};
-ghost use Rattle.lamps.specs.Block.{blockCheck, blockWords, packExhaustiveBounds};
-ghost use Rattle.lamps.specs.Build.{buildLightBounds};
-ghost use Rattle.alias_table.specs.AliasTable.{Bin, buildPowerAliasTable, binWords};
-ghost use Rattle.light_bvh.specs.Build.{buildLightBvh, nodesWritten, tableWritten, workWritten, nodesReserve, workReserve, summary};
-ghost use Rattle.light_sampler.specs.Sampler.{sample, pmf, drawn, chance};
-ghost use Rattle.packed_bvh.specs.Packed.{allBoundsOf, packed, packedBytes, bytesReserve, wordsPacked};
-ghost use Rattle.parts_c.specs.Codes.{packedCode, boxOf, packWords};
-use alias_table::build_power_alias_table;
+ghost use Rattle.lamps.specs.Block.{blockCheck};
+ghost use Rattle.light_c.specs.Codes.{valueCode};
+ghost use Rattle.parts_c.specs.Codes.{countCode, validateWords, importanceWords, unionWords, queryOf};
 use lamps::block::check_block;
-use lamps::build::build_light_bounds;
-use light_bounds::bounds::Bounds3;
 use light_bounds::bounds::Validity;
 use light_bounds::importance::Query;
 use light_bounds::importance::Weight;
@@ -44,16 +34,6 @@ use light_bounds::record_words::RECORD_WORDS;
 use light_bounds::record_words::read_record;
 use light_bounds::record_words::vec_at;
 use light_bounds::record_words::write_record;
-use light_bounds::vecmath::Vec3;
-use light_bvh::build::Built;
-use light_bvh::build::build_light_bvh;
-use light_sampler::pmf::Chance;
-use light_sampler::pmf::bvh_light_sampler_pmf;
-use light_sampler::sample::Drawn;
-use light_sampler::sample::bvh_light_sampler_sample;
-use packed_bvh::pack::AllBounds;
-use packed_bvh::pack::Packed;
-use packed_bvh::pack::pack_light_bvh;
 use words::answers::Counted;
 use words::answers::counted_code;
 use words::fill::zero_words;
@@ -374,17 +354,7 @@ pub extern "C" fn bounds_union(a: &[u32], b: &[u32], out: &mut [u32]) -> u32
     }
 }
 
-// ---- the lamp list to the bounds block, and the block's check
-
-// 0, or the refusal's number.
-#[no_mangle]
-pub extern "C" fn lamps_build_light_bounds(list: &[u32], block: &mut [u32]) -> u32
-    ensures { λ r. ⌜ r ≡ code (buildLightBounds (now (list .entry)) (length (now (block .entry)))) ⌝ }
-    ensures { λ _. ⌜ now (block .exit) ≡ tray packExhaustiveBounds (blockWords (getD (now (list .entry)) 0 0))
-        (buildLightBounds (now (list .entry)) (length (now (block .entry)))) (now (block .entry)) ⌝ }
-{
-    counted_code(build_light_bounds(list, block))
-}
+// ---- the bounds block's check
 
 // 0, or the refusal's number.
 #[no_mangle]
@@ -392,209 +362,4 @@ pub extern "C" fn lamps_check_block(block: &[u32]) -> u32
     ensures { λ r. ⌜ r ≡ code (blockCheck (now (block .entry))) ⌝ }
 {
     counted_code(check_block(block))
-}
-
-// ---- the power alias table
-
-// 0, or the refusal's number.
-#[no_mangle]
-pub extern "C" fn alias_build_power_alias_table(
-    weights: &[u32],
-    bins: &mut [u32],
-    work: &mut [u32],
-) -> u32
-    ensures { λ r. ⌜ r ≡ code (buildPowerAliasTable (now (weights .entry)) (length (now (bins .entry))) (length (now (work .entry)))) ⌝ }
-    ensures { λ _. ⌜ now (bins .exit) ≡ tray binWords (3 * length (now (weights .entry)))
-        (buildPowerAliasTable (now (weights .entry)) (length (now (bins .entry))) (length (now (work .entry)))) (now (bins .entry)) ⌝ }
-    ensures { λ _. ⌜ now (work .exit) ≡ tray (λ (bs : List Bin). []) (4 * length (now (weights .entry)))
-        (buildPowerAliasTable (now (weights .entry)) (length (now (bins .entry))) (length (now (work .entry)))) (now (work .entry)) ⌝ }
-{
-    counted_code(build_power_alias_table(weights, bins, work))
-}
-
-// ---- the tree
-
-fn put_summary(answer: &mut [u32], k: usize, bounds: Bounds3)
-    requires { ⌜ 7 ≤ length (now answer) ⌝ }
-    ensures { λ _. ⌜ now (answer .exit) ≡ sets (now (answer .entry)) 0 (summaryList k bounds) ⌝ }
-{
-    answer[0] = (k % 0x1_0000_0000) as u32;
-    answer[1] = word_of_f32(bounds.min.x);
-    answer[2] = word_of_f32(bounds.min.y);
-    answer[3] = word_of_f32(bounds.min.z);
-    answer[4] = word_of_f32(bounds.max.x);
-    answer[5] = word_of_f32(bounds.max.y);
-    answer[6] = word_of_f32(bounds.max.z);
-}
-
-// Writes k and the box to the first seven words, where there are as many.
-fn write_summary(answer: &mut [u32], k: usize, bounds: Bounds3)
-    ensures { λ _. ⌜ now (answer .exit) ≡ summaryWords (now (answer .entry)) (summaryList k bounds) ⌝ }
-{
-    if answer.len() >= 7 {
-        put_summary(answer, k, bounds);
-    }
-}
-
-// 0, with k and the box in the answer's words, or the refusal's number.
-#[no_mangle]
-pub extern "C" fn tree_build_light_bvh(
-    lights: usize,
-    block: &[u32],
-    nodes: &mut [u32],
-    table: &mut [u32],
-    work: &mut [u32],
-    answer: &mut [u32],
-) -> u32
-    ensures { λ r. ⌜ r ≡ code (buildLightBvh lights (now (block .entry)) (length (now (nodes .entry))) (length (now (table .entry)))
-        (length (now (work .entry)))) ⌝ }
-    ensures { λ _. ⌜ now (nodes .exit) ≡ tray nodesWritten (nodesReserve (getD (now (block .entry)) 0 0)) (buildLightBvh lights (now (block .entry)) (length (now (nodes .entry))) (length (now (table .entry)))
-        (length (now (work .entry)))) (now (nodes .entry)) ⌝ }
-    ensures { λ _. ⌜ now (table .exit) ≡ tray tableWritten (getD (now (block .entry)) 0 0) (buildLightBvh lights (now (block .entry)) (length (now (nodes .entry))) (length (now (table .entry)))
-        (length (now (work .entry)))) (now (table .entry)) ⌝ }
-    ensures { λ _. ⌜ now (work .exit) ≡ tray workWritten (workReserve (getD (now (block .entry)) 0 0)) (buildLightBvh lights (now (block .entry)) (length (now (nodes .entry))) (length (now (table .entry)))
-        (length (now (work .entry)))) (now (work .entry)) ⌝ }
-    ensures { λ _. ⌜ now (answer .exit) ≡ summarised (summary (buildLightBvh lights (now (block .entry)) (length (now (nodes .entry))) (length (now (table .entry)))
-        (length (now (work .entry))))) (now (answer .entry)) ⌝ }
-{
-    match build_light_bvh(lights, block, nodes, table, work) {
-        Built::Tree(k, bounds) => {
-            write_summary(answer, k, bounds);
-            0
-        }
-        Built::Nothing => {
-            let zero = Vec3 {
-                x: 0.0,
-                y: 0.0,
-                z: 0.0,
-            };
-            write_summary(
-                answer,
-                0,
-                Bounds3 {
-                    min: zero,
-                    max: zero,
-                },
-            );
-            0
-        }
-        Built::Refused(why) => refusal_number(why),
-    }
-}
-
-// ---- draws and chances
-
-// Point, normal.
-fn query_at(px: f32, py: f32, pz: f32, nx: f32, ny: f32, nz: f32) -> Query
-    ensures { λ r. ⌜ r ≡ queryAt px py pz nx ny nz ⌝ }
-{
-    let p = Vec3 {
-        x: px,
-        y: py,
-        z: pz,
-    };
-    let n = Vec3 {
-        x: nx,
-        y: ny,
-        z: nz,
-    };
-    Query { p, n }
-}
-
-fn draw_code(answer: Drawn) -> u64
-    ensures { λ r. ⌜ r ≡ drawCode (drawn answer) ⌝ }
-{
-    match answer {
-        Drawn::Light(handle, p) => handle as u64 * 0x1_0000_0000 + word_of_f32(p) as u64,
-        Drawn::Nothing => 0x4000_0000_0000_0000,
-        Drawn::Refused(why) => 0x8000_0000_0000_0000 + refusal_number(why) as u64,
-    }
-}
-
-// The light above its chance's bits; 2^62 where none is drawn, 2^63 and the refusal's number.
-#[no_mangle]
-pub extern "C" fn sampler_sample(
-    nodes: &[u8],
-    px: f32,
-    py: f32,
-    pz: f32,
-    nx: f32,
-    ny: f32,
-    nz: f32,
-    u: f32,
-) -> u64
-    ensures { λ r. ⌜ r ≡ drawCode (sample (now (nodes .entry)) (queryAt px py pz nx ny nz) u) ⌝ }
-{
-    draw_code(bvh_light_sampler_sample(nodes, query_at(px, py, pz, nx, ny, nz), u))
-}
-
-fn chance_code(answer: Chance) -> u64
-    ensures { λ r. ⌜ r ≡ valueCode (chance answer) ⌝ }
-{
-    match answer {
-        Chance::Pmf(p) => word_of_f32(p) as u64,
-        Chance::Refused(why) => 0x1_0000_0000 + refusal_number(why) as u64,
-    }
-}
-
-// The chance's bits, or 2^32 and the refusal's number.
-#[no_mangle]
-pub extern "C" fn sampler_pmf(
-    nodes: &[u8],
-    table: &[u8],
-    px: f32,
-    py: f32,
-    pz: f32,
-    nx: f32,
-    ny: f32,
-    nz: f32,
-    handle: u32,
-) -> u64
-    ensures { λ r. ⌜ r ≡ valueCode (pmf (now (nodes .entry)) (now (table .entry)) (queryAt px py pz nx ny nz) handle) ⌝ }
-{
-    chance_code(bvh_light_sampler_pmf(nodes, table, query_at(px, py, pz, nx, ny, nz), handle))
-}
-
-// ---- the packed tree
-
-// The box of six words, or its absence.
-fn box_of(present: u32, words: &[u32]) -> AllBounds
-    ensures { λ r. ⌜ allBoundsOf r ≡ boxOf present (now (words .entry)) ⌝ }
-{
-    if present == 0 {
-        return AllBounds::Absent;
-    }
-    let min = vec_at(words, 0);
-    let max = vec_at(words, 3);
-    AllBounds::Bounds(Bounds3 { min, max })
-}
-
-fn packed_code(answer: Packed) -> u64
-    ensures { λ r. ⌜ r ≡ packedCode (packed answer) ⌝ }
-{
-    match answer {
-        Packed::Words(n) => n as u64,
-        Packed::Nothing => 0x1_0000_0000,
-        Packed::Refused(why) => 0x2_0000_0000 + refusal_number(why) as u64,
-    }
-}
-
-// How many words were packed, 2^32 where there is no tree, or 2^33 and the refusal's number: 1 where the box has less than six words, whether it is present
-// (other than 0) or not.
-#[no_mangle]
-pub extern "C" fn packed_pack_light_bvh(
-    nodes: &[u8],
-    k: usize,
-    present: u32,
-    all: &[u32],
-    out: &mut [u8],
-) -> u64
-    ensures { λ r. ⌜ r ≡ packedCode (wordsPacked (packWords (now (nodes .entry)) k present (now (all .entry)) (length (now (out .entry))))) ⌝ }
-    ensures { λ _. ⌜ now (out .exit) ≡ tray packedBytes (bytesReserve (now (nodes .entry)))
-        (packWords (now (nodes .entry)) k present (now (all .entry)) (length (now (out .entry)))) (now (out .entry)) ⌝ }
-{
-    if all.len() < 6 {
-        return 0x2_0000_0001;
-    }
-    packed_code(pack_light_bvh(nodes, k, box_of(present, all), out))
 }

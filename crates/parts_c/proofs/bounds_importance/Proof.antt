@@ -5,7 +5,8 @@ use native.Mathlib.Omega.{arith}
 use borrow.Author.Tests.{lt-leb, le-leb}
 use lib.ListN.{length}
 use Rattle.words.specs.Answers.{_then_}
-use Rattle.parts_c.specs.Codes.{valueCode, importanceWords}
+use Rattle.light_c.specs.Codes.{valueCode}
+use Rattle.parts_c.specs.Codes.{importanceWords}
 use borrow.Author.Needs.{needs}
 use Rattle.parts_c.proofs.bounds_importance.Statement.{statement}
 use Rattle.parts_c.proofs.bounds_importance.Tie as tie

@@ -1,0 +1,142 @@
+/*
+ * Every call of light_tree.h on small inputs: what it answers and writes, what a refusal leaves, how
+ * answers are taken apart, and that an empty slice may have any pointer. Prints each line that does
+ * not hold; the last line counts them.
+ */
+#include <stdio.h>
+
+#include "light_tree.h"
+
+static int held = 0, failed = 0;
+
+static void hold(bool holds, const char *what, int line)
+{
+    if (holds) {
+        held++;
+    } else {
+        failed++;
+        printf("calls.c:%d: does not hold: %s\n", line, what);
+    }
+}
+
+#define HOLDS(what) hold((what), #what, __LINE__)
+#define WORDS(a) (a), sizeof(a) / sizeof *(a)
+#define BYTES(a) (const uint8_t *)(a), sizeof(a)
+#define POINT 0, 0, 1
+#define NO_NORMAL 0, 0, 0
+
+static bool all_are(const uint32_t *words, size_t count, uint32_t word)
+{
+    while (count > 0 && words[count - 1] == word)
+        count--;
+    return count == 0;
+}
+
+static void lists(void)
+{
+    const uint32_t one = light_word(1), four_pi = 0x41490fdb, behind = 0x5eed5eed;
+    const uint32_t list[1 + LIGHT_POINT_WORDS + LIGHT_GROUP_WORDS(1)] = {
+        2, LIGHT_POINT(0), 0, 0, 0, one, one,                                        /* position, intensity, scale */
+        LIGHT_GROUP(1), one, one, 1, 1, 0, 0, 0, one, 0, 0, 0, one, 0, one, 0, 0, one /* both sides, one triangle */
+    };
+    const uint32_t point_row[] = {0, 0, 0, 0, 0, 0, 0, 0, 0, one, four_pi, light_word(-1), 0xb33bbd2e, 0};
+    uint32_t block[LIGHT_BLOCK_WORDS(2) + 1];
+    block[LIGHT_BLOCK_WORDS(2)] = behind;
+    HOLDS(light_bounds_block(WORDS(list), WORDS(block)) == 0);
+    HOLDS(block[0] == 2 && memcmp(block + 1, point_row, sizeof point_row) == 0);
+    HOLDS(block[1 + LIGHT_ROW_WORDS] == 1 && block[LIGHT_BLOCK_WORDS(2) - 1] == 1);
+    HOLDS(block[LIGHT_BLOCK_WORDS(2)] == behind);
+
+    /* a slice one word short is left as it was; a lamp that is refused zeroes the reserve */
+    block[0] = behind;
+    HOLDS(light_bounds_block(WORDS(list), block, LIGHT_BLOCK_WORDS(2) - 1) == LIGHT_SHORT_TRAY && block[0] == behind);
+    uint32_t no_scale[1 + LIGHT_POINT_WORDS] = {1, LIGHT_POINT(0), 0, 0, 0, one, light_word(-1)};
+    HOLDS(light_bounds_block(WORDS(no_scale), WORDS(block)) == LIGHT_OUT_OF_RANGE);
+    HOLDS(all_are(block, LIGHT_BLOCK_WORDS(1), 0) && block[LIGHT_BLOCK_WORDS(1)] != 0);
+}
+
+static void trees(void)
+{
+    const uint32_t one = light_word(1), two = light_word(2), minus_one = light_word(-1);
+    const uint32_t block[LIGHT_BLOCK_WORDS(3)] = {
+        3, 0, 0, 0, 0, 0, 0, 0, 0, 0, one, one, minus_one, 0, 0, /* powered, at (0,0,0) */
+        1, two, 0, 0, two, 0, 0, 0, 0, one, one, minus_one, 0, 0, /* powered, at (2,0,0) */
+        2, one, 0, 0, one, 0, 0, 0, 0, one, 0, minus_one, 0, 0,   /* not powered */
+    };
+    uint32_t nodes[LIGHT_NODES_RESERVE(3)], table[LIGHT_TABLE_RESERVE(3)], work[LIGHT_WORK_RESERVE(3)], answer[LIGHT_ANSWER_WORDS];
+    HOLDS(light_build(3, WORDS(block), WORDS(nodes), WORDS(table), WORDS(work), WORDS(answer)) == 0);
+    const uint32_t box[] = {0, 0, 0, two, 0, 0};
+    const size_t k = answer[0], tree_len = LIGHT_TREE_BYTES(k);
+    const uint8_t *tree = (const uint8_t *)nodes;
+    HOLDS(k == 2 && memcmp(answer + 1, box, sizeof box) == 0);
+    HOLDS(LIGHT_NODES(k) == 3 && all_are(nodes + 16 * 3, 16 * 2, 0) && all_are(work, LIGHT_WORK_RESERVE(3), 0));
+    HOLDS(nodes[0] == 0x80000001 && nodes[1] == 2 && nodes[2] == LIGHT_NO_INDEX);
+    HOLDS(table[0] == 1 && table[1] == 2 && table[2] == LIGHT_NO_INDEX);
+    HOLDS(light_build(2, WORDS(block), WORDS(nodes), WORDS(table), WORDS(work), WORDS(answer)) == LIGHT_RAGGED && answer[0] == 2);
+
+    uint64_t draw = light_sample(tree, tree_len, 1, 0, 1, NO_NORMAL, 1);
+    HOLDS(light_is_drawn(draw) && !light_is_none(draw) && light_refusal(draw) == 0);
+    HOLDS(light_handle(draw) == 1 && light_chance(draw) == 0.5f);
+    draw = light_sample(tree, tree_len, 1, 0, 1, NO_NORMAL, 1.5f);
+    HOLDS(light_refusal(draw) == LIGHT_BAD_U && !light_is_drawn(draw) && !light_is_none(draw));
+    draw = light_sample(tree, 0, 1, 0, 1, NO_NORMAL, 0.5f);
+    HOLDS(light_is_none(draw) && !light_is_drawn(draw) && light_refusal(draw) == 0);
+
+    HOLDS(light_chance(light_pmf(tree, tree_len, BYTES(table), 1, 0, 1, NO_NORMAL, 0)) == 0.5f);
+    HOLDS(light_pmf(tree, tree_len, BYTES(table), 1, 0, 1, NO_NORMAL, 2) == 0);
+    HOLDS(light_pmf(tree, tree_len, BYTES(table), 1, 0, 1, NO_NORMAL, 3) == 0);
+    HOLDS(light_pmf_refusal(light_pmf(tree, tree_len - 1, BYTES(table), 1, 0, 1, NO_NORMAL, 0)) == LIGHT_RAGGED);
+
+    uint32_t packed[LIGHT_PACKED_WORDS(3) + 1] = {7, [LIGHT_PACKED_WORDS(3)] = 7};
+    const uint32_t lamp_1[] = {0x0000ffff, 0xffff0000, 0, 0x80008000, 0x3f800000, 0x1fff8000, 0x80000001, 0};
+    uint64_t answered = light_pack(tree, tree_len, k, k != 0, answer + 1, 6, (uint8_t *)packed, LIGHT_PACKED_BYTES(3) - 1);
+    HOLDS(light_pack_refusal(answered) == LIGHT_SHORT_TRAY && light_pack_words(answered) == 0 && packed[0] == 7);
+    answered = light_pack(tree, tree_len, k, k != 0, answer + 1, 6, (uint8_t *)packed, sizeof packed);
+    HOLDS(light_pack_words(answered) == LIGHT_PACKED_WORDS(3) && light_pack_refusal(answered) == 0 && !light_pack_is_none(answered));
+    HOLDS(memcmp(packed, box, 12) == 0 && packed[3] == 0 && memcmp(packed + 4, box + 3, 12) == 0 && packed[7] == 0);
+    HOLDS(memcmp(packed + 8 + 8 * 2, lamp_1, sizeof lamp_1) == 0 && packed[LIGHT_PACKED_WORDS(3)] == 7);
+    answered = light_pack(tree, 0, 0, 0, answer + 1, 6, (uint8_t *)packed, sizeof packed);
+    HOLDS(light_pack_is_none(answered) && light_pack_words(answered) == 0 && light_pack_refusal(answered) == 0);
+    HOLDS(light_pack_refusal(light_pack(tree, 0, 0, 0, answer + 1, 5, NULL, 0)) == LIGHT_RAGGED);
+    HOLDS(light_pack_refusal(light_pack(tree, tree_len, 0, 0, answer + 1, 6, (uint8_t *)packed, sizeof packed)) == LIGHT_BROKEN_TREE);
+    HOLDS(all_are(packed, LIGHT_PACKED_WORDS(3), 0) && packed[LIGHT_PACKED_WORDS(3)] == 7);
+}
+
+static void alias_tables(void)
+{
+    const uint32_t weights[] = {light_word(1), light_word(3)};
+    const uint32_t known[] = {light_word(0.5f), light_word(0.25f), 1, light_word(1), light_word(0.75f), LIGHT_NO_INDEX};
+    uint32_t bins[LIGHT_BINS_RESERVE(2)], work[LIGHT_ALIAS_WORK_RESERVE(2)];
+    HOLDS(light_alias_table(WORDS(weights), WORDS(bins), WORDS(work)) == 0);
+    HOLDS(memcmp(bins, known, sizeof known) == 0 && all_are(work, LIGHT_ALIAS_WORK_RESERVE(2), 0));
+    HOLDS(light_alias_table(WORDS(weights), WORDS(bins), work, LIGHT_ALIAS_WORK_RESERVE(2) - 1) == LIGHT_SHORT_TRAY);
+}
+
+/* NULL, one that is not aligned, one that points at nothing */
+static void empty_slices(void *any)
+{
+    uint32_t *words = (uint32_t *)any;
+    uint8_t *bytes = (uint8_t *)any;
+    const uint32_t none = 0, box[6] = {0};
+    HOLDS(light_bounds_block(words, 0, words, 0) == LIGHT_RAGGED);
+    HOLDS(light_bounds_block(&none, 1, words, 0) == LIGHT_SHORT_TRAY);
+    HOLDS(light_build(0, words, 0, words, 0, words, 0, words, 0, words, 0) == LIGHT_RAGGED);
+    HOLDS(light_build(0, &none, 1, words, 0, words, 0, words, 0, words, 0) == 0);
+    HOLDS(light_is_none(light_sample(bytes, 0, POINT, NO_NORMAL, 0.5f)));
+    HOLDS(light_pmf(bytes, 0, bytes, 0, POINT, NO_NORMAL, 0) == 0);
+    HOLDS(light_pack_refusal(light_pack(bytes, 0, 0, 0, words, 0, bytes, 0)) == LIGHT_RAGGED);
+    HOLDS(light_pack_is_none(light_pack(bytes, 0, 0, 0, box, 6, bytes, 0)));
+    HOLDS(light_alias_table(words, 0, words, 0, words, 0) == 0);
+}
+
+int main(void)
+{
+    lists();
+    trees();
+    alias_tables();
+    empty_slices(NULL);
+    empty_slices((void *)(uintptr_t)1);
+    empty_slices((void *)UINTPTR_MAX);
+    printf("%d passed, %d failed\n", held, failed);
+    return failed != 0;
+}

@@ -1,0 +1,387 @@
+/*
+ * A light tree: which lamp a point looks at, and with which chance.
+ *
+ * liblight_c.a holds six functions, for x86-64 Linux; link it with nothing but the C library:
+ *
+ *     light_bounds_block   a list of lamps to a block of bounds records, one a lamp
+ *     light_build          a block to a tree: its nodes, and a table from lamps to leaves
+ *     light_sample         draws a lamp for a point
+ *     light_pmf            the chance of one lamp by its handle
+ *     light_pack           a tree to the words that a graphics card is given
+ *     light_alias_table    weights to an alias table, for draws by power alone
+ *
+ * Each is proved to answer, for every input, what a written definition says, bit for bit; the
+ * comments below tell it in words. examples/pair.c is a whole program.
+ *
+ * WORDS. A word is a uint32_t. A figure in a word is a float's bits (light_word, light_float). A
+ * lamp's handle is its place in the list or block, from 0 on. LIGHT_NO_INDEX stands for "none".
+ *
+ * SLICES. Every slice is two arguments, a pointer and the length behind it.
+ *   - `uint32_t *` slices are WORDS: the length counts words, and the pointer is aligned to 4.
+ *   - `uint8_t *` slices are BYTES: the length counts bytes, at any alignment. They hold words,
+ *     the lowest byte first, so the words that light_build writes are lent as they stand:
+ *     (const uint8_t *)nodes, LIGHT_TREE_BYTES(k).
+ *   - Of an empty slice, length 0, nothing is read or written, and the pointer may be anything
+ *     that was set: NULL, one that dangles, one that is not aligned.
+ *   - A slice that is not const is lent for writing and overlaps no other slice of the call.
+ *
+ * WHAT IS WRITTEN. Each slice that is lent for writing has a reserve, a number of words from its
+ * front on; the slice may be longer. Nothing behind the reserve is ever changed. In the reserve:
+ *   - an accepted call writes what it has to say, and zeroes what it does not use, work included;
+ *   - refusals 1 to 4 change nothing;
+ *   - later refusals zero the whole reserve.
+ * `answer` of light_build, which is not such a slice, is told there.
+ *
+ * A refusal carries its number alone (enum light_refusals). Of several that hold the one given is
+ * the first of 2, 1, 4, 3; the others come behind these, in the order of the work.
+ *
+ * THREADS AND FLOATS. No function keeps anything between calls or allocates, so any number of
+ * threads may draw from one tree. Floats must be in the state that a C program starts in: rounding
+ * to nearest, and neither "flush to zero" nor "denormals are zero" set in the calling thread
+ * (a renderer may set both), else answers are not the promised ones.
+ *
+ * STACK. light_build calls itself, 400 bytes for each fork on the way down, so m lamps take at most
+ * 400 m bytes: under 1.7 MB for 4,096 of them. Besides, it and the others take under 5 KB.
+ */
+#ifndef LIGHT_TREE_H
+#define LIGHT_TREE_H
+
+#include <stdbool.h>
+#include <stddef.h>
+#include <stdint.h>
+#include <string.h>
+
+#ifdef __cplusplus
+extern "C" {
+#endif
+
+/* ---- refusals */
+
+enum light_refusals {
+    /* A length or a layout is wrong, a kind or a side is unknown in a list or a block, or the count
+       of light records is not the block's. */
+    LIGHT_RAGGED = 1,
+    /* Over LIGHT_MAX_LAMPS lamps by word 0, weights or table words, over LIGHT_MAX_NODES nodes, or
+       over LIGHT_MAX_WORDS words in a list or a block. */
+    LIGHT_CROWDED = 2,
+    /* A slice that is lent for writing is shorter than its reserve. */
+    LIGHT_SHORT_TRAY = 3,
+    /* A handle is not its lamp's place. */
+    LIGHT_MISPLACED = 4,
+    /* A coordinate, a figure of a record, or the point or normal of a draw is infinite or NaN. */
+    LIGHT_NOT_FINITE = 5,
+    /* A box has a min above its max. */
+    LIGHT_INVERTED = 6,
+    /* A direction or a normal has no length, or one that cannot be divided by; or the point lies at
+       the centre of a box that is more than a point. */
+    LIGHT_NO_DIRECTION = 7,
+    /* An emission, intensity, scale, weight, power or cosine is out of its range. */
+    LIGHT_OUT_OF_RANGE = 8,
+    /* A triangle's area is not a finite number above 0, or a group has no triangle. */
+    LIGHT_NO_AREA = 9,
+    /* Two records cannot be joined, since one of them fails the check of a record. */
+    LIGHT_LOST_UNION = 10,
+    /* u is NaN, below 0 or above 1. */
+    LIGHT_BAD_U = 11,
+    /* The nodes are no tree: an unknown kind or side, an index past the end, a child that its
+       parent does not own, a walk without an end; in packing also a left child that is not the next
+       node, and nodes, k and box that disagree on whether there is a tree. */
+    LIGHT_BROKEN_TREE = 12,
+    /* A packed handle or child is above 2^31 - 1. */
+    LIGHT_TOO_WIDE = 13
+};
+
+/* ---- limits and sizes; m is a number of lamps or weights, k of powered lamps, n of nodes */
+
+#define LIGHT_MAX_LAMPS 4096
+#define LIGHT_MAX_NODES 8191
+#define LIGHT_MAX_WORDS 0x100000
+#define LIGHT_NO_INDEX UINT32_C(0xffffffff)
+
+/* The words of a lamp in a list, its head counted. */
+#define LIGHT_POINT_WORDS 6
+#define LIGHT_SPOT_WORDS 11
+#define LIGHT_TRIANGLE_WORDS 13
+#define LIGHT_GROUP_WORDS(triangles) (5 + LIGHT_TRIANGLE_WORDS * (size_t)(triangles))
+
+/* The words of a bounds record, of a row of a block, of a block. */
+#define LIGHT_RECORD_WORDS 13
+#define LIGHT_ROW_WORDS (1 + LIGHT_RECORD_WORDS)
+#define LIGHT_BLOCK_WORDS(m) (1 + LIGHT_ROW_WORDS * (size_t)(m))
+
+/* A tree of k powered lamps has 2k - 1 nodes, none for none. */
+#define LIGHT_NODE_WORDS 16
+#define LIGHT_NODE_BYTES (4 * LIGHT_NODE_WORDS)
+#define LIGHT_NODES(k) ((k) == 0 ? (size_t)0 : 2 * (size_t)(k) - 1)
+#define LIGHT_TREE_BYTES(k) (LIGHT_NODE_BYTES * LIGHT_NODES(k))
+
+/* The reserves of light_build, in words, and the words of its answer. */
+#define LIGHT_NODES_RESERVE(m) (LIGHT_NODE_WORDS * LIGHT_NODES(m))
+#define LIGHT_TABLE_RESERVE(m) ((size_t)(m))
+#define LIGHT_WORK_RESERVE(m) (2 * (size_t)(m))
+#define LIGHT_ANSWER_WORDS 7
+
+/* A packed tree of n nodes; the reserve of light_pack, in words and in bytes. */
+#define LIGHT_PACKED_WORDS(n) ((n) == 0 ? (size_t)0 : 8 + 8 * (size_t)(n))
+#define LIGHT_PACKED_BYTES(n) (4 * LIGHT_PACKED_WORDS(n))
+
+/* The reserves of light_alias_table, in words. */
+#define LIGHT_BIN_WORDS 3
+#define LIGHT_BINS_RESERVE(m) (LIGHT_BIN_WORDS * (size_t)(m))
+#define LIGHT_ALIAS_WORK_RESERVE(m) (4 * (size_t)(m))
+
+/* The heads of lamps in a list. */
+#define LIGHT_POINT(handle) (UINT32_C(0x40000000) | (uint32_t)(handle))
+#define LIGHT_SPOT(handle) (UINT32_C(0x80000000) | (uint32_t)(handle))
+#define LIGHT_GROUP(handle) (UINT32_C(0xc0000000) | (uint32_t)(handle))
+
+/* ---- floats as words */
+
+static inline uint32_t light_word(float x)
+{
+    uint32_t word;
+    memcpy(&word, &x, sizeof word);
+    return word;
+}
+
+static inline float light_float(uint32_t word)
+{
+    float x;
+    memcpy(&x, &word, sizeof x);
+    return x;
+}
+
+/* ---- a list of lamps to a block */
+
+/*
+ * Writes the bounds block of a lamp list.
+ *
+ * Takes `list`, words. Word 0 is the number m of lamps; then the lamps, one behind the other, and
+ * nothing behind the last. The list of no lamps is the one word 0. A lamp is, figures as floats'
+ * bits unless said:
+ *
+ *     LIGHT_POINT(i)   position 3, intensity, scale
+ *     LIGHT_SPOT(i)    position 3, direction 3, intensity, scale, cosine of the angle where the
+ *                      falloff starts, cosine of the angle where it ends
+ *     LIGHT_GROUP(i)   emission, scale, sides (a whole number: 0 one, 1 both shine), the number of
+ *                      triangles (a whole number), and for each triangle three corners of 3, its
+ *                      area, its normal 3
+ *
+ * where i is the lamp's place, from 0 on. Intensity, emission and scale are finite and not below 0.
+ *
+ * Answers 0, or the refusal's number: 2, 1, 4, 3, then by the first lamp that is refused 5, 7, 8, 9
+ * or 10.
+ *
+ * Writes `block`, words, of which LIGHT_BLOCK_WORDS(m) are its reserve: m, then a row of
+ * LIGHT_ROW_WORDS for each lamp, in the list's order. A row is the handle and a record:
+ *
+ *     handle | box min 3, max 3 | direction 3 | power phi | cos_theta_o, cos_theta_e | sides
+ *
+ * The lamp shines within an angle about the direction whose cosine is cos_theta_o, and fades within
+ * another angle outside of it, whose cosine is cos_theta_e; sides is 0 or 1, the others floats' bits.
+ *
+ * Leaves `block` as it was on refusals 1 to 4; zeroes the reserve on later ones.
+ */
+uint32_t light_bounds_block(const uint32_t *list, size_t list_len, uint32_t *block, size_t block_len);
+
+/* ---- a block to a tree */
+
+/*
+ * Builds the tree of a block.
+ *
+ * Takes `lights`, the number of the caller's light records, which must be the block's m; and
+ * `block`, words, exactly LIGHT_BLOCK_WORDS(m) of them, laid out as light_bounds_block writes them
+ * or filled in by the caller. Each record's box and figures are finite, min is not above max, the
+ * direction has a length, phi is not below 0, both cosines lie from -1 to 1. A lamp is powered where
+ * its phi is above 0; k of the m lamps are.
+ *
+ * Answers 0, or the refusal's number: 2, 1, 4, 3, then by the first record that fails its check 5,
+ * 6, 7 or 8, then 10.
+ *
+ * Writes `nodes`, words, reserve LIGHT_NODES_RESERVE(m): LIGHT_NODES(k) nodes of LIGHT_NODE_WORDS,
+ * the root first, a left child right behind its parent; and zeros behind them. A node is
+ *
+ *     head | right child | parent | record of 13 words
+ *
+ * The head's top two bits are 01 at a leaf, with the handle below, and 10 at a fork, with the left
+ * child's place below. A leaf's right child and the root's parent are LIGHT_NO_INDEX.
+ *
+ * Writes `table`, words, reserve LIGHT_TABLE_RESERVE(m): at each handle the place of its leaf,
+ * LIGHT_NO_INDEX for a lamp that is not powered.
+ *
+ * Uses `work`, words, reserve LIGHT_WORK_RESERVE(m), and zeroes it.
+ *
+ * Leaves `nodes`, `table` and `work` as they were on refusals 1 to 4; zeroes the three reserves on
+ * later ones.
+ *
+ * Writes `answer`, words, LIGHT_ANSWER_WORDS of them, where the tree is built: k, then min 3 and
+ * max 3 of the box about the powered lamps, floats' bits; seven zeros where k is 0. Leaves it as it
+ * was on every refusal; and where it is shorter than that, which is no refusal: k is then not told.
+ */
+uint32_t light_build(size_t lights,
+                     const uint32_t *block, size_t block_len,
+                     uint32_t *nodes, size_t nodes_len,
+                     uint32_t *table, size_t table_len,
+                     uint32_t *work, size_t work_len,
+                     uint32_t *answer, size_t answer_len);
+
+/* ---- draws */
+
+/*
+ * Draws a lamp for a point.
+ *
+ * Takes `nodes`, BYTES: those of the tree alone, (const uint8_t *)nodes and LIGHT_TREE_BYTES(k),
+ * without the zeros that light_build leaves behind them; a point p; a normal n there, of any length,
+ * (0, 0, 0) for none; and u from 0 to 1, -0 as 0. The lamps are drawn in the order of their leaves as
+ * u rises.
+ *
+ * Answers a number to be taken apart by the functions below:
+ *
+ *     a lamp is drawn   the handle times 2^32, and the bits of the chance with which it is drawn
+ *     none is drawn     2^62: there are no nodes, or at a fork neither side shines on the point
+ *     refused           2^63 and the refusal's number: 2, 1, 11, then, on the way down, 12 by a node,
+ *                       5 to 8 by a record that is weighed, 5 or 7 by the point or the normal
+ *
+ * A tree of one lamp weighs nothing: it draws the lamp with chance 1, even for a NaN point. Else the
+ * chance is the product of the shares taken at the forks; it is NaN, 7fc00000, where a sum of weights
+ * overflows.
+ *
+ * Writes nothing.
+ */
+uint64_t light_sample(const uint8_t *nodes, size_t nodes_len,
+                      float px, float py, float pz,
+                      float nx, float ny, float nz, float u);
+
+static inline bool light_is_drawn(uint64_t draw)
+{
+    return draw >> 62 == 0;
+}
+
+static inline bool light_is_none(uint64_t draw)
+{
+    return draw >> 62 == 1;
+}
+
+/* The refusal's number, 0 for none. */
+static inline uint32_t light_refusal(uint64_t draw)
+{
+    return draw >> 63 ? (uint32_t)draw : 0;
+}
+
+/* The handle of the lamp that is drawn. */
+static inline uint32_t light_handle(uint64_t draw)
+{
+    return (uint32_t)(draw >> 32);
+}
+
+/* The chance, of a lamp that is drawn and of an answer of light_pmf that is no refusal. */
+static inline float light_chance(uint64_t answer)
+{
+    return light_float((uint32_t)answer);
+}
+
+/* ---- the chance of a lamp by its handle */
+
+/*
+ * The chance with which light_sample draws a lamp for a point, from the lamp's leaf up to the root.
+ *
+ * Takes `nodes`, BYTES, as light_sample does; `table`, BYTES, those of the table that light_build
+ * wrote, 4 m of them; a point and a normal as light_sample does; and the lamp's handle.
+ *
+ * Answers the chance's bits (light_chance), below 2^32: 0 for a handle past the table, for a lamp
+ * that is not powered, and where at a fork on the way neither side shines on the point; or 2^32 and the
+ * refusal's number (light_pmf_refusal): 2, 1, then, on the way up, 12 by a node, 5 to 8 by a record
+ * that is weighed, 5 or 7 by the point or the normal. Both chances multiply rounded shares, in
+ * opposite orders, so their last digits can differ; they differ grossly where a sum of weights
+ * overflows.
+ *
+ * Writes nothing.
+ */
+uint64_t light_pmf(const uint8_t *nodes, size_t nodes_len,
+                   const uint8_t *table, size_t table_len,
+                   float px, float py, float pz,
+                   float nx, float ny, float nz, uint32_t handle);
+
+/* The refusal's number, 0 for none. */
+static inline uint32_t light_pmf_refusal(uint64_t answer)
+{
+    return answer >> 32 ? (uint32_t)answer : 0;
+}
+
+/* ---- a tree to packed words */
+
+/*
+ * Packs a tree for a graphics card.
+ *
+ * Takes `nodes`, BYTES, as light_sample does, n nodes; `k` and the box as light_build answered them:
+ * answer[0]; `present`, 0 where there is no box (k is 0), else any other number; and `all`, WORDS,
+ * six of them, answer + 1, which must be there even where `present` is 0 and are not read then.
+ *
+ * Answers how many words were packed, LIGHT_PACKED_WORDS(n) (light_pack_words); 2^32 where there is
+ * no tree: no nodes, k 0 and no box (light_pack_is_none); or 2^33 and the refusal's number
+ * (light_pack_refusal): 1 where `all` has less than six words; 2, 1, 3; 12 where nodes, k and box do
+ * not agree; 5 or 6 of the box; then by the first node that is refused 12, 5 to 8, 13 or 12.
+ *
+ * Writes `out`, BYTES, reserve LIGHT_PACKED_BYTES(n): words, the lowest byte first. Eight of header,
+ * box min 3, 0, box max 3, 0; then eight a node, the first of a pair in the lower bits:
+ *
+ *     0   min x, min y, 16 bits each, from 0 to 65535 within the box, rounded down
+ *     1   min z, rounded down; max x, rounded up
+ *     2   max y, max z, rounded up
+ *     3   direction, octahedral, 16 bits each
+ *     4   phi
+ *     5   cos_theta_o, cos_theta_e, 15 bits each; bit 30 where both sides shine
+ *     6   at a leaf 2^31 and the handle, at a fork the right child
+ *     7   parent
+ *
+ * Leaves `out` as it was on refusals 1 to 4; zeroes the reserve on later ones.
+ */
+uint64_t light_pack(const uint8_t *nodes, size_t nodes_len,
+                    size_t k, uint32_t present, const uint32_t *all, size_t all_len,
+                    uint8_t *out, size_t out_len);
+
+/* How many words were packed, 0 where there is no tree or it is refused. */
+static inline uint32_t light_pack_words(uint64_t answer)
+{
+    return answer >> 32 ? 0 : (uint32_t)answer;
+}
+
+static inline bool light_pack_is_none(uint64_t answer)
+{
+    return answer >> 32 == 1;
+}
+
+/* The refusal's number, 0 for none. */
+static inline uint32_t light_pack_refusal(uint64_t answer)
+{
+    return answer >> 33 ? (uint32_t)answer : 0;
+}
+
+/* ---- weights to an alias table */
+
+/*
+ * Builds the alias table of m weights, as of lamps by their power: a draw then takes one look.
+ *
+ * Takes `weights`, words, floats' bits, each finite and not below 0. Where their sum is 0 each counts
+ * as 1.
+ *
+ * Answers 0, or the refusal's number: 2, 3, 8.
+ *
+ * Writes `bins`, words, reserve LIGHT_BINS_RESERVE(m): for each weight LIGHT_BIN_WORDS words, q and
+ * p, floats' bits, and alias. p is the weight's share of the sum. To draw, pick a bin, each alike, and
+ * a number from 0 to below 1: below q the bin's own place is drawn, else the place `alias`, which is
+ * LIGHT_NO_INDEX where q is 1.
+ *
+ * Uses `work`, words, reserve LIGHT_ALIAS_WORK_RESERVE(m), and zeroes it.
+ *
+ * Leaves `bins` and `work` as they were on refusals 2 and 3; zeroes both reserves on 8.
+ */
+uint32_t light_alias_table(const uint32_t *weights, size_t weights_len,
+                           uint32_t *bins, size_t bins_len,
+                           uint32_t *work, size_t work_len);
+
+#ifdef __cplusplus
+}
+#endif
+
+#endif
