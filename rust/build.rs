@@ -72,7 +72,7 @@ fn write(name: &str, text: &str) {
 
 fn prepare(bounds: &str, bvh: &str, sampler: &str, sampling: &str) {
     both("light_bounds", bounds, &[BORROWED, LOST], &[MARKS, LIBRARY]);
-    both("light_bvh", bvh, &[BVH_BORROWED, BVH_LOST], &[BVH_MARKS, BVH_LIBRARY]);
+    both("light_bvh", bvh, &[BVH_BORROWED, BVH_LOST, BVH_PAST], &[BVH_MARKS, BVH_LIBRARY]);
     let Some(end) = sampler.find(SAMPLER_END) else { stop(format!("the reference has no {SAMPLER_END:?}")) };
     both("light_sampler", &sampler[..end], &[SAMPLER_BORROWED], &[SAMPLER_MARKS, SAMPLER_LIBRARY]);
     write("angle_between.rs", &substitute(function(sampling, "pub fn angle_between("), BY_VALUE));

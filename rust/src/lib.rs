@@ -6,6 +6,7 @@ pub mod blocks;
 pub mod cases;
 pub mod functions;
 pub mod lent;
+pub mod light_runs;
 pub mod lists;
 pub mod proved;
 pub mod records;
@@ -20,9 +21,15 @@ pub mod stored_alias;
 pub mod stored_bounds;
 pub mod stored_lamps;
 pub mod stored_trees;
+pub mod stored_walks;
 pub mod timing;
 #[cfg(reference)]
 pub mod tree_runs;
 pub mod trees;
 pub mod trig;
+#[cfg(reference)]
+pub mod walk_oracle;
+#[cfg(reference)]
+pub mod walk_runs;
+pub mod walks;
 pub mod weights;

@@ -1,5 +1,8 @@
 //! The proved functions: the one place that declares what the archive of `parts_c` exports.
 
+use crate::records::Query;
+use crate::walks::{Chance, Drawn};
+
 // SAFETY: nothing checks these lines against the Rattle source. There each function is proved for every input, so those on
 // plain numbers are safe to call; those on slices are wrapped below.
 unsafe extern "C" {
@@ -91,6 +94,22 @@ unsafe extern "C" {
         answer: *mut u32,
         answer_len: usize,
     ) -> u32;
+    #[link_name = "sampler_sample"]
+    fn sample(nodes: *const u8, len: usize, px: f32, py: f32, pz: f32, nx: f32, ny: f32, nz: f32, u: f32) -> u64;
+    #[link_name = "sampler_pmf"]
+    fn pmf(
+        nodes: *const u8,
+        len: usize,
+        table: *const u8,
+        table_len: usize,
+        px: f32,
+        py: f32,
+        pz: f32,
+        nx: f32,
+        ny: f32,
+        nz: f32,
+        handle: u32,
+    ) -> u64;
 }
 
 /// The word at a place, 0 past the last whole word.
@@ -196,4 +215,28 @@ pub fn tree_build_light_bvh(
     };
     let [k, around @ ..] = summary;
     answer(number).map(|()| (k, (k > 0).then_some(around)))
+}
+
+/// A draw over a tree's nodes as bytes.
+pub fn sampler_sample(nodes: &[u8], query: &Query, u: f32) -> Drawn {
+    let [px, py, pz, nx, ny, nz] = query.map(f32::from_bits);
+    let answer = unsafe { sample(nodes.as_ptr(), nodes.len(), px, py, pz, nx, ny, nz, u) };
+    let (high, low) = ((answer >> 32) as u32, answer as u32);
+    match high >> 30 {
+        0 => Ok(Some((high, low))),
+        1 if answer == 1 << 62 => Ok(None),
+        2 if high == 1 << 31 => Err(low),
+        _ => panic!("a draw's answer {answer:x}"),
+    }
+}
+
+/// The chance of a lamp by its handle, over a tree's nodes and table as bytes.
+pub fn sampler_pmf(nodes: &[u8], table: &[u8], query: &Query, handle: u32) -> Chance {
+    let [px, py, pz, nx, ny, nz] = query.map(f32::from_bits);
+    let answer = unsafe { pmf(nodes.as_ptr(), nodes.len(), table.as_ptr(), table.len(), px, py, pz, nx, ny, nz, handle) };
+    match answer >> 32 {
+        0 => Ok(answer as u32),
+        1 => Err(answer as u32),
+        _ => panic!("a chance's answer {answer:x}"),
+    }
 }

@@ -5,7 +5,7 @@
 use crate::lists::{self, Kind, Lamp, BLOCK_RECORD};
 use crate::records::{Query, Record};
 use crate::stored::padded;
-use crate::trees::{self, Built, INTERIOR, LEAF, NODE};
+use crate::trees::{self, Built, INTERIOR, LEAF, NODE, PAYLOAD};
 use crate::{blocks, standins, trig};
 use std::cell::Cell;
 
@@ -43,7 +43,42 @@ pub const REFUSALS: &[(&str, u32)] = &[
     ("Area light group has no triangles.", 9),
     (LOST, LOST_UNION),
     ("Power light weights must be finite and non-negative.", 8),
+    ("Light BVH sample coordinate is invalid.", 11),
+    (PAST_LEFT, 12),
+    (PAST_RIGHT, 12),
+    (SPENT_DRAW, 12),
+    (PAST_LEAF, 12),
+    (PAST_PARENT, 12),
+    (CHILDLESS_PARENT, 12),
+    (NOT_OWNED, 12),
+    (SPENT_CHANCE, 12),
+    (UNKNOWN_NODE, 12),
+    (UNKNOWN_PARENT, 12),
+    (UNKNOWN_SIDE, 12),
 ];
+
+/// The walks' errors; no words lead to the two that are not here, "reached an invalid node" (it was weighed) and "has no right child".
+pub const SPENT_DRAW: &str = "Light BVH traversal exceeded its node limit.";
+pub const PAST_LEAF: &str = "Light BVH PMF reached an invalid leaf.";
+pub const PAST_PARENT: &str = "Light BVH PMF reached an invalid parent.";
+pub const CHILDLESS_PARENT: &str = "Light BVH PMF parent has no right child.";
+pub const NOT_OWNED: &str = "Light BVH PMF child is not owned by its parent.";
+pub const SPENT_CHANCE: &str = "Light BVH PMF exceeded its node limit.";
+/// The messages that substitution.rs gives to their panics.
+pub const PAST_LEFT: &str = "the left child is past the end";
+pub const PAST_RIGHT: &str = "the right child is past the end";
+/// Document 01's own: no node of the Rust has such words.
+pub const UNKNOWN_NODE: &str = "the node entered has an unknown kind";
+pub const UNKNOWN_PARENT: &str = "the parent has an unknown kind";
+pub const UNKNOWN_SIDE: &str = "the node weighed has an unknown side";
+
+fn past_left() -> PbrtError {
+    PbrtError(PAST_LEFT)
+}
+
+fn past_right() -> PbrtError {
+    PbrtError(PAST_RIGHT)
+}
 
 /// The one error that comes before a short slice.
 const MISPLACED: &str = "Light handles must match the global LightRecord order.";
@@ -66,7 +101,7 @@ pub const CROWDED: u32 = 2;
 pub const SHORT_TRAY: u32 = 3;
 
 /// The error's number; its message is marked.
-fn number(error: PbrtError) -> u32 {
+pub(crate) fn number(error: PbrtError) -> u32 {
     let row = REFUSALS.iter().position(|(message, _)| *message == error.0).unwrap_or_else(|| panic!("unknown error {error:?}"));
     TAKEN.set(TAKEN.get() | 1 << (BRANCHES.len() + row));
     REFUSALS[row].1
@@ -124,13 +159,25 @@ branches! {
     ExcessUnder "alias: an excess below 1"
     ExcessOver "alias: an excess of 1 or more"
     LeftUnder "alias: a bin under 1 left over"
+    MovedDown "walk: u at first above 3f7ffffe, moved down"
+    Unweighed "walk: ends where it begins, nothing weighed"
+    IntoLeft "walk: into a left child"
+    IntoRight "walk: into a right child"
+    OnShare "walk: u is the share, into the right child"
+    FromLeft "walk: up from a left child"
+    FromRight "walk: up from a right child"
+    NoWeight "walk: no child has weight"
+    EndlessTotal "walk: an infinite total"
+    NanShare "walk: a share that is NaN"
+    NoShare "walk: a share of 0"
+    WholeShare "walk: a share of 1"
 }
 
 thread_local!(static TAKEN: Cell<u128> = const { Cell::new(0) });
 
 const _: () = assert!(BRANCHES.len() + REFUSALS.len() <= u128::BITS as usize, "a set has a bit for each");
 
-fn mark(branch: Branch) {
+pub(crate) fn mark(branch: Branch) {
     TAKEN.set(TAKEN.get() | 1 << branch as u32);
 }
 
@@ -252,7 +299,7 @@ macro_rules! borrowed {
 /// The reference over document 01's library functions.
 #[allow(dead_code)]
 pub mod oracle {
-    use super::{lost, mark, Branch, Light, PbrtError, Standin, INVALID_INDEX};
+    use super::{lost, mark, past_left, past_right, Branch, Light, PbrtError, Standin, INVALID_INDEX};
     borrowed!(crate::standins::sqrt, crate::trig::asin);
 
     pub mod light_bounds {
@@ -271,7 +318,7 @@ pub mod oracle {
 /// The reference over Rust's own.
 #[allow(dead_code)]
 pub mod native {
-    use super::{lost, Light, PbrtError, INVALID_INDEX};
+    use super::{lost, past_left, past_right, Light, PbrtError, INVALID_INDEX};
 
     fn asin(x: f32) -> f32 {
         x.asin()
@@ -294,7 +341,7 @@ pub mod native {
     }
 }
 
-fn three(words: &[u32]) -> [f32; 3] {
+pub(crate) fn three(words: &[u32]) -> [f32; 3] {
     [0, 1, 2].map(|i| f32::from_bits(words[i]))
 }
 
@@ -442,7 +489,7 @@ on_lists!(native, native_inputs, native_build_light_bounds, native_build_power_a
 
 /// Trees as words on one side, and that side's tree of a block.
 macro_rules! on_blocks {
-    ($side:ident, $of_words:ident, $to_words:ident, $tree:ident, $node:ident, $build:ident) => {
+    ($side:ident, $of_words:ident, $to_words:ident, $tree:ident, $node:ident, $of_node:ident, $build:ident) => {
         /// The tree of a block that has the layout.
         pub fn $tree(block: &[u32]) -> Result<$side::light_bvh::LightBVH, PbrtError> {
             let bounds: Vec<_> = blocks::records(block).map(|record| $of_words(record).unwrap()).collect();
@@ -458,6 +505,17 @@ macro_rules! on_blocks {
             let mut words = padded(&[head, right, node.parent()]);
             words[3..].copy_from_slice(&$to_words(&node.bounds()));
             words
+        }
+
+        /// The node of such words; none where the kind or the side is unknown, since no node of the Rust has one.
+        pub fn $of_node([head, right_child, parent, record @ ..]: &[u32; NODE]) -> Option<$side::light_bvh::LightBVHNode> {
+            use $side::light_bvh::LightBVHNode::{Interior, Leaf};
+            let (bounds, parent, payload) = ($of_words(record).ok()?, *parent, head & PAYLOAD);
+            match head - payload {
+                LEAF => Some(Leaf { light_handle: payload, bounds, parent }),
+                INTERIOR => Some(Interior { left_child: payload, right_child: *right_child, bounds, parent }),
+                _ => None,
+            }
         }
 
         /// The tree of a block, written to the lent nodes, with each lamp's leaf in the lent table; the lent work is left zero.
@@ -486,5 +544,5 @@ macro_rules! on_blocks {
     };
 }
 
-on_blocks!(oracle, oracle_of_words, oracle_to_words, tree, node, build_light_bvh);
-on_blocks!(native, native_of_words, native_to_words, native_tree, native_node, native_build_light_bvh);
+on_blocks!(oracle, oracle_of_words, oracle_to_words, tree, node, of_node, build_light_bvh);
+on_blocks!(native, native_of_words, native_to_words, native_tree, native_node, native_of_node, native_build_light_bvh);

@@ -1,7 +1,6 @@
 //! The stored answers of the oracle, a file of cases for each part, which the program replay_PART reads: little-endian words, a kind, how
 //! many words follow, those words. The floats' kinds are 101 to 117 (`functions.rs` numbers them; a case is a low, a high, b, c, result
-//! low, result high), the bounds' 201 to 207, the lamp lists' 300, the alias table's 400, the trees' 500 (no program replays those
-//! yet).
+//! low, result high), the bounds' 201 to 207, the lamp lists' 300, the alias table's 400, the trees' 500, the walks' 600 and 601.
 
 use std::fmt::Debug;
 use std::ops::RangeInclusive;

@@ -54,6 +54,12 @@ pub const BVH_LOST: &[Pair] = &[
     ("choose_split(&handles, light_bounds);", "choose_split(&handles, light_bounds)?;"),
 ];
 
+/// A walk's index past the end, where Rust panics, gives an error on; document 01 has one number for both.
+pub const BVH_PAST: &[Pair] = &[
+    ("bvh.nodes[left as usize].bounds()", "bvh.nodes.get(left as usize).ok_or_else(super::past_left)?.bounds()"),
+    ("bvh.nodes[right as usize].bounds()", "bvh.nodes.get(right as usize).ok_or_else(super::past_right)?.bounds()"),
+];
+
 /// The oracle only: document 01's library functions in place of Rust's own.
 pub const LIBRARY: &[Pair] = &[
     ("use std::collections::HashSet;", "use std::collections::HashSet;\nuse super::Standin;"),

@@ -7,8 +7,8 @@ pub const INPUTS: usize = 4096;
 pub const PASSES: usize = 32;
 pub const SAMPLES: usize = 31;
 
-/// Prints the medians, in nanoseconds for an input, of samples that the two sides take in turn.
-pub fn row(label: &str, mut sides: [&mut dyn FnMut() -> u64; 2]) {
+/// Prints the medians, in nanoseconds for an input, of samples that the two sides take in turn, each of so many inputs.
+fn sampled(label: &str, inputs: usize, mut sides: [&mut dyn FnMut() -> u64; 2]) {
     let mut samples = [vec![], vec![]];
     for _ in 0..SAMPLES {
         for (side, samples) in sides.iter_mut().zip(&mut samples) {
@@ -19,9 +19,20 @@ pub fn row(label: &str, mut sides: [&mut dyn FnMut() -> u64; 2]) {
     }
     let [proved, own] = samples.map(|mut samples| {
         samples.sort();
-        samples[SAMPLES / 2] as f64 / (PASSES * INPUTS) as f64
+        samples[SAMPLES / 2] as f64 / inputs as f64
     });
     println!("{label} | {proved:.2} | {own:.2} | {:.2}", proved / own);
+}
+
+/// The same with as many inputs as `fold` has.
+pub fn row(label: &str, sides: [&mut dyn FnMut() -> u64; 2]) {
+    sampled(label, PASSES * INPUTS, sides);
+}
+
+/// The same of calls long enough for one pass a sample.
+pub fn pass(label: &str, [proved, own]: [&dyn Fn(usize) -> u64; 2]) {
+    let all = |call: &dyn Fn(usize) -> u64| (0..INPUTS).fold(0u64, |sum, i| sum.wrapping_add(call(black_box(i))));
+    sampled(label, INPUTS, [&mut || all(proved), &mut || all(own)]);
 }
 
 /// Prints the medians, in microseconds for a call, of samples of one call or more that the two sides take in turn.

@@ -10,6 +10,7 @@ pub const NODE: usize = 16;
 /// A node's head: its kind in the top two bits, below it a leaf's handle or the left child.
 pub const LEAF: u32 = 1 << 30;
 pub const INTERIOR: u32 = 2 << 30;
+pub const PAYLOAD: u32 = LEAF - 1;
 
 /// The words that build must be lent for so many lamps: nodes, table, work.
 pub fn reserves(lamps: usize) -> [usize; 3] {
@@ -146,7 +147,7 @@ impl Random {
         cones.collect()
     }
 
-    fn tree_records(&mut self, count: usize) -> Vec<Record> {
+    pub(crate) fn tree_records(&mut self, count: usize) -> Vec<Record> {
         if count <= 512 && self.chance(24) {
             return deepest(count);
         }

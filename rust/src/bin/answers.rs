@@ -11,7 +11,8 @@ fn main() -> std::io::Result<()> {
     oracle::bounds()?;
     oracle::lamps()?;
     oracle::alias()?;
-    oracle::trees()
+    oracle::trees()?;
+    oracle::walks()
 }
 
 #[cfg(reference)]
@@ -19,7 +20,10 @@ mod oracle {
     use coltoctober::cases::{stored_cases, Random};
     use coltoctober::functions::FUNCTIONS;
     use coltoctober::stored::{filled, padded, store, Answer, Case, FLOATS, FLOATS_PART};
-    use coltoctober::{lists, reference, standins, stored_alias, stored_bounds, stored_lamps, stored_trees, trig, weights};
+    use coltoctober::{
+        lists, reference, standins, stored_alias, stored_bounds, stored_lamps, stored_trees, stored_walks, trig, walk_oracle,
+        weights,
+    };
     use std::io::Result;
 
     /// The stand-ins' answers, held against Rust's own where the two are defined the same.
@@ -98,5 +102,9 @@ mod oracle {
 
     pub fn trees() -> Result<()> {
         store_all(&stored_trees::sample(reference::build_light_bvh))
+    }
+
+    pub fn walks() -> Result<()> {
+        store_all(&stored_walks::sample(&walk_oracle::ORACLE))
     }
 }

@@ -1,0 +1,264 @@
+//! Runs of the proved draws and chances against the oracle, over built trees and trees with words made wrong, counted by how each case
+//! ended.
+
+use crate::cases::Random;
+use crate::lists::BLOCK_RECORD;
+use crate::proved;
+use crate::records::Query;
+use crate::reference::{self, marked, Branch};
+use crate::rooms::Room;
+use crate::runs::{Tally, OWN};
+use crate::tree_runs::on_deep_stack;
+use crate::trees::NODE;
+use crate::walk_oracle::Decoded;
+use crate::walks::{wrong_words, Damage, Tree, Words, DAMAGES, MOST_NODES, NODE_BYTES};
+
+/// How many lamps a random tree has at the most, and how many walks a tree is for.
+const LAMPS: u64 = 64;
+const WALKS: u64 = 16;
+/// One tree in so many is a room's.
+const ROOMS: u64 = 150;
+
+/// The bytes among others, so that they begin at any place and nothing past their end is 0.
+struct Among {
+    all: Vec<u8>,
+    at: usize,
+    len: usize,
+}
+
+impl Among {
+    fn new(random: &mut Random, bytes: &[u8]) -> Among {
+        let at = random.below(8) as usize;
+        let mut all = vec![0xa5; at + bytes.len() + NODE_BYTES];
+        all[at..at + bytes.len()].copy_from_slice(bytes);
+        Among { all, at, len: bytes.len() }
+    }
+
+    fn bytes(&self) -> &[u8] {
+        &self.all[self.at..self.at + self.len]
+    }
+}
+
+/// Rooms with their trees, made once for a run.
+struct Rooms(Vec<(Room, Words)>);
+
+impl Rooms {
+    fn new(random: &mut Random) -> Rooms {
+        let rooms = [64, 512, 4096].map(|lamps| {
+            let room = Room::new(random, lamps);
+            let mut block = vec![0; 1 + BLOCK_RECORD * lamps];
+            reference::build_light_bounds(&room.list, &mut block).unwrap();
+            let records: Vec<_> = crate::blocks::records(&block).copied().collect();
+            (room, Words::built(reference::build_light_bvh, &records).unwrap())
+        });
+        Rooms(rooms.into())
+    }
+}
+
+/// A tree to walk, with what it was before damage.
+struct Plot<'a> {
+    room: Option<&'a Room>,
+    sound: Words,
+    damages: Vec<Damage>,
+    nodes: Among,
+    table: Among,
+    decoded: Decoded,
+}
+
+impl Plot<'_> {
+    fn new<'a>(random: &mut Random, rooms: &'a Rooms) -> Plot<'a> {
+        let (room, sound) = if random.chance(ROOMS) {
+            let (room, words) = &rooms.0[random.below(rooms.0.len() as u64) as usize];
+            (Some(room), words.clone())
+        } else {
+            (None, random.grown(reference::build_light_bvh, LAMPS))
+        };
+        let (tree, damages) = random.weathered(sound.clone());
+        Plot::of(random, room, sound, damages, &tree)
+    }
+
+    fn of<'a>(random: &mut Random, room: Option<&'a Room>, sound: Words, damages: Vec<Damage>, tree: &Tree) -> Plot<'a> {
+        let [nodes, table] = [&tree.nodes, &tree.table].map(|bytes| Among::new(random, bytes));
+        Plot { room, sound, damages, nodes, table, decoded: Decoded::new(tree) }
+    }
+
+    fn query(&self, random: &mut Random) -> Query {
+        match self.room.filter(|_| !random.chance(4)) {
+            Some(room) => room.query(random),
+            None => random.walk_query(&self.sound),
+        }
+    }
+
+    fn damaged(&self, damage: Damage) -> bool {
+        self.damages.contains(&damage)
+    }
+
+    fn more(&self) -> Vec<bool> {
+        DAMAGES.iter().map(|(damage, _)| self.damaged(*damage)).collect()
+    }
+
+    /// For a message, cut where it is long.
+    fn shown(&self) -> String {
+        let nodes: Vec<_> = crate::walks::words(self.nodes.bytes()).chunks(NODE).take(16).map(<[u32]>::to_vec).collect();
+        let table = crate::walks::words(self.table.bytes());
+        let [nodes_len, table_len] = [self.nodes.len, self.table.len];
+        format!("{:?}, {nodes_len} bytes {nodes:08x?}, {table_len} bytes {:x?}", self.damages, &table[..table.len().min(24)])
+    }
+
+    fn draw(&self, tally: &mut Tally, query: &Query, u: f32) {
+        let (expected, branches) = marked(|| self.decoded.sample(query, u));
+        let got = proved::sampler_sample(self.nodes.bytes(), query, u);
+        let chance = expected.ok().flatten().map(|(_, chance)| chance);
+        let nodes = self.decoded.nodes();
+        let mut more = self.more();
+        more.extend([
+            chance.is_some(),
+            expected == Ok(None) && nodes > 0,
+            expected == Ok(None) && nodes == 0,
+            chance == Some(0x7fc0_0000),
+            chance == Some(0),
+            chance.is_some() && nodes == MOST_NODES,
+            chance.is_some() && u.to_bits() == 1 << 31,
+            chance.is_some() && query.iter().any(|word| !f32::from_bits(*word).is_finite()),
+            expected == Err(12) && branches.has(Branch::IntoRight),
+            expected == Err(11) && nodes == 0,
+            expected == Err(1) && !(0.0..=1.0).contains(&u),
+            self.decoded.by_reference(),
+            !self.decoded.by_reference(),
+            self.decoded.own_sample(query, u).is_some_and(|own| own != expected),
+        ]);
+        let shown = || format!("draw({query:08x?}, {:08x}) of {}: {got:08x?}, not {expected:08x?}", u.to_bits(), self.shown());
+        tally.case(&expected, branches, &more, got == expected, shown);
+    }
+
+    fn chance(&self, tally: &mut Tally, query: &Query, handle: u32) {
+        let (expected, branches) = marked(|| self.decoded.pmf(query, handle));
+        let got = proved::sampler_pmf(self.nodes.bytes(), self.table.bytes(), query, handle);
+        let table = self.table.bytes().as_chunks::<4>().0;
+        let leaf = table.get(handle as usize).map(|word| u32::from_le_bytes(*word));
+        let mut more = self.more();
+        let walked = branches.has(Branch::FromLeft) || branches.has(Branch::FromRight);
+        more.extend([
+            walked && expected.is_ok_and(|chance| f32::from_bits(chance) > 0.0),
+            expected == Ok(0) && leaf.is_none(),
+            expected == Ok(0) && leaf == Some(u32::MAX),
+            expected == Ok(0) && branches.has(Branch::NoWeight),
+            expected == Ok(0x7fc0_0000),
+            expected.is_ok() && walked && self.decoded.nodes() == MOST_NODES,
+            expected == Err(12) && walked,
+            expected == Err(12) && self.decoded.nodes() == 0,
+            expected == Err(2) && self.nodes.len % NODE_BYTES != 0,
+            self.decoded.by_reference(),
+            !self.decoded.by_reference(),
+            self.decoded.own_pmf(query, handle).is_some_and(|own| own != expected),
+        ]);
+        let shown = || format!("chance({query:08x?}, {handle:x}) of {}: {got:08x?}, not {expected:08x?}", self.shown());
+        tally.case(&expected, branches, &more, got == expected, shown);
+    }
+}
+
+const BY_REFERENCE: &str = "oracle: the reference itself";
+const BY_COPY: &str = "oracle: the copy of its loop, some word decodes to no node of the Rust";
+
+const DRAWS: &[&str] = &[
+    "draw: a lamp",
+    "draw: none, no weight",
+    "draw: none, no nodes",
+    "draw: the chance is NaN",
+    "draw: the chance is 0",
+    "draw: a lamp of 8,191 nodes",
+    "draw: a lamp by -0",
+    "draw: a lamp for a query that is not finite",
+    "draw: 12 behind a right child",
+    "order: 11 though there are no nodes",
+    "order: 1 before 11",
+    BY_REFERENCE,
+    BY_COPY,
+    OWN,
+];
+
+const CHANCES: &[&str] = &[
+    "chance: above 0, by a walk",
+    "chance: 0, past the table",
+    "chance: 0, no leaf",
+    "chance: 0, no weight",
+    "chance: NaN",
+    "chance: of 8,191 nodes",
+    "chance: 12 behind a step up",
+    "chance: 12, no nodes",
+    "order: 2 before 1",
+    BY_REFERENCE,
+    BY_COPY,
+    OWN,
+];
+
+fn labels(more: &[&'static str]) -> Vec<&'static str> {
+    DAMAGES.iter().map(|(_, label)| *label).chain(more.iter().copied()).collect()
+}
+
+/// Walks over trees, some walks a tree, until there are so many.
+fn run(more: &[&'static str], seed: u64, cases: u64, mut walk: impl FnMut(&mut Random, &Plot, &mut Tally) + Send) -> Tally {
+    on_deep_stack(|| {
+        let mut random = Random::new(seed);
+        let rooms = Rooms::new(&mut random);
+        let mut tally = Tally::new(&labels(more));
+        while tally.cases < cases {
+            let plot = Plot::new(&mut random, &rooms);
+            for _ in 0..WALKS.min(cases - tally.cases) {
+                walk(&mut random, &plot, &mut tally);
+            }
+        }
+        tally
+    })
+}
+
+pub fn draws(seed: u64, cases: u64) -> Tally {
+    let mut asked = (0, [0; 6], vec![]);
+    run(DRAWS, seed, cases, move |random, plot, tally| {
+        // some u for each query
+        let (turn, query, edges) = &mut asked;
+        if *turn % 4 == 0 {
+            *query = plot.query(random);
+            *edges = plot.sound.edges(query, reference::importance, 6);
+        }
+        *turn += 1;
+        let u = random.u(edges);
+        plot.draw(tally, query, u);
+    })
+}
+
+pub fn chances(seed: u64, cases: u64) -> Tally {
+    run(CHANCES, seed, cases, |random, plot, tally| {
+        let (query, handle) = (plot.query(random), random.walk_handle(plot.table.len / 4));
+        plot.chance(tally, &query, handle);
+    })
+}
+
+/// Each word of each node of some small trees replaced by each kind of wrong value in turn: draws and chances.
+pub fn each_word(seed: u64, trees: u64) -> [Tally; 2] {
+    let mut random = Random::new(seed);
+    let mut tallies = [DRAWS, CHANCES].map(|more| Tally::new(&labels(more)));
+    for _ in 0..trees {
+        let sound = loop {
+            let words = random.grown(reference::build_light_bvh, 4);
+            if (5..=7).contains(&words.nodes.len()) {
+                break words;
+            }
+        };
+        let query = random.walk_query(&sound);
+        let edges = sound.edges(&query, reference::importance, 8);
+        for (place, word) in (0..sound.nodes.len()).flat_map(|place| (0..NODE).map(move |word| (place, word))) {
+            for wrong in wrong_words(place, sound.nodes.len()) {
+                let mut words = sound.clone();
+                words.nodes[place][word] = wrong;
+                let plot = Plot::of(&mut random, None, words.clone(), vec![Damage::AnyWord], &words.tree());
+                let [draws, chances] = &mut tallies;
+                for u in [0.0, 0.5, 1.0, random.u(&edges)] {
+                    plot.draw(draws, &query, u);
+                }
+                (0..words.table.len() as u32).for_each(|handle| plot.chance(chances, &query, handle));
+            }
+        }
+    }
+    tallies
+}
