@@ -1,3 +1,4 @@
 pub mod Clamped
 pub mod LateLaws
 pub mod RecordPlaces
+pub mod WeighingLaws

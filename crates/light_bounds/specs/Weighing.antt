@@ -1,0 +1,26 @@
+-- A query as a walk holds it, for many records: what it is made of. Definitions only. Assumes nothing.
+use mathlib.Core.Path.{_≡_}
+use mathlib.Core.Bool.{cond}
+use mathlib.Core.Option.{Option, none, some}
+use lib.Ieee.{eq}
+use Rattle.ieee.specs.Single.{zerof}
+use Rattle.words.specs.Answers.{Answer, given, refused, _then_}
+use Rattle.light_bounds.specs.Importance.{finiteQuery}
+use Rattle.light_bounds.specs.Vecmath.{dot, normalize}
+use Rattle.light_bounds.specs.declared.vecmath.Vec3.{Vec3}
+use Rattle.light_bounds.specs.declared.importance.Query.{Query}
+use Rattle.light_bounds.specs.declared.weighing.Prepared.{Prepared}
+
+-- the normal at length 1: none where its dot with itself is 0, 7 where it has no length to divide by
+unfoldable pub unitNormal : Vec3 → Answer (Option Vec3)
+unitNormal n = cond (eq (dot n n) zerof) (given none) (normalize n then λ (u : Vec3). given (some u))
+
+-- what is held of the normal
+abbrev pub heldNormal : Prepared → Answer (Option Vec3)
+heldNormal h = cond (h .«has_normal») (cond (h .«has_length») (given (some (h .unit))) (refused 7)) (given none)
+
+-- the query that is held
+pub record Holds (h : Prepared) (q : Query) : Type 0 where
+  pub point : h .p ≡ q .p
+  pub known : h .«is_finite» ≡ finiteQuery q
+  pub normal : heldNormal h ≡ unitNormal (q .n)
