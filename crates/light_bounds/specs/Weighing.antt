@@ -1,13 +1,14 @@
 -- A query as a walk holds it, for many records: what it is made of. Definitions only. Assumes nothing.
 use mathlib.Core.Path.{_≡_}
-use mathlib.Core.Bool.{cond}
+use mathlib.Core.Bool.{Bool, cond, not, _&&_}
 use mathlib.Core.Option.{Option, none, some}
-use lib.Ieee.{eq}
-use Rattle.ieee.specs.Single.{zerof}
+use lib.Ieee.{eq, lt}
+use Rattle.ieee.specs.Single.{zerof, onef}
 use Rattle.words.specs.Answers.{Answer, given, refused, _then_}
-use Rattle.light_bounds.specs.Importance.{finiteQuery}
+use Rattle.light_bounds.specs.Importance.{finiteQuery, cosW}
 use Rattle.light_bounds.specs.Vecmath.{dot, normalize}
 use Rattle.light_bounds.specs.declared.vecmath.Vec3.{Vec3}
+use Rattle.light_bounds.specs.declared.light_bounds.LightBounds.{LightBounds}
 use Rattle.light_bounds.specs.declared.importance.Query.{Query}
 use Rattle.light_bounds.specs.declared.weighing.Prepared.{Prepared}
 
@@ -24,3 +25,7 @@ pub record Holds (h : Prepared) (q : Query) : Type 0 where
   pub point : h .p ≡ q .p
   pub known : h .«is_finite» ≡ finiteQuery q
   pub normal : heldNormal h ≡ unitNormal (q .n)
+
+-- no normal is held, the cone's edge is not at its axis, and the direction is inside the cone
+abbrev pub isPlain : LightBounds → Prepared → Vec3 → Bool
+isPlain r h wi = not (h .«has_normal») && (lt (r .«cos_theta_e») onef && lt (r .«cos_theta_o») (cosW r wi))

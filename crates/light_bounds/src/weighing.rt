@@ -2,7 +2,7 @@
 ghost use mathlib.Core.Path.{_≡_};
 ghost use Rattle.light_bounds.specs.Importance.{weigh as weighOf, checkedImportance, weight, viewed};
 ghost use Rattle.light_bounds.specs.Importance.{geometry as geometryOf, toward as towardOf, distance2 as distance2Of, withNormal};
-ghost use Rattle.light_bounds.specs.Weighing.{Holds, unitNormal, heldNormal};
+ghost use Rattle.light_bounds.specs.Weighing.{Holds, isPlain};
 ghost use Rattle.light_bounds.specs.declared.importance.Query.{Query};
 use super::bounds::Bounds3;
 use super::bounds::Validity;
@@ -12,6 +12,7 @@ use super::cones::subtended;
 use super::importance::Query;
 use super::importance::View;
 use super::importance::Weight;
+use super::importance::cos_w;
 use super::importance::facing;
 use super::importance::finished;
 use super::importance::is_finite_query;
@@ -104,22 +105,39 @@ fn view(record: LightBounds, query: Prepared) -> View
     }
 }
 
-// The squared distance to the centre, at least half the diagonal's length.
+// The squared distance to the centre, at least half the diagonal's length. From far enough the length is not needed: where the diagonal's square is below
+// that of the squared distance.
 fn distance2(record: LightBounds, delta: Vec3) -> f32
     ensures { λ r. ⌜ r ≡ distance2Of «record» delta ⌝ }
 {
-    max(dot(delta, delta), length(diagonal(record.bounds)) * 0.5)
+    let raw = dot(delta, delta);
+    let across = diagonal(record.bounds);
+    if dot(across, across) < raw * raw {
+        return raw;
+    }
+    max(raw, length(across) * 0.5)
 }
 
+// Without a normal the box's cosine is needed outside the cone alone: inside it the smallest angle is none.
 fn view_along(record: LightBounds, query: Prepared, d2: f32, wi: Vec3) -> View
     ensures { λ r. ⌜ ((q : Query) → Holds query q → viewed r ≡ towardOf «record» q d2 wi) ⌝ }
 {
+    if is_plain(record, query, wi) {
+        return View::Lit(1.0, d2);
+    }
     let cos_b = subtended(record.bounds, query.p, length(diagonal(record.bounds)));
     let cos_p = smallest_angle(record, wi, cos_b);
     if cos_p <= record.cos_theta_e {
         return View::Dark;
     }
     with_unit(query, wi, cos_b, cos_p, d2)
+}
+
+// Whether there is no normal, the direction is inside the cone, and the cone's edge is not at its axis.
+fn is_plain(record: LightBounds, query: Prepared, wi: Vec3) -> bool
+    ensures { λ r. ⌜ r ≡ isPlain «record» query wi ⌝ }
+{
+    !query.has_normal && (record.cos_theta_e < 1.0 && cos_w(record, wi) > record.cos_theta_o)
 }
 
 fn with_unit(query: Prepared, wi: Vec3, cos_b: f32, cos_p: f32, d2: f32) -> View
