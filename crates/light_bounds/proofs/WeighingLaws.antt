@@ -47,18 +47,18 @@ module _ (wi : Vec3) (cosB p d2 : Float) where
       go false (given u) = refl
       go false (refused k) = refl
 
-  pub held-unit : {h : Prepared} {q : Query} → Holds h q → withUnit (heldNormal h) ≡ withNormal (q .n) wi cosB p d2
-  held-unit {h} {q} held = ap withUnit (held .normal) ∙ with-unit (q .n)
+  pub held-unit : (h : Prepared) (q : Query) → Holds h q → withUnit (heldNormal h) ≡ withNormal (q .n) wi cosB p d2
+  held-unit h q held = ap withUnit (held .1 .1) ∙ with-unit (q .n)
 
 -- without a normal, inside a cone whose edge is not at its axis, the box is no matter
-pub plain : (r : LightBounds) (d2 : Float) (wi : Vec3) {h : Prepared} {q : Query} → Holds h q → isPlain r h wi ≡ true → toward r q d2 wi ≡ given (lit onef d2)
+pub plain : (r : LightBounds) (d2 : Float) (wi : Vec3) (h : Prepared) (q : Query) → Holds h q → isPlain r h wi ≡ true → toward r q d2 wi ≡ given (lit onef d2)
 unfolding toward
-plain r d2 wi {h} {q} held t =
+plain r d2 wi h q held t =
     let told : T (isPlain r h wi) = subst (λ (b : Bool). T b) (sym t) tt in
     let cone = and-r (not (h .«has_normal»)) (lt (r .«cos_theta_e») onef && lt (r .«cos_theta_o») (cosW r wi)) told in
     let wide = and-l (lt (r .«cos_theta_e») onef) (lt (r .«cos_theta_o») (cosW r wi)) cone in
     let within = is-true (lt (r .«cos_theta_o») (cosW r wi)) (and-r (lt (r .«cos_theta_e») onef) (lt (r .«cos_theta_o») (cosW r wi)) cone) in
     let bare = is-false (h .«has_normal») (and-l (not (h .«has_normal»)) (lt (r .«cos_theta_e») onef && lt (r .«cos_theta_o») (cosW r wi)) told) in
     rw (inside r wi (q .p) within, is-false (le onef (r .«cos_theta_e»)) (not-T (le onef (r .«cos_theta_e»)) (not-le-of-lt (r .«cos_theta_e») onef wide)))
-    (sym (held-unit wi (boundSubtendedDirections (r .bounds) (q .p)) onef d2 held)
+    (sym (held-unit wi (boundSubtendedDirections (r .bounds) (q .p)) onef d2 h q held)
     ∙ ap (λ (b : Bool). withUnit wi (boundSubtendedDirections (r .bounds) (q .p)) onef d2 (cond b (cond (h .«has_length») (given (some (h .unit))) (refused 7)) (given none))) bare)

@@ -20,11 +20,9 @@ unitNormal n = cond (eq (dot n n) zerof) (given none) (normalize n then λ (u : 
 abbrev pub heldNormal : Prepared → Answer (Option Vec3)
 heldNormal h = cond (h .«has_normal») (cond (h .«has_length») (given (some (h .unit))) (refused 7)) (given none)
 
--- the query that is held
-pub record Holds (h : Prepared) (q : Query) : Type 0 where
-  pub point : h .p ≡ q .p
-  pub known : h .«is_finite» ≡ finiteQuery q
-  pub normal : heldNormal h ≡ unitNormal (q .n)
+-- that the query is held: its point, whether it is finite, its normal
+abbrev pub Holds : Prepared → Query → Type 0
+Holds h q = (h .p ≡ q .p) × ((h .«is_finite» ≡ finiteQuery q) × (heldNormal h ≡ unitNormal (q .n)))
 
 -- no normal is held, the cone's edge is not at its axis, and the direction is inside the cone
 abbrev pub isPlain : LightBounds → Prepared → Vec3 → Bool

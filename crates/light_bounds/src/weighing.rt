@@ -1,8 +1,8 @@
 // Weighing for a walk (specs/Weighing.antt): the importance of many records for one query. What hangs on the query alone is worked out once.
 ghost use mathlib.Core.Path.{_≡_};
-ghost use Rattle.light_bounds.specs.Importance.{weigh as weighOf, checkedImportance, weight, viewed};
+ghost use Rattle.light_bounds.specs.Importance.{weigh as weighOf, checkedImportance, finiteQuery, weight, viewed};
 ghost use Rattle.light_bounds.specs.Importance.{geometry as geometryOf, toward as towardOf, distance2 as distance2Of, withNormal};
-ghost use Rattle.light_bounds.specs.Weighing.{Holds, isPlain};
+ghost use Rattle.light_bounds.specs.Weighing.{Holds, isPlain, heldNormal, unitNormal};
 ghost use Rattle.light_bounds.specs.declared.importance.Query.{Query};
 use super::bounds::Bounds3;
 use super::bounds::Validity;
@@ -39,7 +39,9 @@ pub struct Prepared {
 }
 
 pub fn prepare(query: Query) -> Prepared
-    ensures { λ r. ⌜ Holds r query ⌝ }
+    ensures { λ r. ⌜ r .p ≡ query .p ⌝ }
+    ensures { λ r. ⌜ r .«is_finite» ≡ finiteQuery query ⌝ }
+    ensures { λ r. ⌜ heldNormal r ≡ unitNormal (query .n) ⌝ }
 {
     let p = query.p;
     let n = query.n;

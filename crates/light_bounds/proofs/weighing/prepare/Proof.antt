@@ -10,33 +10,31 @@ use Rattle.light_bounds.proofs.weighing.prepare.Tie as tie
 
 returns : tie.Need-returns
 unfolding unitNormal
-returns c = record {
-  point = refl;
-  known = c .before .before .is-finite-query .ensures;
-  normal = rw (← c .before .dot .ensures, c .if1 .taken);
-}
+returns c = (refl, (c .before .before .is-finite-query .ensures, rw (← c .before .dot .ensures, c .if1 .taken)))
 
 returns-2 : tie.Need-returns-2
 unfolding unitNormal _then_
 returns-2 c =
-    let tested = c .before .before .before .before in
-    record {
-      point = refl;
-      known = tested .before .before .is-finite-query .ensures;
-      normal = rw (← tested .before .dot .ensures, tested .if1 .left, ← c .before .before .before .normalize .ensures, c .before .unit .given .1);
-    }
+    let tested = c .before .before .before .before in (
+      refl,
+      (
+        tested .before .before .is-finite-query .ensures,
+        rw (← tested .before .dot .ensures, tested .if1 .left, ← c .before .before .before .normalize .ensures, c .before .unit .given .1),
+      ),
+    )
 
 returns-3 : tie.Need-returns-3
 unfolding unitNormal _then_
 returns-3 c =
     let tested = c .before .before .before in
-    record {
-      point = refl;
-      known = tested .before .before .is-finite-query .ensures;
-      normal =
-          rw (← tested .before .dot .ensures, tested .if1 .left)
-          (rw (no-direction (tested .before .before .before .before .before .args .query .n) (sym (c .before .before .normalize .ensures) ∙ ap normalized (c .enum-told .given .1))));
-    }
+    let vector = tested .before .before .before .before .before .args .query .n in (
+      refl,
+      (
+        tested .before .before .is-finite-query .ensures,
+        rw (← tested .before .dot .ensures, tested .if1 .left)
+            (rw (no-direction vector (sym (c .before .before .normalize .ensures) ∙ ap normalized (c .enum-told .given .1)))),
+      ),
+    )
 
 pub prepare-spec : {M : Type 1} → statement M
 prepare-spec =

@@ -15,7 +15,7 @@ use Rattle.light_bounds.proofs.weighing.view.Tie as tie
 delta : (c : tie.After-sub) (q : Query) → Holds (c .before .before .args .query) q → (let s = c .before .before .args in minus (q .p) (centroid (s .record .bounds))) ≡ c .sub .result
 delta c q held =
     let s = c .before .before .args in
-    sym (c .sub .ensures ∙ ap (λ (v : Vec3). minus (s .query .p) v) (c .before .centroid .ensures) ∙ ap (λ (v : Vec3). minus v (centroid (s .record .bounds))) (held .point))
+    sym (c .sub .ensures ∙ ap (λ (v : Vec3). minus (s .query .p) v) (c .before .centroid .ensures) ∙ ap (λ (v : Vec3). minus v (centroid (s .record .bounds))) (held .0))
 
 returns : tie.Need-returns
 unfolding geometry

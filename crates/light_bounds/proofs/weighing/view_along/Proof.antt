@@ -14,12 +14,12 @@ use Rattle.light_bounds.proofs.weighing.view_along.Tie as tie
 
 seen : (c : tie.After-subtended) (q : Query) → Holds (c .before .before .before .before .before .args .query) q
     → boundSubtendedDirections (c .before .before .before .before .before .args .record .bounds) (q .p) ≡ c .subtended .result
-seen c q held = rw (← held .point) (sym (c .subtended .ensures))
+seen c q held = rw (← held .0) (sym (c .subtended .ensures))
 
 returns : tie.Need-returns
 returns c q held =
     let a = c .before .before .args in
-    sym (plain (a .record) (a .d2) (a .wi) held (sym (c .before .is-plain .ensures) ∙ c .if1 .taken))
+    sym (plain (a .record) (a .d2) (a .wi) (a .query) q held (sym (c .before .is-plain .ensures) ∙ c .if1 .taken))
 
 returns-2 : tie.Need-returns-2
 unfolding toward

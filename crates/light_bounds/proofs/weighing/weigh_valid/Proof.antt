@@ -7,11 +7,11 @@ use Rattle.light_bounds.proofs.weighing.weigh_valid.Tie as tie
 
 returns : tie.Need-returns
 unfolding checkedImportance
-returns c q held = rw (← held .known, c .before .before .if1 .taken, ← c .before .view .ensures q held) (c .finished .ensures)
+returns c q held = rw (← held .1 .0, c .before .before .if1 .taken, ← c .before .view .ensures q held) (c .finished .ensures)
 
 returns-2 : tie.Need-returns-2
 unfolding checkedImportance
-returns-2 c q held = rw (← held .known, c .if1 .left)
+returns-2 c q held = rw (← held .1 .0, c .if1 .left)
 
 pub weigh-valid-spec : {M : Type 1} → statement M
 weigh-valid-spec = tie.close (tie.spec (λ c κs. search needs) (λ c κs. search needs) returns returns-2)

@@ -29,7 +29,7 @@ returns c =
     let at = c .before .before .before .before in
     let stands = sym (at .parent-at .ensures) ∙ ap aboveOf (c .before .before .parent .given .1) in
     let start = at .before .before .before in
-    sym (ascend-root _ _ _ _ _ (at .before .loop-test .taken) stands (c .if1 .taken)) ∙ at .before .before .loop .inv _ (start .prepare .ensures)
+    sym (ascend-root _ _ _ _ _ (at .before .loop-test .taken) stands (c .if1 .taken)) ∙ at .before .before .loop .inv (start .before .before .args .query) (start .prepare .ensures)
 
 loop-again : tie.Need-loop-again Inv-loop μ-loop
 loop-again c q h =
@@ -46,8 +46,8 @@ returns-2 c =
     let at = inner .before .before .before .before in
     let start = at .before .before .before in
     let stands = sym (at .parent-at .ensures) ∙ ap aboveOf (inner .before .before .parent .given .1) in
-    let step = sym (c .before .before .rise .ensures _ (start .prepare .ensures)) ∙ ap factorOf (c .enum-told .given .1) in
-    sym (ascend-nought _ _ _ _ _ (at .before .loop-test .taken) stands (inner .if1 .left) step) ∙ at .before .before .loop .inv _ (start .prepare .ensures)
+    let step = sym (c .before .before .rise .ensures (start .before .before .args .query) (start .prepare .ensures)) ∙ ap factorOf (c .enum-told .given .1) in
+    sym (ascend-nought _ _ _ _ _ (at .before .loop-test .taken) stands (inner .if1 .left) step) ∙ at .before .before .loop .inv (start .before .before .args .query) (start .prepare .ensures)
 
 returns-3 : tie.Need-returns-3 Inv-loop μ-loop
 returns-3 c =
@@ -55,18 +55,18 @@ returns-3 c =
     let at = inner .before .before .before .before in
     let start = at .before .before .before in
     let stands = sym (at .parent-at .ensures) ∙ ap aboveOf (inner .before .before .parent .given .1) in
-    let step = sym (c .before .before .before .rise .ensures _ (start .prepare .ensures)) ∙ ap factorOf (c .before .why .given .1) in
-    sym (ascend-refused _ _ _ _ _ (at .before .loop-test .taken) stands (inner .if1 .left) step) ∙ at .before .before .loop .inv _ (start .prepare .ensures)
+    let step = sym (c .before .before .before .rise .ensures (start .before .before .args .query) (start .prepare .ensures)) ∙ ap factorOf (c .before .why .given .1) in
+    sym (ascend-refused _ _ _ _ _ (at .before .loop-test .taken) stands (inner .if1 .left) step) ∙ at .before .before .loop .inv (start .before .before .args .query) (start .prepare .ensures)
 
 returns-4 : tie.Need-returns-4 Inv-loop μ-loop
 returns-4 c =
     let at = c .before .before in
     let start = at .before .before .before in
     let stands = sym (at .parent-at .ensures) ∙ ap aboveOf (c .enum-told2 .given .1) in
-    sym (ascend-unknown _ _ _ _ _ (at .before .loop-test .taken) stands) ∙ at .before .before .loop .inv _ (start .prepare .ensures)
+    sym (ascend-unknown _ _ _ _ _ (at .before .loop-test .taken) stands) ∙ at .before .before .loop .inv (start .before .before .args .query) (start .prepare .ensures)
 
 returns-5 : tie.Need-returns-5 Inv-loop μ-loop
-returns-5 c = sym (ascend-spent _ _ _ _ _ (c .loop-test .left)) ∙ c .before .loop .inv _ (c .before .before .prepare .ensures)
+returns-5 c = sym (ascend-spent _ _ _ _ _ (c .loop-test .left)) ∙ c .before .loop .inv (c .before .before .before .before .args .query) (c .before .before .prepare .ensures)
 
 pub ascend-spec : {M : Type 1} → statement M
 ascend-spec =

@@ -44,7 +44,7 @@ returns c =
     let at = c .before .before .before in
     let start = at .before .before .before in
     let stands = sym (at .node-at .ensures) ∙ ap node (c .before .handle .given .1) in
-    sym (descend-leaf _ _ _ _ _ _ (at .before .loop-test .taken) stands) ∙ at .before .before .loop .inv _ (start .prepare .ensures)
+    sym (descend-leaf _ _ _ _ _ _ (at .before .loop-test .taken) stands) ∙ at .before .before .loop .inv (start .before .before .args .query) (start .prepare .ensures)
 
 loop-again : tie.Need-loop-again Inv-loop μ-loop
 loop-again c q h =
@@ -68,8 +68,8 @@ returns-2 c =
     let at = turn .before .before .before .before in
     let start = at .before .before .before in
     let stands = sym (at .node-at .ensures) ∙ ap node (turn .before .before .right .given .1) in
-    let way = sym (turn .turn .ensures _ (start .prepare .ensures)) ∙ ap wayOf (c .before .before .before .to .given .1) ∙ ap (λ t. given (turned t)) (c .enum-told .given .1) in
-    sym (descend-neither _ _ _ _ _ _ (at .before .loop-test .taken) stands way) ∙ at .before .before .loop .inv _ (start .prepare .ensures)
+    let way = sym (turn .turn .ensures (start .before .before .args .query) (start .prepare .ensures)) ∙ ap wayOf (c .before .before .before .to .given .1) ∙ ap (λ t. given (turned t)) (c .enum-told .given .1) in
+    sym (descend-neither _ _ _ _ _ _ (at .before .loop-test .taken) stands way) ∙ at .before .before .loop .inv (start .before .before .args .query) (start .prepare .ensures)
 
 returns-3 : tie.Need-returns-3 Inv-loop μ-loop
 returns-3 c =
@@ -77,18 +77,18 @@ returns-3 c =
     let at = turn .before .before .before .before in
     let start = at .before .before .before in
     let stands = sym (at .node-at .ensures) ∙ ap node (turn .before .before .right .given .1) in
-    let way = sym (turn .turn .ensures _ (start .prepare .ensures)) ∙ ap wayOf (c .before .why .given .1) in
-    sym (descend-refused _ _ _ _ _ _ (at .before .loop-test .taken) stands way) ∙ at .before .before .loop .inv _ (start .prepare .ensures)
+    let way = sym (turn .turn .ensures (start .before .before .args .query) (start .prepare .ensures)) ∙ ap wayOf (c .before .why .given .1) in
+    sym (descend-refused _ _ _ _ _ _ (at .before .loop-test .taken) stands way) ∙ at .before .before .loop .inv (start .before .before .args .query) (start .prepare .ensures)
 
 returns-4 : tie.Need-returns-4 Inv-loop μ-loop
 returns-4 c =
     let at = c .before .before in
     let start = at .before .before .before in
     let stands = sym (at .node-at .ensures) ∙ ap node (c .enum-told2 .given .1) in
-    sym (descend-unknown _ _ _ _ _ _ (at .before .loop-test .taken) stands) ∙ at .before .before .loop .inv _ (start .prepare .ensures)
+    sym (descend-unknown _ _ _ _ _ _ (at .before .loop-test .taken) stands) ∙ at .before .before .loop .inv (start .before .before .args .query) (start .prepare .ensures)
 
 returns-5 : tie.Need-returns-5 Inv-loop μ-loop
-returns-5 c = sym (descend-spent _ _ _ _ _ _ (c .loop-test .left)) ∙ c .before .loop .inv _ (c .before .before .prepare .ensures)
+returns-5 c = sym (descend-spent _ _ _ _ _ _ (c .loop-test .left)) ∙ c .before .loop .inv (c .before .before .before .before .args .query) (c .before .before .prepare .ensures)
 
 pub descend-spec : {M : Type 1} → statement M
 descend-spec =
