@@ -6,11 +6,11 @@ use mathlib.Core.Bool.{Bool, true, false, not, cond, _||_}
 use mathlib.Core.Logic.{_⊎_, inl, inr}
 use native.Mathlib.Nat.{mul-one, zero-mul, mul-assoc, mul-pos, mul-le-mul, mul-le-mul-right, lt-of-not-le, le-of-lt, le-of-mul-le-mul-right}
 use native.Mathlib.Omega.{arith}
-use lib.Dec.{T, not-T, eqb, ltb, eqb→eq, ltb→lt}
+use lib.Dec.{T, not-T, eqb→eq, ltb→lt}
 use borrow.Author.Tests.{ne-eqb}
 use lib.IntN.{ℤ, pos, negsuc}
 use lib.Pow.{pow-pos, pow-add}
-use lib.Ieee.{Format, binary32, Float, nan, inf, fin, low, up, down, unlike, round, add, sub, mul, div, lt, le, ne, fits, isNan, ofBits, eq, neg, sum}
+use lib.Ieee.{Format, binary32, Float, nan, inf, fin, low, up, down, round, add, sub, mul, div, lt, le, fits, isNan, ofBits, eq, neg, sum}
 use lib.Ieee.Back.{whole-unique}
 use lib.Ieee.Bits.{is-false, ofBits-fits}
 use lib.Ieee.Digits.{back}
@@ -26,9 +26,9 @@ use Rattle.ieee.specs.OrderLaws.{or-right, nonneg, nonneg→le, nonneg-known, l
 use Rattle.ieee.specs.Patterns.{pow-le-inv}
 use Rattle.ieee.specs.Single.{_⊕_, _⊖_, _⊗_, _⊘_, zerof, half, onef, minusOne}
 use Rattle.ieee.specs.Sqrt.{sqrt}
-use Rattle.ieee.specs.SqrtNearest.{NearestRoot, sqrt-nearest}
+use Rattle.ieee.specs.SqrtNearest.{sqrt-nearest}
 use Rattle.light_bounds.specs.Bounds.{diagonal, centroid}
-use Rattle.light_bounds.specs.Cones.{safeSqrt, cosSubClamped, sinSubClamped, boundSubtendedDirections}
+use Rattle.light_bounds.specs.Cones.{safeSqrt, cosSubClamped, boundSubtendedDirections}
 use Rattle.light_bounds.specs.Importance.{sine, cosW, cosP, distance2}
 use Rattle.light_bounds.specs.Vecmath.{dot, minus, vecLength}
 use Rattle.light_bounds.proofs.Clamped.{cut-cos, cut-sin}

@@ -1,10 +1,11 @@
-// Weighing for a walk (specs/Weighing.antt): the importance of many records for one query. What hangs on the query alone is worked out once.
+// Weighing for a walk (specs/Weighing.antt): the importance of many records for one query. What hangs on the query alone is worked out once, and a root that
+// decides nothing is not taken. `importance` has the plain steps. It is not called here: the archive's compiler lays a function that is called in one place
+// into its caller, and this one belongs into the walk's.
 ghost use mathlib.Core.Path.{_≡_};
 ghost use Rattle.light_bounds.specs.Importance.{weigh as weighOf, checkedImportance, finiteQuery, weight, viewed};
 ghost use Rattle.light_bounds.specs.Importance.{geometry as geometryOf, toward as towardOf, distance2 as distance2Of, withNormal};
 ghost use Rattle.light_bounds.specs.Weighing.{Holds, isPlain, heldNormal, unitNormal};
 ghost use Rattle.light_bounds.specs.declared.importance.Query.{Query};
-use super::bounds::Bounds3;
 use super::bounds::Validity;
 use super::bounds::centroid;
 use super::bounds::diagonal;

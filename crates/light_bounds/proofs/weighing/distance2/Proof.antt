@@ -1,5 +1,5 @@
 -- `light_bounds::weighing::distance2` meets its contract: from far enough the diagonal's length decides nothing. Assumes nothing.
-use mathlib.Core.Path.{_≡_, sym, _∙_}
+use mathlib.Core.Path.{sym, _∙_}
 use Rattle.light_bounds.specs.Importance.{distance2}
 use Rattle.light_bounds.proofs.RootLaws.{far}
 use borrow.Author.Needs.{needs}

@@ -1,6 +1,6 @@
 -- `light_bounds::weighing::weigh_valid` meets its contract: 5, then how the query sees the record. Assumes nothing.
 use Rattle.words.specs.Answers.{_then_}
-use Rattle.light_bounds.specs.Importance.{checkedImportance, finishView}
+use Rattle.light_bounds.specs.Importance.{checkedImportance}
 use borrow.Author.Needs.{needs}
 use Rattle.light_bounds.proofs.weighing.weigh_valid.Statement.{statement}
 use Rattle.light_bounds.proofs.weighing.weigh_valid.Tie as tie

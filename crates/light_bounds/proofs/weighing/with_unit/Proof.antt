@@ -1,9 +1,9 @@
 -- `light_bounds::weighing::with_unit` meets its contract: what is held of the normal is what `withNormal` makes of it. Assumes nothing.
-use mathlib.Core.Path.{_≡_, sym, _∙_, ap}
+use mathlib.Core.Path.{_∙_, ap}
 use lib.Ieee.{Float}
 use Rattle.words.specs.Answers.{given}
 use Rattle.light_bounds.specs.Importance.{facing, normalFactor}
-use Rattle.light_bounds.proofs.WeighingLaws.{withUnit, held-unit}
+use Rattle.light_bounds.proofs.WeighingLaws.{held-unit}
 use borrow.Author.Needs.{needs}
 use borrow.Author.Tests.{not-true, not-false}
 use Rattle.light_bounds.proofs.weighing.with_unit.Statement.{statement}
