@@ -1,1 +1,3 @@
 pub mod PackLaws
+pub mod CutLaws
+pub mod QuantizeCuts

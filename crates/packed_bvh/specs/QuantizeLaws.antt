@@ -39,7 +39,7 @@ outward-small true m e n h =
     let s : q < n + 1 = lt-of-mul-lt-mul-right (down e) l in
     omega arith
 
-cast-negative : (w : ℕ) (v : Float) (n : ℕ) → HasValue v true n 1 → toUnsigned w v ≡ 0
+pub cast-negative : (w : ℕ) (v : Float) (n : ℕ) → HasValue v true n 1 → toUnsigned w v ≡ 0
 unfolding toUnsigned
 cast-negative w nan n h = refl
 cast-negative w (inf t) n h = absurd h
@@ -118,7 +118,7 @@ steps-under value lo hi =
       | inr h ↦ portion-steps x h
     ]
 
-steps-fit : (value lo hi : Float) → T (fits binary32 (stepsOf value lo hi))
+pub steps-fit : (value lo hi : Float) → T (fits binary32 (stepsOf value lo hi))
 unfolding stepsOf
 steps-fit value lo hi = mul-fits binary32 (clamp ((value ⊖ lo) ⊘ (hi ⊖ lo)) zerof onef) lastStep
 
