@@ -1,13 +1,13 @@
 -- The value without its sign is the greater of x and 0 - x: of two zeros 0 - x, which is +0. Assumes nothing.
 use Prim.Native.Nat.{ℕ, zero, suc, _+_, _*_, _-_, _<_}
-use mathlib.Core.Path.{_≡_, refl, _∙_, ap}
+use mathlib.Core.Path.{_≡_, refl}
 use mathlib.Core.Bool.{Bool, true, false, cond}
-use native.Mathlib.Nat.{zero-mul, one-mul, mul-pos, zero-lt-suc}
+use native.Mathlib.Nat.{zero-add, sub-zero, zero-mul, one-mul, mul-one, mul-pos, zero-lt-suc}
 use native.Mathlib.Omega.{arith}
 use borrow.Author.Tests.{lt-ltb, le-ltb}
 use lib.Dec.{T}
 use lib.IntN.{ℤ, pos}
-use lib.Ieee.{Float, nan, inf, fin, Format, up, down, sum, add, sub, neg, lt, fits, round}
+use lib.Ieee.{Float, nan, inf, fin, Format, up, down, sum, add, sub, neg, lt, fits}
 use lib.Ieee.Fits.{up-pos, down-pos, neg-fits}
 use Rattle.ieee.specs.Choose.{fabs}
 use Rattle.ieee.specs.FormatLaws.{fabs-fits, round-self}
@@ -18,16 +18,16 @@ module _ (f : Format) (m : ℕ) (e : ℤ) where
   none = zero-mul (down e)
 
   itself : m * up e * 1 ≡ m * up e
-  itself = native.Mathlib.Nat.mul-one (m * up e)
+  itself = mul-one (m * up e)
 
   below : T (fits f (fin true m e)) → sub f (fin false 0 (pos 0)) (fin true m e) ≡ fin false m e
   unfolding sub add neg sum fabs
-  below F = rw (none, itself, one-mul (down e), native.Mathlib.Nat.zero-add (m * up e)) (round-self f false m e (fabs-fits f (fin true m e) F))
+  below F = rw (none, itself, one-mul (down e), zero-add (m * up e)) (round-self f false m e (fabs-fits f (fin true m e) F))
 
   above : 0 < m * up e → T (fits f (fin false m e)) → sub f (fin false 0 (pos 0)) (fin false m e) ≡ fin true m e
   unfolding sub add neg sum
   above h F =
-      rw (none, itself, one-mul (down e), lt-ltb 0 (m * up e) h, native.Mathlib.Nat.sub-zero (m * up e))
+      rw (none, itself, one-mul (down e), lt-ltb 0 (m * up e) h, sub-zero (m * up e))
       (round-self f true m e (neg-fits f (fin false m e) F))
 
   at : m * up e ≡ 0 → T (fits f (fin false m e)) → sub f (fin false 0 (pos 0)) (fin false m e) ≡ fin false m e

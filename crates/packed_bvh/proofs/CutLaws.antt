@@ -1,16 +1,16 @@
--- Casts of whole numbers next to a value, by the cast n of the value itself, which cuts toward zero: floor changes no cast; ceil's is n + 1 where n lies below
--- the value; round's is n + 1 where n and a half is at most the value, and at least n. Assumes nothing.
-use Prim.Native.Nat.{ℕ, suc, _+_, _*_, _-_, _/_, _%_, _^_, _≤_, _<_, min, zero-le}
+-- Casts of the whole numbers next to a value, by the cast n of the value itself, which cuts toward zero: floor changes no cast; ceil's is n + 1 where n lies
+-- below the value, else n; round's is n + 1 where n and a half is at most the value, else n. Assumes nothing.
+use Prim.Native.Nat.{ℕ, suc, _+_, _*_, _-_, _/_, _^_, _≤_, _<_, min, zero-le}
 use mathlib.Core.Path.{_≡_, refl, sym, _∙_, ap, subst}
 use mathlib.Core.Bool.{Bool, true, false, cond}
 use mathlib.Core.Logic.{_↔_, _⊎_, inl, inr}
 use native.Mathlib.Nat.{le-of-mul-le-mul-right, lt-of-mul-lt-mul-right, mul-le-mul-right, mul-lt-mul-of-pos-right, mul-pos, div-add-mod', mod-lt}
-use native.Mathlib.Nat.{min-eq-left, eq-of-mul-eq-mul-right, lt-of-lt-of-le, lt-of-not-le}
+use native.Mathlib.Nat.{eq-of-mul-eq-mul-right, lt-of-lt-of-le, lt-of-not-le}
 use native.Mathlib.Omega.{arith}
 use lib.Dec.{T, lit<, lit≤, ltb→lt, lt→ltb}
 use lib.IntN.{ℤ, pos}
 use lib.Pow.{pow-pos, pow-mono, shl-lt}
-use lib.Ieee.{Float, nan, inf, fin, Format, binary32, prec, up, down, add, lt, le, eq, fits, round, ofInt, ofBits, toUnsigned}
+use lib.Ieee.{Float, nan, inf, fin, Format, binary32, up, down, add, lt, le, eq, fits, round, ofInt, ofBits, toUnsigned}
 use lib.Ieee.Back.{round-whole}
 use lib.Ieee.Exact.{HasValue, round-exact}
 use lib.Ieee.Fits.{down-pos}
@@ -23,7 +23,6 @@ use Rattle.packed_bvh.specs.QuantizeLaws.{cast-negative}
 
 -- ---- a whole number cast
 
--- the cast of a value of q
 whole-cast : (w : ℕ) (v : Float) (q : ℕ) → HasValue v false q 1 → toUnsigned w v ≡ min q (2 ^ w - 1)
 whole-cast w v q h = toUnsigned-units w v q 1 (lit< tt) h ∙ omega arith
 
@@ -127,15 +126,14 @@ module _ (m : ℕ) (e : ℤ) (n : ℕ) (lo : n * down e ≤ m * up e) where
 
 -- ---- n and a half, as a float
 
+-- one value as another fraction
 rescale : (v : Float) (a c a' c' : ℕ) → 0 < c → a * c' ≡ a' * c → HasValue v false a c → HasValue v false a' c'
 rescale nan a c a' c' C h k = k
 rescale (inf t) a c a' c' C h k = k
-rescale (fin t p d) a c a' c' C h k = (
-  k .0,
-  let q : p * up d * c * c' ≡ a * down d * c' = ap (λ (z : ℕ). z * c') (k .1) in
-  let r : a * c' * down d ≡ a' * c * down d = ap (λ (z : ℕ). z * down d) h in
-  eq-of-mul-eq-mul-right c C (p * up d * c') (a' * down d) (omega arith),
-)
+rescale (fin t p d) a c a' c' C h k =
+    let q : p * up d * c * c' ≡ a * down d * c' = ap (λ (z : ℕ). z * c') (k .1) in
+    let r : a * c' * down d ≡ a' * c * down d = ap (λ (z : ℕ). z * down d) h in
+    (k .0, eq-of-mul-eq-mul-right c C (p * up d * c') (a' * down d) (omega arith))
 
 and-half : (n : ℕ) → 2 * n + 1 < 2 ^ 24 → HasValue (ofInt binary32 (pos n) ⊕ half) false (2 * n + 1) 2
 unfolding ofInt
@@ -194,7 +192,7 @@ not-le (fin false p d) a c A h (fin s m g) (inr e) t =
     let R : p * up d * c ≤ 0 * c = mul-le-mul-right c (le-of-mul-le-mul-right Q (down-pos g)) in
     omega arith
 
--- the float of a cast n that is short of the largest number
+-- n is the cast, and short of the largest number
 module _ (w : ℕ) (x : Float) (F : T (fits binary32 x)) (n : ℕ) (is : n ≡ toUnsigned w x) (short : n + 1 < 2 ^ w) where
   pub cut-ceil : n ≤ 2 ^ 24 → toUnsigned w (ceil binary32 x) ≡ cond (lt (ofInt binary32 (pos n)) x) (n + 1) n
   unfolding ceil nextWhole toUnsigned ofInt

@@ -1,15 +1,15 @@
 -- The quantised numbers by casts without floor, ceil and round (CutLaws.antt). Assumes nothing.
-use Prim.Native.Nat.{ℕ, _+_, _*_, _^_, _≤_, _<_}
+use Prim.Native.Nat.{ℕ, _+_, _≤_, _<_}
 use mathlib.Core.Path.{_≡_, refl, sym}
 use mathlib.Core.Bool.{Bool, true, false, cond}
 use native.Mathlib.Omega.{arith}
-use borrow.Author.Tests.{lt-ltb, le-ltb, ltb-false}
-use lib.Dec.{ltb, lit<}
+use borrow.Author.Tests.{le-ltb, ltb-false}
+use lib.Dec.{ltb}
 use lib.IntN.{pos}
 use lib.Ieee.{Float, binary32, eq, lt, le, ofInt}
 use lib.Ieee.Fits.{mul-fits}
 use Rattle.ieee.specs.Single.{_⊕_, _⊗_, _⊘_, half, onef, twof}
-use Rattle.ieee.specs.Whole.{ceil, floor, roundAway, toU16, toU32}
+use Rattle.ieee.specs.Whole.{roundAway, toU16, toU32}
 use Rattle.packed_bvh.specs.Quantize.{lastStep, lastCosStep, stepsOf, quantizeBounds, quantizeCos, quantizeAxis}
 use Rattle.packed_bvh.specs.QuantizeLaws.{steps-fit, quantize-small}
 use Rattle.packed_bvh.proofs.CutLaws.{cut-floor, cut-ceil, cut-round, cut-least}
