@@ -118,7 +118,7 @@ steps-under value lo hi =
       | inr h ↦ portion-steps x h
     ]
 
-steps-fit : (value lo hi : Float) → T (fits binary32 (stepsOf value lo hi))
+pub steps-fit : (value lo hi : Float) → T (fits binary32 (stepsOf value lo hi))
 unfolding stepsOf
 steps-fit value lo hi = mul-fits binary32 (clamp ((value ⊖ lo) ⊘ (hi ⊖ lo)) zerof onef) lastStep
 
