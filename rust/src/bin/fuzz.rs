@@ -49,7 +49,14 @@ unsafe extern "C" {
         out: *mut u8,
         out_len: usize,
     ) -> u64;
-    fn light_alias_table(weights: *const u32, len: usize, bins: *mut u32, bins_len: usize, work: *mut u32, work_len: usize) -> u32;
+    fn light_alias_table(
+        weights: *const u32,
+        len: usize,
+        bins: *mut u32,
+        bins_len: usize,
+        work: *mut u32,
+        work_len: usize,
+    ) -> u32;
 }
 
 const PAGE: usize = 4096;
@@ -179,7 +186,11 @@ fn count(counts: &mut Counts, name: &'static str, answer: String) {
 
 /// What a code that tells nothing but refusals says.
 fn code(code: u32) -> String {
-    if code == 0 { "done".into() } else { format!("refused {code}") }
+    if code == 0 {
+        "done".into()
+    } else {
+        format!("refused {code}")
+    }
 }
 
 struct Zones {
@@ -224,10 +235,7 @@ fn main() {
     let mut words = std::env::args().skip(1).map(number);
     let (calls, seed): (u64, u64) = (words.next().unwrap_or(1_000_000), words.next().unwrap_or(1));
     let mut random = Random::new(seed);
-    let zones = Zones {
-        inputs: [0; 2].map(|_| Zone::new(64 * 8400)),
-        outputs: [0; 4].map(|_| Zone::new(64 * 300)),
-    };
+    let zones = Zones { inputs: [0; 2].map(|_| Zone::new(64 * 8400)), outputs: [0; 4].map(|_| Zone::new(64 * 300)) };
     let mut counts = Counts::new();
     let mut trees: Vec<Built> = Vec::new();
     let mut done = 0;
@@ -274,7 +282,8 @@ fn main() {
                 for handle in 0..lamps {
                     let kind = if whole { 1 + random.below(3) } else { random.below(4) } as u32;
                     list.push(kind << 30 | handle);
-                    let plain = |random: &mut Random, n: u64| (0..n).map(|_| random.within(2.0).abs().to_bits()).collect::<Vec<u32>>();
+                    let plain =
+                        |random: &mut Random, n: u64| (0..n).map(|_| random.within(2.0).abs().to_bits()).collect::<Vec<u32>>();
                     match kind {
                         1 => list.extend(plain(&mut random, 5)),
                         2 => list.extend(plain(&mut random, 8).into_iter().chain([0x3f66_6666, 0x3f00_0000])),
