@@ -55,6 +55,10 @@ int main(void)
     static const float us[] = {0.25f, 0.75f};
     for (int i = 0; i < 2; i++) {
         uint64_t draw = light_sample(tree, tree_len, 1, 0, 1, 0, 0, 0, us[i]);
+        if (light_is_none(draw)) {
+            puts("none");
+            return 1;
+        }
         if (!light_is_drawn(draw))
             fail("draw", light_refusal(draw));
         uint32_t handle = light_handle(draw);

@@ -238,7 +238,7 @@ uint32_t light_build(size_t lights,
  * Answers a number to be taken apart by the functions below:
  *
  *     a lamp is drawn   the handle times 2^32, and the bits of the chance with which it is drawn
- *     none is drawn     2^62: there are no nodes, or nothing that shines on the point at some fork
+ *     none is drawn     2^62: there are no nodes, or at a fork neither side shines on the point
  *     refused           2^63 and the refusal's number: 2, 1, 11, then, on the way down, 12 by a node,
  *                       5 to 8 by a record that is weighed, 5 or 7 by the point or the normal
  *
@@ -289,7 +289,7 @@ static inline float light_chance(uint64_t answer)
  * wrote, 4 m of them; a point and a normal as light_sample does; and the lamp's handle.
  *
  * Answers the chance's bits (light_chance), below 2^32: 0 for a handle past the table, for a lamp
- * that is not powered, and where nothing shines on the point at a fork on the way; or 2^32 and the
+ * that is not powered, and where at a fork on the way neither side shines on the point; or 2^32 and the
  * refusal's number (light_pmf_refusal): 2, 1, then, on the way up, 12 by a node, 5 to 8 by a record
  * that is weighed, 5 or 7 by the point or the normal. Both chances multiply rounded shares, in
  * opposite orders, so their last digits can differ; they differ grossly where a sum of weights

@@ -1,3 +1,5 @@
 pub mod Clamped
 pub mod LateLaws
 pub mod RecordPlaces
+pub mod RootLaws
+pub mod WeighingLaws

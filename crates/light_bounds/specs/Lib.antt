@@ -4,6 +4,7 @@ pub mod Cones
 pub mod Side
 pub mod LightBounds
 pub mod Importance
+pub mod Weighing
 pub mod RecordWords
 pub mod SideLaws
 pub mod RecordLaws

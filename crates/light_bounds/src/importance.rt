@@ -62,14 +62,14 @@ fn finite_importance(record: LightBounds, query: Query) -> Weight
     Weight::Refused(Refusal::NotFinite)
 }
 
-fn is_finite_query(query: Query) -> bool
+pub(crate) fn is_finite_query(query: Query) -> bool
     ensures { λ r. ⌜ r ≡ finiteQuery query ⌝ }
 {
     is_finite_vec(query.p) && is_finite_vec(query.n)
 }
 
 // How a query sees a record: `Dark` weighs nothing; `Lit` has a cosine and a squared distance, `Facing` the normal's factor too.
-enum View {
+pub(crate) enum View {
     Dark,
     Lit(f32, f32),
     Facing(f32, f32, f32),
@@ -77,7 +77,7 @@ enum View {
 }
 
 // The power enters here alone.
-fn finished(phi: f32, view: View) -> Weight
+pub(crate) fn finished(phi: f32, view: View) -> Weight
     ensures { λ r. ⌜ weight r ≡ finishView phi (viewed view) ⌝ }
 {
     match view {
@@ -122,7 +122,7 @@ fn sine(c: f32) -> f32
     safe_sqrt(1.0 - c * c)
 }
 
-fn cos_w(record: LightBounds, wi: Vec3) -> f32
+pub(crate) fn cos_w(record: LightBounds, wi: Vec3) -> f32
     ensures { λ r. ⌜ r ≡ cosW «record» wi ⌝ }
 {
     let c = dot(record.direction, wi);
@@ -130,7 +130,7 @@ fn cos_w(record: LightBounds, wi: Vec3) -> f32
 }
 
 // The cosine of the smallest angle between the cone's directions and the box's. A sine is taken only where the angle it belongs to is not cut to 0.
-fn smallest_angle(record: LightBounds, wi: Vec3, cos_b: f32) -> f32
+pub(crate) fn smallest_angle(record: LightBounds, wi: Vec3, cos_b: f32) -> f32
     ensures { λ r. ⌜ r ≡ cosP «record» wi «cos_b» ⌝ }
 {
     let w = cos_w(record, wi);
@@ -168,7 +168,7 @@ fn with_normal(n: Vec3, wi: Vec3, cos_b: f32, cos_p: f32, d2: f32) -> View
 }
 
 // The normal's factor, by the cosine between it and the direction.
-fn facing(c: f32, cos_b: f32) -> f32
+pub(crate) fn facing(c: f32, cos_b: f32) -> f32
     ensures { λ r. ⌜ r ≡ normalFactor c «cos_b» ⌝ }
 {
     let i = abs(c);

@@ -6,3 +6,4 @@ pub mod light_bounds;
 pub mod record_words;
 pub mod side;
 pub mod vecmath;
+pub mod weighing;

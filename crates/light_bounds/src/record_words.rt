@@ -1,7 +1,7 @@
 // Records as words (specs/RecordWords.antt): box min and max, direction, phi, the two cosines, side. The layout of a record is here alone.
 ghost use mathlib.Core.Path.{_≡_};
-ghost use Prim.Native.Nat.{ℕ, _+_, _/_, _≤_};
-ghost use lib.ListN.{length};
+ghost use Prim.Native.Nat.{ℕ, _+_, _/_, _≤_, _<_};
+ghost use lib.ListN.{getD, length};
 ghost use lib.Seq.{sets};
 ghost use Rattle.words.specs.LittleEndian.{wordsOf};
 ghost use Rattle.light_bounds.specs.RecordWords.{recordWords, readRecord, recordAt, found, writtenAt, vecAt, boxAt, vecWords, restWords, recordList};
@@ -14,7 +14,6 @@ use super::vecmath::Vec3;
 use words::floats::f32_of_word;
 use words::floats::word_of_f32;
 use words::limits::fits;
-use words::little_endian::word_at;
 use words::places::word_or_zero;
 
 // The words of a record.
@@ -121,16 +120,16 @@ fn record_at_bytes(bytes: &[u8], at: usize) -> Found
     requires { ⌜ at + recordWords ≤ length (now bytes) / 4 ⌝ }
     ensures { λ r. ⌜ ((n : ℕ) → found n r ≡ recordAt n (wordsOf (now (bytes .entry))) at) ⌝ }
 {
-    let side = word_at(bytes, at + SIDE_PLACE);
+    let side = word_in(bytes, at + SIDE_PLACE);
     if is_side(side) {
         let min = vec_at_bytes(bytes, at);
         let max = vec_at_bytes(bytes, at + 3);
         return Found::Record(LightBounds::new(
             Bounds3 { min, max },
             vec_at_bytes(bytes, at + 6),
-            f32_of_word(word_at(bytes, at + 9)),
-            f32_of_word(word_at(bytes, at + 10)),
-            f32_of_word(word_at(bytes, at + 11)),
+            f32_of_word(word_in(bytes, at + 9)),
+            f32_of_word(word_in(bytes, at + 10)),
+            f32_of_word(word_in(bytes, at + 11)),
             side_of(side),
         ));
     }
@@ -142,10 +141,23 @@ fn vec_at_bytes(bytes: &[u8], at: usize) -> Vec3
     ensures { λ r. ⌜ r ≡ vecAt (wordsOf (now (bytes .entry))) at ⌝ }
 {
     Vec3 {
-        x: f32_of_word(word_at(bytes, at)),
-        y: f32_of_word(word_at(bytes, at + 1)),
-        z: f32_of_word(word_at(bytes, at + 2)),
+        x: f32_of_word(word_in(bytes, at)),
+        y: f32_of_word(word_in(bytes, at + 1)),
+        z: f32_of_word(word_in(bytes, at + 2)),
     }
+}
+
+// The word at a place that is known to be within the bytes.
+fn word_in(bytes: &[u8], place: usize) -> u32
+    requires { ⌜ place < length (now bytes) / 4 ⌝ }
+    ensures { λ r. ⌜ r ≡ getD (wordsOf (now (bytes .entry))) place 0 ⌝ }
+{
+    let at = 4 * place;
+    let a = bytes[at] as u32;
+    let b = bytes[at + 1] as u32;
+    let c = bytes[at + 2] as u32;
+    let d = bytes[at + 3] as u32;
+    a + 256 * b + 65536 * c + 16777216 * d
 }
 
 // ---- writing

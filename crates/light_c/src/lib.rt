@@ -80,16 +80,20 @@ pub extern "C" fn light_build(
     work: &mut [u32],
     answer: &mut [u32],
 ) -> u32
-    ensures { λ r. ⌜ r ≡ code (buildLightBvh lights (now (block .entry)) (length (now (nodes .entry))) (length (now (table .entry)))
-        (length (now (work .entry)))) ⌝ }
-    ensures { λ _. ⌜ now (nodes .exit) ≡ tray nodesWritten (nodesReserve (getD (now (block .entry)) 0 0)) (buildLightBvh lights (now (block .entry)) (length (now (nodes .entry))) (length (now (table .entry)))
-        (length (now (work .entry)))) (now (nodes .entry)) ⌝ }
-    ensures { λ _. ⌜ now (table .exit) ≡ tray tableWritten (getD (now (block .entry)) 0 0) (buildLightBvh lights (now (block .entry)) (length (now (nodes .entry))) (length (now (table .entry)))
-        (length (now (work .entry)))) (now (table .entry)) ⌝ }
-    ensures { λ _. ⌜ now (work .exit) ≡ tray workWritten (workReserve (getD (now (block .entry)) 0 0)) (buildLightBvh lights (now (block .entry)) (length (now (nodes .entry))) (length (now (table .entry)))
-        (length (now (work .entry)))) (now (work .entry)) ⌝ }
-    ensures { λ _. ⌜ now (answer .exit) ≡ summarised (summary (buildLightBvh lights (now (block .entry)) (length (now (nodes .entry))) (length (now (table .entry)))
-        (length (now (work .entry))))) (now (answer .entry)) ⌝ }
+    ensures { λ r. ⌜ r ≡ code
+        (buildLightBvh lights (now (block .entry)) (length (now (nodes .entry))) (length (now (table .entry))) (length (now (work .entry)))) ⌝ }
+    ensures { λ _. ⌜ now (nodes .exit) ≡ tray nodesWritten (nodesReserve (getD (now (block .entry)) 0 0))
+        (buildLightBvh lights (now (block .entry)) (length (now (nodes .entry))) (length (now (table .entry))) (length (now (work .entry))))
+        (now (nodes .entry)) ⌝ }
+    ensures { λ _. ⌜ now (table .exit) ≡ tray tableWritten (getD (now (block .entry)) 0 0)
+        (buildLightBvh lights (now (block .entry)) (length (now (nodes .entry))) (length (now (table .entry))) (length (now (work .entry))))
+        (now (table .entry)) ⌝ }
+    ensures { λ _. ⌜ now (work .exit) ≡ tray workWritten (workReserve (getD (now (block .entry)) 0 0))
+        (buildLightBvh lights (now (block .entry)) (length (now (nodes .entry))) (length (now (table .entry))) (length (now (work .entry))))
+        (now (work .entry)) ⌝ }
+    ensures { λ _. ⌜ now (answer .exit) ≡ summarised (summary
+        (buildLightBvh lights (now (block .entry)) (length (now (nodes .entry))) (length (now (table .entry))) (length (now (work .entry)))))
+        (now (answer .entry)) ⌝ }
 {
     match build_light_bvh(lights, block, nodes, table, work) {
         Built::Tree(k, bounds) => {

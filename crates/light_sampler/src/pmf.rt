@@ -3,6 +3,8 @@ ghost use mathlib.Core.Path.{_≡_};
 ghost use Rattle.ieee.specs.Single.{onef};
 ghost use Rattle.words.specs.Answers.{counted};
 ghost use Rattle.words.specs.LittleEndian.{wordsOf};
+ghost use Rattle.light_bounds.specs.Weighing.{Holds};
+ghost use Rattle.light_bounds.specs.declared.importance.Query.{Query};
 ghost use Rattle.light_sampler.specs.Sampler.{pmfCheck, leafOf, pmf as pmfOf, chance};
 ghost use Rattle.light_sampler.specs.Walks.{partOf, rise as riseOf, ascend as ascendOf};
 ghost use Rattle.light_nodes.specs.Nodes.{nodeAt};
@@ -10,6 +12,8 @@ ghost use Rattle.light_sampler.specs.Turns.{factorOf, parentOf, aboveOf}
 use super::weigh::Weights;
 use super::weigh::weigh_children;
 use light_bounds::importance::Query;
+use light_bounds::weighing::Prepared;
+use light_bounds::weighing::prepare;
 use light_nodes::nodes::INVALID_INDEX;
 use light_nodes::nodes::Node;
 use light_nodes::nodes::node_at;
@@ -49,8 +53,8 @@ fn part_of(place: usize, left: usize, right: usize, x: f32, y: f32) -> Factor
 }
 
 // From a child to its parent.
-fn rise(nodes: &[u8], query: Query, place: usize, parent: u32) -> Factor
-    ensures { λ r. ⌜ factorOf r ≡ riseOf (wordsOf (now (nodes .entry))) query place parent ⌝ }
+fn rise(nodes: &[u8], query: Prepared, place: usize, parent: u32) -> Factor
+    ensures { λ r. ⌜ ((q : Query) → Holds query q → factorOf r ≡ riseOf (wordsOf (now (nodes .entry))) q place parent) ⌝ }
 {
     match node_at(nodes, parent as usize) {
         Node::Interior(_, right, _) => match weigh_children(nodes, query, parent as usize, right) {
@@ -82,6 +86,7 @@ fn parent_at(nodes: &[u8], place: usize) -> Above
 fn ascend(nodes: &[u8], query: Query, count: usize, leaf: u32) -> Chance
     ensures { λ r. ⌜ chance r ≡ ascendOf (wordsOf (now (nodes .entry))) query count leaf onef .outcome ⌝ }
 {
+    let held = prepare(query);
     let mut entries = count;
     let mut place = leaf as usize;
     let mut pmf: f32 = 1.0;
@@ -92,7 +97,7 @@ fn ascend(nodes: &[u8], query: Query, count: usize, leaf: u32) -> Chance
                 if parent == INVALID_INDEX {
                     return Chance::Pmf(pmf);
                 }
-                match rise(nodes, query, place, parent) {
+                match rise(nodes, held, place, parent) {
                     Factor::Part(share) => {
                         pmf = pmf * share;
                         place = parent as usize;

@@ -4,6 +4,8 @@ ghost use Prim.Native.Nat.{_<_, _^_};
 ghost use Rattle.ieee.specs.Single.{onef};
 ghost use Rattle.words.specs.Answers.{counted};
 ghost use Rattle.words.specs.LittleEndian.{wordsOf};
+ghost use Rattle.light_bounds.specs.Weighing.{Holds};
+ghost use Rattle.light_bounds.specs.declared.importance.Query.{Query};
 ghost use Rattle.light_sampler.specs.Sampler.{sampleCheck, sample, drawn};
 ghost use Rattle.light_sampler.specs.Walks.{turn as turnOf, descend as descendOf};
 ghost use Rattle.light_sampler.specs.Turns.{wayOf};
@@ -14,6 +16,8 @@ use super::weigh::Weights;
 use super::weigh::weigh_children;
 use floats::choose::min;
 use light_bounds::importance::Query;
+use light_bounds::weighing::Prepared;
+use light_bounds::weighing::prepare;
 use light_nodes::nodes::Node;
 use light_nodes::nodes::node_at;
 use light_nodes::nodes::node_count;
@@ -33,9 +37,9 @@ enum Way {
     Refused(Refusal),
 }
 
-fn turn(nodes: &[u8], query: Query, place: usize, right: u32, u: f32) -> Way
+fn turn(nodes: &[u8], query: Prepared, place: usize, right: u32, u: f32) -> Way
     requires { ⌜ place < 2 ^ 60 ⌝ }
-    ensures { λ r. ⌜ wayOf r ≡ turnOf (wordsOf (now (nodes .entry))) query place right u ⌝ }
+    ensures { λ r. ⌜ ((q : Query) → Holds query q → wayOf r ≡ turnOf (wordsOf (now (nodes .entry))) q place right u) ⌝ }
 {
     match weigh_children(nodes, query, place, right) {
         Weights::Both(x, y) => Way::On(fork(x, y, u)),
@@ -47,6 +51,7 @@ fn turn(nodes: &[u8], query: Query, place: usize, right: u32, u: f32) -> Way
 fn descend(nodes: &[u8], query: Query, count: usize, u: f32) -> Drawn
     ensures { λ r. ⌜ drawn r ≡ descendOf (wordsOf (now (nodes .entry))) query count 0 onef u .outcome ⌝ }
 {
+    let held = prepare(query);
     let mut entries = count;
     let mut place: usize = 0;
     let mut pmf: f32 = 1.0;
@@ -57,7 +62,7 @@ fn descend(nodes: &[u8], query: Query, count: usize, u: f32) -> Drawn
             Node::Leaf(handle, _) => {
                 return Drawn::Light(handle, pmf);
             }
-            Node::Interior(_, right, _) => match turn(nodes, query, place, right, u) {
+            Node::Interior(_, right, _) => match turn(nodes, held, place, right, u) {
                 Way::On(to) => match to {
                     Turn::Left(share, next) => {
                         pmf = pmf * share;

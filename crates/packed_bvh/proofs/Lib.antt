@@ -1,1 +1,4 @@
 pub mod PackLaws
+pub mod AbsLaws
+pub mod CutLaws
+pub mod QuantizeCuts

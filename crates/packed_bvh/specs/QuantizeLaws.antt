@@ -31,7 +31,7 @@ use Rattle.packed_bvh.specs.Quantize.{lastStep, lastCosStep, stepsOf, qu
 -- ---- the whole number next to a value
 
 -- the next whole number to m * 2 ^ e, which is at most n
-outward-small : (away : Bool) (m : ℕ) (e : ℤ) (n : ℕ) → m * up e ≤ n * down e → outward away m e ≤ n
+pub outward-small : (away : Bool) (m : ℕ) (e : ℤ) (n : ℕ) → m * up e ≤ n * down e → outward away m e ≤ n
 outward-small false m e n h = le-of-mul-le-mul-right (le-trans (outward-under m e .at-most) h) (down-pos e)
 outward-small true m e n h =
     let q = outward true m e in
@@ -39,7 +39,7 @@ outward-small true m e n h =
     let s : q < n + 1 = lt-of-mul-lt-mul-right (down e) l in
     omega arith
 
-cast-negative : (w : ℕ) (v : Float) (n : ℕ) → HasValue v true n 1 → toUnsigned w v ≡ 0
+pub cast-negative : (w : ℕ) (v : Float) (n : ℕ) → HasValue v true n 1 → toUnsigned w v ≡ 0
 unfolding toUnsigned
 cast-negative w nan n h = refl
 cast-negative w (inf t) n h = absurd h
@@ -67,10 +67,10 @@ next-small w n away (fin false m e) F (inr h) =
 -- ---- coordinates
 
 -- a clamped value is a NaN, or from 0 to 1
-abbrev Portion : Float → Type 0
+abbrev pub Portion : Float → Type 0
 Portion x = T (nonneg x) × T (le x onef)
 
-clamped : (x : Float) → (clamp x zerof onef ≡ nan) ⊎ Portion (clamp x zerof onef)
+pub clamped : (x : Float) → (clamp x zerof onef ≡ nan) ⊎ Portion (clamp x zerof onef)
 unfolding clamp ofBits lt
 clamped nan = inl refl
 clamped (inf s) = go s
@@ -95,7 +95,7 @@ all-steps : onef ⊗ lastStep ≡ fin false 65535 (pos 0)
 unfolding mul ofBits
 all-steps = refl
 
-portion-steps : (x : Float) → Portion x → Under 65535 (x ⊗ lastStep)
+pub portion-steps : (x : Float) → Portion x → Under 65535 (x ⊗ lastStep)
 unfolding ofBits
 portion-steps x (p, h) =
     elim (mul-nonneg binary32 x lastStep p tt) [
@@ -118,7 +118,7 @@ steps-under value lo hi =
       | inr h ↦ portion-steps x h
     ]
 
-steps-fit : (value lo hi : Float) → T (fits binary32 (stepsOf value lo hi))
+pub steps-fit : (value lo hi : Float) → T (fits binary32 (stepsOf value lo hi))
 unfolding stepsOf
 steps-fit value lo hi = mul-fits binary32 (clamp ((value ⊖ lo) ⊘ (hi ⊖ lo)) zerof onef) lastStep
 

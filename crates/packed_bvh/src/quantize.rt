@@ -1,13 +1,10 @@
 // Numbers packed into sixteen and fifteen bits (specs/Quantize.antt).
 ghost use mathlib.Core.Bool.{true, false};
 ghost use mathlib.Core.Path.{_≡_};
+ghost use Rattle.ieee.specs.Choose.{fabs};
 ghost use Rattle.packed_bvh.specs.Quantize.{stepsOf, quantizeBounds, quantizeCos, sign as signOf, folded, octahedral as octahedralOf, quantizeAxis};
-use floats::choose::abs;
 use floats::choose::clamp;
 use floats::choose::is_sign_negative;
-use floats::whole::ceil;
-use floats::whole::floor;
-use floats::whole::round;
 use floats::whole::to_u16;
 use floats::whole::to_u32;
 use light_bounds::vecmath::Vec3;
@@ -28,7 +25,7 @@ pub fn quantize_down(value: f32, min: f32, max: f32) -> u32
     if min == max {
         return 0;
     }
-    to_u32(floor(steps(value, min, max)))
+    to_u32(steps(value, min, max))
 }
 
 // Up to a whole step.
@@ -38,7 +35,9 @@ pub fn quantize_up(value: f32, min: f32, max: f32) -> u32
     if min == max {
         return 0;
     }
-    to_u32(ceil(steps(value, min, max)))
+    let step = steps(value, min, max);
+    let n = to_u32(step);
+    if (n as f32) < step { n + 1 } else { n }
 }
 
 // ---- cosines, in 32767 steps from -1 to 1
@@ -46,10 +45,18 @@ pub fn quantize_up(value: f32, min: f32, max: f32) -> u32
 pub fn quantize_cos(value: f32) -> u16
     ensures { λ r. ⌜ r ≡ quantizeCos value ⌝ }
 {
-    to_u16(floor(32767.0 * ((value + 1.0) / 2.0)))
+    to_u16(32767.0 * ((value + 1.0) / 2.0))
 }
 
 // ---- directions
+
+// The value without its sign: the greater of the two, with no branch by the sign, and of zeros 0 - x, which is +0.
+fn abs(x: f32) -> f32
+    ensures { λ r. ⌜ r ≡ fabs x ⌝ }
+{
+    let y = 0.0 - x;
+    if y < x { x } else { y }
+}
 
 fn sign(value: f32) -> f32
     ensures { λ r. ⌜ r ≡ signOf value ⌝ }
@@ -81,6 +88,10 @@ pub fn octahedral(v: Vec3) -> Vec3
 pub fn quantize_axis(c: f32) -> u32
     ensures { λ r. ⌜ r ≡ quantizeAxis c ⌝ }
 {
-    let step = to_u32(round((c + 1.0) * 0.5 * 65535.0));
-    if step > 65535 { 65535 } else { step }
+    let step = (c + 1.0) * 0.5 * 65535.0;
+    let n = to_u32(step);
+    if n >= 65535 {
+        return 65535;
+    }
+    if (n as f32) + 0.5 <= step { n + 1 } else { n }
 }

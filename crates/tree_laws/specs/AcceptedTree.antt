@@ -93,7 +93,7 @@ accepted-parts lights ws nodes table work b e =
 
 -- ---- the tree
 
-treeOf-built : (ws hs : List ℕ) (t : Tree) → treeOf ws hs ≡ given (some t) → buildSubtree ws (length hs) hs ≡ given t
+pub treeOf-built : (ws hs : List ℕ) (t : Tree) → treeOf ws hs ≡ given (some t) → buildSubtree ws (length hs) hs ≡ given t
 unfolding treeOf
 treeOf-built ws [] t e = absurd (Option·none-ne-some t (given-injective e))
 treeOf-built ws (h ∷ hs) t e =

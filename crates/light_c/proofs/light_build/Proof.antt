@@ -20,27 +20,37 @@ abbrev outcome : tie.Start → Answer LightBVH
 outcome s =
     buildLightBvh (s .args .lights) (now (s .args .block)) (length (now (s .args .nodes))) (length (now (s .args .table))) (length (now (s .args .work)))
 
+-- `arm` is where the answer is known, `called` where the build has returned, `s` the start
 returns : tie.Need-returns
 returns c =
-    let e = c .before .before .before .before .before .before .before .before .before .before .before .before .before .build-light-bvh .ensures in
-    let told = sym (e .0) ∙ ap built (c .before .before .before .before .before .k .given .1) in
-    let s = c .before .before .before .before .before .before .before .before .before .before .before .before .before .before .before .before .before .before .before .before .before .before in
-    (sym (ap code told) ∙ coded (outcome s), (e .1 .0, (e .1 .1 .0, (e .1 .1 .1, c .before .before .write-summary .ensures ∙ sym (ap (λ a. summarised a (now (s .args .answer))) told)))))
+    let arm = c .before .before .before .before .before in
+    let called = arm .before .before .before .before .before .before .before .before in
+    let s = called .before .before .before .before .before .before .before .before .before in
+    let e = called .build-light-bvh .ensures in
+    let told = sym (e .0) ∙ ap built (arm .k .given .1) in
+    let left = ap (λ a. summarised a (now (s .args .answer))) told in
+    (sym (ap code told) ∙ coded (outcome s), (e .1 .0, (e .1 .1 .0, (e .1 .1 .1, c .before .before .write-summary .ensures ∙ sym left))))
 
 returns-2 : tie.Need-returns-2
 unfolding ofBits
 returns-2 c =
-    let e = c .before .before .before .before .before .before .before .before .before .before .before .before .build-light-bvh .ensures in
-    let told = sym (e .0) ∙ ap built (c .before .before .before .before .enum-told .given .1) in
-    let s = c .before .before .before .before .before .before .before .before .before .before .before .before .before .before .before .before .before .before .before .before .before in
-    (sym (ap code told) ∙ coded (outcome s), (e .1 .0, (e .1 .1 .0, (e .1 .1 .1, c .before .before .write-summary2 .ensures ∙ sym (ap (λ a. summarised a (now (s .args .answer))) told)))))
+    let arm = c .before .before .before .before in
+    let called = arm .before .before .before .before .before .before .before .before in
+    let s = called .before .before .before .before .before .before .before .before .before in
+    let e = called .build-light-bvh .ensures in
+    let told = sym (e .0) ∙ ap built (arm .enum-told .given .1) in
+    let left = ap (λ a. summarised a (now (s .args .answer))) told in
+    (sym (ap code told) ∙ coded (outcome s), (e .1 .0, (e .1 .1 .0, (e .1 .1 .1, c .before .before .write-summary2 .ensures ∙ sym left))))
 
 returns-3 : tie.Need-returns-3
 returns-3 c =
-    let e = c .before .before .before .before .before .before .before .before .before .before .build-light-bvh .ensures in
-    let told = sym (e .0) ∙ ap built (c .before .before .why .given .1) in
-    let s = c .before .before .before .before .before .before .before .before .before .before .before .before .before .before .before .before .before .before .before in
-    (c .refusal-number .ensures ∙ sym (ap code told) ∙ coded (outcome s), (e .1 .0, (e .1 .1 .0, (e .1 .1 .1, sym (ap (λ a. summarised a (now (s .args .answer))) told)))))
+    let arm = c .before .before in
+    let called = arm .before .before .before .before .before .before .before .before in
+    let s = called .before .before .before .before .before .before .before .before .before in
+    let e = called .build-light-bvh .ensures in
+    let told = sym (e .0) ∙ ap built (arm .why .given .1) in
+    let left = ap (λ a. summarised a (now (s .args .answer))) told in
+    (c .refusal-number .ensures ∙ sym (ap code told) ∙ coded (outcome s), (e .1 .0, (e .1 .1 .0, (e .1 .1 .1, sym left))))
 
 pub light-build-spec : {M : Type 1} → statement M
 light-build-spec =

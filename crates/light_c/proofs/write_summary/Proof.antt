@@ -10,7 +10,9 @@ use Rattle.light_c.proofs.write_summary.Tie as tie
 
 returns : tie.Need-returns
 unfolding summaryWords
-returns c = rw (le-leb 7 (length (now (c .before .before .before .before .before .before .args .answer))) (c .before .before .before .before .if1 .taken)) (c .before .before .put-summary .ensures)
+returns c =
+    let test = c .before .before .before .before in
+    rw (le-leb 7 (length (now (test .before .before .args .answer))) (test .if1 .taken)) (c .before .before .put-summary .ensures)
 
 returns-2 : tie.Need-returns-2
 unfolding summaryWords

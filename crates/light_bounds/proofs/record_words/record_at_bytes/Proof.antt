@@ -15,7 +15,7 @@ returns c n =
     let args = c .before .before .before .before .before .before .before .before .before .before .before .before .before .before .before .args in
     rw (recordAt-found n (wordsOf (now (args .bytes))) (args .at)
     (rw length-wordsOf (c .before .before .before .before .before .before .before .before .before .before .before .before .before .before .before .pre))
-    (ap sideKnown (sym (c .before .before .before .before .before .before .before .before .before .before .before .before .before .word-at .ensures))
+    (ap sideKnown (sym (c .before .before .before .before .before .before .before .before .before .before .before .before .before .word-in .ensures))
     ∙ sym (c .before .before .before .before .before .before .before .before .before .before .before .before .is-side .ensures) ∙
     c .before .before .before .before .before .before .before .before .before .before .before .if1 .taken))
     (ap given (c .new .ensures
@@ -24,20 +24,20 @@ returns c n =
       c .before .before .before .before .before .before .before .before .before .vec-at-bytes2 .ensures,
       c .before .before .before .before .before .before .before .before .vec-at-bytes3 .ensures,
       c .before .before .before .before .before .before .f32-of-word .ensures,
-      c .before .before .before .before .before .before .before .word-at2 .ensures,
+      c .before .before .before .before .before .before .before .word-in2 .ensures,
       c .before .before .before .before .f32-of-word2 .ensures,
-      c .before .before .before .before .before .word-at3 .ensures,
+      c .before .before .before .before .before .word-in3 .ensures,
       c .before .before .f32-of-word3 .ensures,
-      c .before .before .before .word-at4 .ensures,
+      c .before .before .before .word-in4 .ensures,
       c .before .side-of .ensures,
-      c .before .before .before .before .before .before .before .before .before .before .before .before .before .word-at .ensures,
+      c .before .before .before .before .before .before .before .before .before .before .before .before .before .word-in .ensures,
     )))
 
 returns-2 : tie.Need-returns-2
 returns-2 c n =
     let args = c .before .before .before .before .args in
     rw (recordAt-unknown n (wordsOf (now (args .bytes))) (args .at) (rw length-wordsOf (c .before .before .before .before .pre))
-    (ap sideKnown (sym (c .before .before .word-at .ensures)) ∙ sym (c .before .is-side .ensures) ∙ c .if1 .left))
+    (ap sideKnown (sym (c .before .before .word-in .ensures)) ∙ sym (c .before .is-side .ensures) ∙ c .if1 .left))
 
 pub record-at-bytes-spec : {M : Type 1} → statement M
 record-at-bytes-spec =

@@ -7,8 +7,8 @@ use Rattle.light_bounds.proofs.record_words.vec_at_bytes.Tie as tie
 returns : tie.Need-returns
 unfolding vecAt
 returns c =
-    rw (← c .before .before .before .before .before .word-at .ensures, ← c .before .before .before .word-at2 .ensures)
-    (rw (← c .before .word-at3 .ensures, ← c .before .before .before .before .f32-of-word .ensures, ← c .before .before .f32-of-word2 .ensures)
+    rw (← c .before .before .before .before .before .word-in .ensures, ← c .before .before .before .word-in2 .ensures)
+    (rw (← c .before .word-in3 .ensures, ← c .before .before .before .before .f32-of-word .ensures, ← c .before .before .f32-of-word2 .ensures)
     (rw (← c .f32-of-word3 .ensures)))
 
 pub vec-at-bytes-spec : {M : Type 1} → statement M

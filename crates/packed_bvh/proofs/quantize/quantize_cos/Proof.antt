@@ -1,12 +1,9 @@
--- `packed_bvh::quantize::quantize_cos` meets its contract: its steps are the definition's. Assumes nothing.
-use Rattle.packed_bvh.specs.Quantize.{quantizeCos}
+-- `packed_bvh::quantize::quantize_cos` meets its contract: the steps are cut. Assumes nothing.
+use mathlib.Core.Path.{_∙_}
+use Rattle.packed_bvh.proofs.QuantizeCuts.{cos-cut}
 use borrow.Author.Needs.{needs}
 use Rattle.packed_bvh.proofs.quantize.quantize_cos.Statement.{statement}
 use Rattle.packed_bvh.proofs.quantize.quantize_cos.Tie as tie
 
-returns : tie.Need-returns
-unfolding quantizeCos
-returns c = rw (← c .before .floor .ensures, ← c .to-u16 .ensures)
-
 pub quantize-cos-spec : {M : Type 1} → statement M
-quantize-cos-spec = tie.close (tie.spec (λ c κs. search needs) (λ c κs. search needs) returns)
+quantize-cos-spec = tie.close (tie.spec (λ c κs. search needs) (λ c. c .to-u16 .ensures ∙ cos-cut (c .before .args .value)))

@@ -1,0 +1,1 @@
+// Laws of packed trees that no code cites: specs/.
