@@ -6,6 +6,7 @@ light: which lamp a bench looks at, and with which chance
 light block ROOM             where each lamp is, which way it shines, its power, its cone
 light report ROOM BENCHES    a lamp drawn for each bench, with its chance, in two ways
 light draw ROOM BENCH U...   lamps drawn for one bench by numbers from 0 to 1
+light list ROOM >LIST        the lamps as words, for programs
 
 `light COMMAND --help` says more. ROOM and BENCHES are text files, - is standard input.
 
@@ -59,4 +60,11 @@ number a line. BENCH is
     \"X Y Z  -\"          a point with no normal
     BENCHES:LINE        the bench at that line of a file, whose own u is not used
 `light --help` tells of ROOM, `light report --help` of BENCHES.
+";
+
+pub const LIST: &str = "\
+light list ROOM >LIST
+
+Writes the lamp list of a room, 32-bit words, the lowest byte first, as target/bin/lamps_to_block
+reads it. `light --help` tells of ROOM.
 ";

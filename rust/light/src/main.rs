@@ -83,9 +83,10 @@ fn run(arguments: &[String], output: &mut Output) -> Result<(), Stop> {
     let words: Vec<&str> = arguments.iter().map(String::as_str).collect();
     let (help, usage) = match words.first() {
         Some(&"block") => (help::BLOCK, "light block ROOM; `light block --help` says more"),
+        Some(&"list") => (help::LIST, "light list ROOM >LIST; `light list --help` says more"),
         Some(&"report") => (help::REPORT, "light report ROOM BENCHES; `light report --help` says more"),
         Some(&"draw") => (help::DRAW, "light draw ROOM BENCH U...; `light draw --help` says more"),
-        _ => (help::HELP, "light block, report or draw; `light --help` says more"),
+        _ => (help::HELP, "light block, report, draw or list; `light --help` says more"),
     };
     if words.iter().any(|word| ["--help", "-h"].contains(word)) {
         output.text(help);
@@ -93,6 +94,7 @@ fn run(arguments: &[String], output: &mut Output) -> Result<(), Stop> {
     }
     match words[..] {
         ["block", path] => output.text(&room(path)?.table()?),
+        ["list", path] => output.words(&room(path)?.list()?)?,
         ["report", room, benches] => report(room, benches, output)?,
         ["draw", room, bench, _, ..] => draw(room, bench, &words[3..], output)?,
         _ => return Err(Stop::Failed(usage.into())),

@@ -44,6 +44,15 @@ impl Output {
         self.text("\n");
     }
 
+    /// Words, the lowest byte first, which no terminal shows.
+    pub fn words(&mut self, words: &[u32]) -> Result<(), Stop> {
+        if self.terminal {
+            return Err(Stop::Failed("words are for a file or a pipe: send standard output there".into()));
+        }
+        self.waiting.extend(words.iter().flat_map(|word| word.to_le_bytes()));
+        Ok(())
+    }
+
     /// Between two rows: writes what waits if it is much or has waited long, and says how far the work is.
     pub fn pause(&mut self, far: impl FnOnce() -> String) -> Result<(), Stop> {
         if (self.terminal || self.progress) && self.flushed.elapsed() >= SOON {

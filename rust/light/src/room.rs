@@ -1,7 +1,7 @@
 //! Rooms: a text table of lamps, and which of them is to blame where a room is refused.
 
 use crate::text::{Stop, Word, Wrong, decimal_or_word, fields, line_of, number, numbers, words};
-use light_tree::{Block, Lamp, LightTree, Refusal, Triangle, bounds_block};
+use light_tree::{Block, Lamp, LightTree, Refusal, Triangle, bounds_block, lamp_list};
 
 pub struct Room {
     /// What the room is called in messages.
@@ -38,6 +38,11 @@ impl Room {
     /// The line of a lamp.
     pub fn line(&self, handle: u32) -> usize {
         self.lines[handle as usize]
+    }
+
+    /// The lamp list, in words.
+    pub fn list(&self) -> Result<Vec<u32>, Stop> {
+        lamp_list(&self.lamps).map_err(|refusal| self.blame_all(refusal))
     }
 
     pub fn block(&self) -> Result<Block, Stop> {

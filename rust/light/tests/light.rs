@@ -64,6 +64,19 @@ fn block() {
     assert_eq!(good(&["block", "-"], "# no lamp\n").lines().count(), 1);
 }
 
+/// The list of the example room is what the program lamps_to_block is tried on.
+#[test]
+fn list() {
+    let output = light(&["list", "room.txt"], "");
+    assert_eq!(
+        (output.status.code(), &output.stdout[..]),
+        (Some(0), &include_bytes!("../../../crates/lamps_to_block/stdin")[..])
+    );
+    let output = light(&["list", "-"], "point 0x7fc00000 -0 1e-45 .5 1.");
+    let words = [1u32, 1 << 30, 0x7fc0_0000, 1 << 31, 1, 0x3f00_0000, 0x3f80_0000];
+    assert_eq!(output.stdout, words.map(u32::to_le_bytes).as_flattened());
+}
+
 /// Decimals as they are read and written: the shortest that is the same float, a NaN or an infinity as its word.
 #[test]
 fn decimals() {
@@ -275,6 +288,7 @@ fn help_and_statuses() {
         (&["report", "--help"], "light report ROOM BENCHES\n"),
         (&["report", "nowhere.txt", "-h"], "light report ROOM BENCHES\n"),
         (&["draw", "--help"], "light draw ROOM BENCH U...\n"),
+        (&["list", "--help"], "light list ROOM >LIST\n"),
     ] {
         let help = good(arguments, "");
         assert!(help.starts_with(start) && help.lines().all(|line| line.chars().count() <= 100), "{help}");

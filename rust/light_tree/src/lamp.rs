@@ -144,21 +144,55 @@ pub(crate) fn write_group(list: &mut Vec<u32>, handle: u32, figures: [f32; 2], t
     }
 }
 
-/// The block of a lamp list, whose lamps the function writes: so many lamps, so many words. Both stand in one `Vec`, the list behind.
-pub(crate) fn block_of(lamps: usize, words: usize, write: impl FnOnce(&mut Vec<u32>)) -> Result<Block, Refusal> {
-    if lamps > MAX_LAMPS {
-        return Err(Refusal::Crowded);
+/// Lamps of so many words in all, written one by one: a list.
+pub(crate) struct Written<F> {
+    pub lamps: usize,
+    pub words: usize,
+    pub write: F,
+}
+
+impl<F: FnOnce(&mut Vec<u32>)> Written<F> {
+    /// The list behind so many zeros. Over 4,096 lamps are not written at all.
+    fn list(self, zeros: usize) -> Result<Vec<u32>, Refusal> {
+        if self.lamps > MAX_LAMPS {
+            return Err(Refusal::Crowded);
+        }
+        let mut list = Vec::with_capacity(zeros + 1 + self.words);
+        list.resize(zeros, 0);
+        list.push(self.lamps as u32);
+        (self.write)(&mut list);
+        Ok(list)
     }
-    let reserve = block_words(lamps);
-    let mut both = Vec::with_capacity(reserve + 1 + words);
-    both.resize(reserve, 0);
-    both.push(lamps as u32);
-    write(&mut both);
-    let (block, list) = both.split_at_mut(reserve);
-    sys::bounds_block(list, block)?;
-    both.truncate(reserve);
-    both.shrink_to_fit();
-    Ok(Block(both))
+
+    /// The list's block. Both stand in one `Vec`, the list behind.
+    pub(crate) fn block(self) -> Result<Block, Refusal> {
+        let reserve = block_words(self.lamps);
+        let mut both = self.list(reserve)?;
+        let (block, list) = both.split_at_mut(reserve);
+        sys::bounds_block(list, block)?;
+        both.truncate(reserve);
+        both.shrink_to_fit();
+        Ok(Block(both))
+    }
+}
+
+fn written(lamps: &[Lamp]) -> Written<impl FnOnce(&mut Vec<u32>)> {
+    let write = move |list: &mut Vec<u32>| (0..).zip(lamps).for_each(|(handle, lamp)| lamp.write(handle, list));
+    Written { lamps: lamps.len(), words: lamps.iter().map(Lamp::words).sum(), write }
+}
+
+/// The lamp list of lamps: the words that the library, and programs beside it, read them from. Nothing of them is checked but that
+/// they are at most 4,096.
+///
+/// ```
+/// use light_tree::{Lamp, lamp_list};
+///
+/// let bulb = Lamp::Point { world_position: [0.0; 3], intensity_max: 1.0, scale: 1.0 };
+/// assert_eq!(lamp_list(&[bulb])?, [1, 0x4000_0000, 0, 0, 0, 0x3f80_0000, 0x3f80_0000]);
+/// # Ok::<(), light_tree::Refusal>(())
+/// ```
+pub fn lamp_list(lamps: &[Lamp]) -> Result<Vec<u32>, Refusal> {
+    written(lamps).list(0)
 }
 
 /// The bounds of lamps, in their order.
@@ -177,7 +211,5 @@ pub(crate) fn block_of(lamps: usize, words: usize, write: impl FnOnce(&mut Vec<u
 /// # Ok::<(), Refusal>(())
 /// ```
 pub fn bounds_block(lamps: &[Lamp]) -> Result<Block, Refusal> {
-    block_of(lamps.len(), lamps.iter().map(Lamp::words).sum(), |list| {
-        lamps.iter().enumerate().for_each(|(handle, lamp)| lamp.write(handle as u32, list))
-    })
+    written(lamps).block()
 }

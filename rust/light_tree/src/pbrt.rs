@@ -27,7 +27,7 @@
 //! # Ok::<(), Refusal>(())
 //! ```
 
-use crate::lamp::{POINT_WORDS, SPOT_WORDS, block_of, group_words, write_group, write_point, write_spot};
+use crate::lamp::{POINT_WORDS, SPOT_WORDS, Written, group_words, write_group, write_point, write_spot};
 use crate::{AliasTable, Block, LightTree};
 use std::ops::Deref;
 
@@ -170,8 +170,8 @@ impl AsRef<LightTree> for LightBVH {
 /// ```
 pub fn build_light_bounds(inputs: &[LightBoundInput]) -> Result<Vec<LightBounds>, Refusal> {
     let words = inputs.iter().map(LightBoundInput::words).sum();
-    let block = block_of(inputs.len(), words, |list| inputs.iter().for_each(|input| input.write(list)))?;
-    Ok(block.records().collect())
+    let write = |list: &mut Vec<u32>| inputs.iter().for_each(|input| input.write(list));
+    Ok(Written { lamps: inputs.len(), words, write }.block()?.records().collect())
 }
 
 /// The tree of lights' bounds: [`LightTree::build`].

@@ -131,6 +131,7 @@ fn limits() {
     let point = |scale| Lamp::Point { world_position: [0.0; 3], intensity_max: 1.0, scale };
     assert_eq!(bounds_block(&vec![point(1.0); MAX_LAMPS]).map(|block| block.records().len()), Ok(MAX_LAMPS));
     assert_eq!(bounds_block(&vec![point(-1.0); MAX_LAMPS + 1]), Err(Refusal::Crowded));
+    assert_eq!(lamp_list(&vec![point(1.0); MAX_LAMPS + 1]), Err(Refusal::Crowded));
     let triangle = Triangle { world_positions: [[0.0; 3]; 3], area: 1.0, geometric_normal: [0.0, 0.0, 1.0] };
     let group = |count| Lamp::Group { triangles: vec![triangle; count], emission_max: 1.0, scale: 1.0, two_sided: true };
     // one word, and five and thirteen a triangle: 80,659 are the most that fit 2^20

@@ -2,7 +2,7 @@
 //! pbrt-r4's names against the crate's own.
 
 use light_tree::pbrt::{self, LightBoundInput};
-use light_tree::{AliasTable, Lamp, LightTree, Refusal, Triangle, bounds_block};
+use light_tree::{AliasTable, Lamp, LightTree, Refusal, Triangle, bounds_block, lamp_list};
 
 unsafe extern "C" {
     fn light_bounds_block(list: *const u32, list_len: usize, block: *mut u32, block_len: usize) -> u32;
@@ -262,6 +262,7 @@ fn rooms() {
         let (list, mut block) = (list_of(&lamps), vec![PATTERN; 1 + 14 * lamps.len()]);
         let number = unsafe { light_bounds_block(list.as_ptr(), list.len(), block.as_mut_ptr(), block.len()) };
         refused[number as usize] += 1;
+        assert_eq!(lamp_list(&lamps).unwrap(), list);
         let ours = bounds_block(&lamps);
         if number != 0 {
             assert_eq!(ours, refusal(number));
