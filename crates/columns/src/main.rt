@@ -1,0 +1,5 @@
+// The light report of document 01.
+mod lines;
+
+fn main() {
+}
