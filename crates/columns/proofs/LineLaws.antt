@@ -11,7 +11,7 @@ use lib.ListN.{length, getD, take, set, length-set, length-append}
 use lib.Seq.{sets, length-sets, set-comm, append-snoc, take-suc, length-take-le, take-length}
 use Rattle.io.specs.Digits.{digits, glyph}
 use Rattle.words.proofs.Stores.{sets-append}
-use Rattle.columns.specs.Lines.{placesIn}
+use Rattle.columns.specs.Lines.{placesIn, Put}
 
 pub length-digits : (b k n : ℕ) → length (digits b k n) ≡ k
 length-digits b zero n = refl
@@ -100,10 +100,10 @@ texted-next {before} {text} {out} {at} {i} h t =
     }
 
 pub texted-all : {before text out : List ℕ} {at i : ℕ} → length text ≤ i → Texted before at text out i
-    → (out ≡ sets before at text) × (at + i ≡ at + length text)
+    → Put before at text out (at + i)
 texted-all {before} {text} {out} {at} {i} h t =
     let e : i ≡ length text = omega (arith, h, t .within) in
-    (t .is ∙ rw (e, take-length text), rw e)
+    record { is = t .is ∙ rw (e, take-length text); past = rw e }
 
 -- ---- decimal places
 
@@ -144,11 +144,6 @@ counted-ten {n} {k} {rest} h c =
     counted-all c (rw none refl)
 
 -- ---- one text behind another
-
--- vs are written at a place, and `end` is the place behind them
-pub record Put (before : List ℕ) (at : ℕ) (vs out : List ℕ) (end : ℕ) : Type 0 where
-  pub is : out ≡ sets before at vs
-  pub past : end ≡ at + length vs
 
 pub put-then : {before out out′ vs us : List ℕ} {at mid end : ℕ} → Put before at vs out mid → Put out mid us out′ end
     → Put before at (vs ++ us) out′ end

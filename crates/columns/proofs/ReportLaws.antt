@@ -2,13 +2,14 @@
 use Prim.Native.Nat.{ℕ, suc, _+_, _*_, _/_, _%_, _≤_, _<_}
 use mathlib.Core.Path.{_≡_, refl, sym, ap, _∙_}
 use mathlib.Core.List.{List, [], _∷_, _++_, append-nil}
+use native.Mathlib.Nat.{zero-add}
 use native.Mathlib.Omega.{arith}
 use borrow.Author.Tests.{eq-eqb, ne-eqb}
-use lib.ListN.{length}
-use lib.Seq.{sets, slice, length-sets}
+use lib.ListN.{length, take, drop}
+use lib.Seq.{sets, length-sets}
 use Rattle.words.specs.Answers.{refused}
-use Rattle.columns.specs.Lines.{lineBytes, groupLine, groupLines, partLine, reportLines}
-use Rattle.columns.proofs.LineLaws.{Put, put-then}
+use Rattle.columns.specs.Lines.{lineBytes, groupLine, groupLines, partLine, reportLines, Put}
+use Rattle.columns.proofs.LineLaws.{put-then}
 
 -- the lines of the first i groups are written
 pub record Reported (nodes table bytes before : List ℕ) (count : ℕ) (out : List ℕ) (at i : ℕ) : Type 0 where
@@ -18,13 +19,6 @@ pub record Reported (nodes table bytes before : List ℕ) (count : ℕ) (out : L
   pub same : length out ≡ length before
   pub short : at ≤ 29 * i
   pub lines : Put before 0 (groupLines nodes table bytes i) out at
-
--- what a line's writer tells
-abbrev Wrote : List ℕ → ℕ → List ℕ → List ℕ → ℕ → Type 0
-Wrote out at vs out′ end = (out′ ≡ sets out at vs) × ((end ≡ at + length vs) × (end ≤ at + 29))
-
-written : {out out′ vs : List ℕ} {at end : ℕ} → Wrote out at vs out′ end → Put out at vs out′ end
-written w = record { is = w .0; past = w .1 .0 }
 
 pub reported-none : {nodes table bytes before : List ℕ} → 29 * (length bytes / 28) + 29 ≤ length before
     → Reported nodes table bytes before (length bytes / 28) before 0 0
@@ -40,18 +34,18 @@ reported-none room =
     }
 
 pub reported-next : {nodes table bytes before out out′ : List ℕ} {count at end i : ℕ} → i < count → Reported nodes table bytes before count out at i
-    → Wrote out at (groupLine nodes table (slice (28 * i) (28 * i + 28) bytes)) out′ end
+    → Put out at (groupLine nodes table (take 28 (drop (28 * i) bytes))) out′ end → end ≤ at + 29
     → Reported nodes table bytes before count out′ end (i + 1)
 unfolding groupLines
-reported-next {nodes} {table} {bytes} {before} {out} {out′} {count} {at} {end} {i} h r w =
+reported-next {nodes} {table} {bytes} {before} {out} {out′} {count} {at} {end} {i} h r w few =
     let up : i + 1 ≡ suc i = omega arith in
     record {
       all = r .all;
       room = r .room;
       within = omega (arith, h);
-      same = rw (w .0) (length-sets out at (groupLine nodes table (slice (28 * i) (28 * i + 28) bytes)) ∙ r .same);
-      short = omega (arith, r .short, w .1 .1);
-      lines = rw up (put-then (r .lines) (written w));
+      same = rw (w .is) (length-sets out at (groupLine nodes table (take 28 (drop (28 * i) bytes))) ∙ r .same);
+      short = omega (arith, r .short, few);
+      lines = rw up (put-then (r .lines) w);
     }
 
 -- at the end all lines are there, but for a part group's
@@ -63,14 +57,14 @@ reported-all {nodes} {table} {bytes} {before} {out} {count} {at} {i} h whole r =
     let e : i ≡ length bytes / 28 = omega (arith, h, r .all, r .within) in
     let there = rw e at (r .lines) in
     simp (eq-eqb (length bytes % 28) 0 whole, append-nil)
-    (there .is, (there .past, omega (arith, r .short, r .room, r .within)))
+    (there .is, (there .past ∙ zero-add _, omega (arith, r .short, r .room, r .within)))
 
 pub reported-part : {nodes table bytes before out out′ : List ℕ} {count at end i : ℕ} → count ≤ i → (length bytes % 28 ≡ 0 → ⊥)
-    → Reported nodes table bytes before count out at i → Wrote out at (lineBytes (refused 1)) out′ end
+    → Reported nodes table bytes before count out at i → Put out at (lineBytes (refused 1)) out′ end → end ≤ at + 29
     → (out′ ≡ sets before 0 (reportLines nodes table bytes)) × ((end ≡ length (reportLines nodes table bytes)) × (end ≤ length before))
 unfolding reportLines partLine
-reported-part {nodes} {table} {bytes} {before} {out} {out′} {count} {at} {end} {i} h part r w =
+reported-part {nodes} {table} {bytes} {before} {out} {out′} {count} {at} {end} {i} h part r w few =
     let e : i ≡ length bytes / 28 = omega (arith, h, r .all, r .within) in
-    let there = put-then (rw e at (r .lines)) (written w) in
+    let there = put-then (rw e at (r .lines)) w in
     simp (ne-eqb (length bytes % 28) 0 part)
-    (there .is, (there .past, omega (arith, r .short, r .room, r .within, w .1 .1)))
+    (there .is, (there .past ∙ zero-add _, omega (arith, r .short, r .room, r .within, few)))

@@ -1,13 +1,14 @@
 -- The lines of the report, in ASCII, as document 01's "Light report and cases" has them: what a group of seven words draws, and how it is written. Chances are
 -- written as their words' eight hexadecimal digits, handles and refusals in decimal. Definitions only. Assumes nothing.
 use Prim.Native.Nat.{ℕ, zero, suc, _+_, _*_, _/_, _%_}
+use mathlib.Core.Path.{_≡_}
 use mathlib.Core.Bool.{cond}
 use mathlib.Core.List.{List, [], _∷_, _++_}
 use mathlib.Core.Option.{Option, none, some}
 use lib.Dec.{eqb, ltb}
 use lib.Ieee.{Float, binary32, toBits}
-use lib.ListN.{length, getD}
-use lib.Seq.{slice}
+use lib.ListN.{length, getD, take, drop}
+use lib.Seq.{sets}
 use Rattle.io.specs.Digits.{digits}
 use Rattle.ieee.specs.Single.{single}
 use Rattle.words.specs.Answers.{Answer, given, refused, _then_}
@@ -87,7 +88,7 @@ groupLine nodes table group = lineBytes (groupShown nodes table (wordsOf group))
 -- those of the first n groups
 unfoldable pub groupLines : List ℕ → List ℕ → List ℕ → ℕ → List ℕ
 groupLines nodes table bytes zero = []
-groupLines nodes table bytes (suc n) = groupLines nodes table bytes n ++ groupLine nodes table (slice (28 * n) (28 * n + 28) bytes)
+groupLines nodes table bytes (suc n) = groupLines nodes table bytes n ++ groupLine nodes table (take 28 (drop (28 * n) bytes))
 
 -- bytes that are no whole group are a part group, and that is refusal 1
 unfoldable pub partLine : List ℕ → List ℕ
@@ -95,6 +96,12 @@ partLine bytes = cond (eqb (length bytes % 28) 0) [] (lineBytes (refused 1))
 
 unfoldable pub reportLines : List ℕ → List ℕ → List ℕ → List ℕ
 reportLines nodes table bytes = groupLines nodes table bytes (length bytes / 28) ++ partLine bytes
+
+-- ---- what a function that writes promises: text stands at a place, and `end` is the place behind it
+
+pub record Put (before : List ℕ) (at : ℕ) (text after : List ℕ) (end : ℕ) : Type 0 where
+  pub is : after ≡ sets before at text
+  pub past : end ≡ at + length text
 
 -- ---- what the enum `Line` answers
 

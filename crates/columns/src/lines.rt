@@ -9,7 +9,7 @@ ghost use Rattle.ieee.specs.Single.{single};
 ghost use Rattle.words.specs.Answers.{given, refused};
 ghost use Rattle.words.specs.Refusals.{number};
 ghost use Rattle.words.specs.LittleEndian.{wordsOf};
-ghost use Rattle.columns.specs.Lines.{line, lineBytes, places as placesOf, decimalBytes, chanceBytes, newline, groupQuery, groupShown};
+ghost use Rattle.columns.specs.Lines.{line, lineBytes, places as placesOf, decimalBytes, chanceBytes, newline, Put, groupQuery, groupShown};
 ghost use Rattle.columns.specs.Lines.{groupLine, reportLines};
 use light_bounds::importance::Query;
 use light_bounds::vecmath::Vec3;
@@ -112,8 +112,7 @@ fn places(n: u32) -> usize
 // Writes a word in decimal; the place behind it.
 fn put_decimal(out: &mut [u8], at: usize, n: u32) -> usize
     requires { ⌜ at + 10 ≤ length (now out) ⌝ }
-    ensures { λ _. ⌜ now (out .exit) ≡ sets (now (out .entry)) at (decimalBytes n) ⌝ }
-    ensures { λ r. ⌜ r ≡ at + length (decimalBytes n) ⌝ }
+    ensures { λ r. ⌜ Put (now (out .entry)) at (decimalBytes n) (now (out .exit)) r ⌝ }
     ensures { λ r. ⌜ r ≤ at + 10 ⌝ }
 {
     let k = places(n);
@@ -124,8 +123,7 @@ fn put_decimal(out: &mut [u8], at: usize, n: u32) -> usize
 // Writes a space and a float's bits; the place behind them.
 fn put_chance(out: &mut [u8], at: usize, x: f32) -> usize
     requires { ⌜ at + 9 ≤ length (now out) ⌝ }
-    ensures { λ _. ⌜ now (out .exit) ≡ sets (now (out .entry)) at (chanceBytes x) ⌝ }
-    ensures { λ r. ⌜ r ≡ at + length (chanceBytes x) ⌝ }
+    ensures { λ r. ⌜ Put (now (out .entry)) at (chanceBytes x) (now (out .exit)) r ⌝ }
     ensures { λ r. ⌜ r ≡ at + 9 ⌝ }
 {
     out[at] = b' ';
@@ -136,8 +134,7 @@ fn put_chance(out: &mut [u8], at: usize, x: f32) -> usize
 // Ends a line; the place behind it.
 fn put_newline(out: &mut [u8], at: usize) -> usize
     requires { ⌜ at < length (now out) ⌝ }
-    ensures { λ _. ⌜ now (out .exit) ≡ sets (now (out .entry)) at newline ⌝ }
-    ensures { λ r. ⌜ r ≡ at + 1 ⌝ }
+    ensures { λ r. ⌜ Put (now (out .entry)) at newline (now (out .exit)) r ⌝ }
 {
     out[at] = b'\n';
     at + 1
@@ -146,8 +143,7 @@ fn put_newline(out: &mut [u8], at: usize) -> usize
 // Writes text; the place behind it.
 fn put_text(out: &mut [u8], at: usize, text: &[u8]) -> usize
     requires { ⌜ at + length (now text) ≤ length (now out) ⌝ }
-    ensures { λ _. ⌜ now (out .exit) ≡ sets (now (out .entry)) at (now (text .entry)) ⌝ }
-    ensures { λ r. ⌜ r ≡ at + length (now (text .entry)) ⌝ }
+    ensures { λ r. ⌜ Put (now (out .entry)) at (now (text .entry)) (now (out .exit)) r ⌝ }
 {
     let mut i = 0;
     while i < text.len() {
@@ -159,8 +155,7 @@ fn put_text(out: &mut [u8], at: usize, text: &[u8]) -> usize
 
 fn put_lamp(out: &mut [u8], at: usize, handle: u32, drawn: f32, named: f32) -> usize
     requires { ⌜ at + 29 ≤ length (now out) ⌝ }
-    ensures { λ _. ⌜ now (out .exit) ≡ sets (now (out .entry)) at (lineBytes (given (some (handle, (drawn, named))))) ⌝ }
-    ensures { λ r. ⌜ r ≡ at + length (lineBytes (given (some (handle, (drawn, named))))) ⌝ }
+    ensures { λ r. ⌜ Put (now (out .entry)) at (lineBytes (given (some (handle, (drawn, named))))) (now (out .exit)) r ⌝ }
     ensures { λ r. ⌜ r ≤ at + 29 ⌝ }
 {
     let drawn_at = put_decimal(out, at, handle);
@@ -171,8 +166,7 @@ fn put_lamp(out: &mut [u8], at: usize, handle: u32, drawn: f32, named: f32) -> u
 
 fn put_refused(out: &mut [u8], at: usize, why: Refusal) -> usize
     requires { ⌜ at + 29 ≤ length (now out) ⌝ }
-    ensures { λ _. ⌜ now (out .exit) ≡ sets (now (out .entry)) at (lineBytes (refused (number why))) ⌝ }
-    ensures { λ r. ⌜ r ≡ at + length (lineBytes (refused (number why))) ⌝ }
+    ensures { λ r. ⌜ Put (now (out .entry)) at (lineBytes (refused (number why))) (now (out .exit)) r ⌝ }
     ensures { λ r. ⌜ r ≤ at + 29 ⌝ }
 {
     let number_at = put_text(out, at, b"refused ");
@@ -199,8 +193,7 @@ pub fn put_line(out: &mut [u8], at: usize, shown: Line) -> usize
 // Writes the line of a group; the place behind it.
 fn put_group(nodes: &[u8], table: &[u8], group: &[u8], out: &mut [u8], at: usize) -> usize
     requires { ⌜ at + 29 ≤ length (now out) ⌝ }
-    ensures { λ _. ⌜ now (out .exit) ≡ sets (now (out .entry)) at (groupLine (now (nodes .entry)) (now (table .entry)) (now (group .entry))) ⌝ }
-    ensures { λ r. ⌜ r ≡ at + length (groupLine (now (nodes .entry)) (now (table .entry)) (now (group .entry))) ⌝ }
+    ensures { λ r. ⌜ Put (now (out .entry)) at (groupLine (now (nodes .entry)) (now (table .entry)) (now (group .entry))) (now (out .exit)) r ⌝ }
     ensures { λ r. ⌜ r ≤ at + 29 ⌝ }
 {
     put_line(out, at, draw_group(nodes, table, group))

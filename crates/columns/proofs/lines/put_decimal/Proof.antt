@@ -1,5 +1,4 @@
 -- `columns::lines::put_decimal` meets its contract: so many digits as the definition has. Assumes nothing.
-use mathlib.Core.Path.{refl}
 use native.Mathlib.Omega.{arith}
 use borrow.Author.Needs.{needs}
 use Rattle.columns.specs.Lines.{decimalBytes}
@@ -11,7 +10,7 @@ returns : tie.Need-returns
 unfolding decimalBytes
 returns c =
     let counted = c .before .before .before .before .places .ensures in
-    rw (← counted .0, length-digits) (c .before .before .put-digits .ensures, (refl, omega (arith, counted .1)))
+    rw (← counted .0) (record { is = c .before .before .put-digits .ensures; past = rw length-digits }, omega (arith, counted .1))
 
 pub put-decimal-spec : {M : Type 1} → statement M
 put-decimal-spec = tie.close (tie.spec (λ c κs. search needs) (λ c κs. search needs) (λ c. search needs) (λ c. search needs) returns)

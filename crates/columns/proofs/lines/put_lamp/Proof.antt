@@ -2,7 +2,7 @@
 use native.Mathlib.Omega.{arith}
 use borrow.Author.Needs.{needs}
 use Rattle.columns.specs.Lines.{lineBytes}
-use Rattle.columns.proofs.LineLaws.{Put, put-then}
+use Rattle.columns.proofs.LineLaws.{put-then}
 use Rattle.columns.proofs.lines.put_lamp.Statement.{statement}
 use Rattle.columns.proofs.lines.put_lamp.Tie as tie
 
@@ -15,9 +15,7 @@ returns c =
     let first = second .before .before .before .before in
     let drawn = first .put-chance .ensures in
     let handle = first .before .before .before .before .put-decimal .ensures in
-    let all = put-then (put-then (put-then (record { is = handle .0; past = handle .1 .0 }) (record { is = drawn .0; past = drawn .1 .0 }))
-        (record { is = named .0; past = named .1 .0 })) (record { is = end .0; past = end .1 }) in
-    (all .is, (all .past, omega (arith, handle .1 .1, drawn .1 .1, named .1 .1, end .1)))
+    (put-then (put-then (put-then (handle .0) (drawn .0)) (named .0)) end, omega (arith, handle .1, drawn .1, named .1, end .past))
 
 pub put-lamp-spec : {M : Type 1} → statement M
 put-lamp-spec =

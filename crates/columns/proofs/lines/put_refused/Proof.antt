@@ -2,7 +2,7 @@
 use native.Mathlib.Omega.{arith}
 use borrow.Author.Needs.{needs}
 use Rattle.columns.specs.Lines.{lineBytes}
-use Rattle.columns.proofs.LineLaws.{Put, put-then}
+use Rattle.columns.proofs.LineLaws.{put-then}
 use Rattle.columns.proofs.lines.put_refused.Statement.{statement}
 use Rattle.columns.proofs.lines.put_refused.Tie as tie
 
@@ -14,9 +14,8 @@ returns c =
     let number = second .put-decimal .ensures in
     let first = second .before .before .before .before .before in
     let said = first .put-text .ensures in
-    let all = put-then (put-then (record { is = said .0; past = said .1 }) (record { is = number .0; past = number .1 .0 }))
-        (record { is = end .0; past = end .1 }) in
-    rw (← second .before .refusal-number .ensures) (all .is, (all .past, omega (arith, said .1, number .1 .1, end .1)))
+    rw (← second .before .refusal-number .ensures)
+    (put-then (put-then said (number .0)) end, omega (arith, said .past, number .1, end .past))
 
 pub put-refused-spec : {M : Type 1} → statement M
 put-refused-spec =
