@@ -1,0 +1,25 @@
+-- `columns::block_lamps` meets its contract: its three tests are the definition's. Assumes nothing.
+use borrow.Author.Needs.{needs}
+use borrow.Author.Tests.{lt-ltb, le-ltb}
+use Rattle.columns.specs.Report.{blockLamps}
+use Rattle.columns.proofs.block_lamps.Statement.{statement}
+use Rattle.columns.proofs.block_lamps.Tie as tie
+
+returns : tie.Need-returns
+unfolding blockLamps
+returns c = rw (lt-ltb _ 4 (c .if1 .taken))
+
+returns-2 : tie.Need-returns-2
+unfolding blockLamps
+returns-2 c = ?
+
+returns-3 : tie.Need-returns-3
+unfolding blockLamps
+returns-3 c = ?
+
+returns-4 : tie.Need-returns-4
+unfolding blockLamps
+returns-4 c = ?
+
+pub block-lamps-spec : {M : Type 1} → statement M
+block-lamps-spec = tie.close (tie.spec returns (λ c κs. search needs) (λ c κs. search needs) returns-2 (λ c. search needs) (λ c. search needs) (λ c. search needs) returns-3 returns-4)
