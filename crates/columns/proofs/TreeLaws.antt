@@ -7,20 +7,20 @@ use native.Mathlib.Omega.{arith}
 use borrow.Author.Tests.{eqb-true, ltb-true, ltb-false, eq-eqb, le-leb}
 use lib.Dec.{eqb, ltb, leb}
 use lib.ListN.{length, getD, take, drop, replicate}
-use lib.Seq.{take-at}
+use lib.Seq.{take-at, length-take-le}
 use Rattle.words.specs.Answers.{Answer, given, refused, _then_}
 use Rattle.words.specs.Limits.{crowded}
 use Rattle.words.specs.LittleEndian.{wordsOf, bytesOf, wordCount, readWords, writtenWords}
 use Rattle.words.specs.Rows.{below}
 use Rattle.words.specs.Tray.{tray}
-use Rattle.words.proofs.AnswerLaws.{then-given, given-injective, not-both}
+use Rattle.words.proofs.AnswerLaws.{then-given, given-injective, refused-injective, not-both}
 use Rattle.words.proofs.LittleEndianLaws.{length-wordsOf, length-bytesOf}
 use Rattle.lamps.specs.Block.{blockWords, sideAt, blockLayout, blockHandles}
-use Rattle.light_bvh.specs.Build.{LightBVH, validated, builtBvh, isShort, buildCheck, buildLightBvh, nodesReserve, nodesWritten, tableWritten}
+use Rattle.light_bvh.specs.Build.{LightBVH, validated, builtBvh, isShort, buildCheck, buildLightBvh, nodesReserve, nodesWritten, tableWritten, summary}
 use Rattle.light_bvh.proofs.RowsLaws.{bounded-few}
 use Rattle.tree_laws.specs.AcceptedTree.{Parts, accepted-parts, handles-count}
 use Rattle.light_runs.specs.NodeLaws.{node-words, table-words}
-use Rattle.columns.specs.Report.{reportLamps, blockBytes, blockLamps, Laid}
+use Rattle.columns.specs.Report.{reportLamps, blockBytes, blockLamps, treeOf, reportTree, powered, sizes, Laid}
 
 -- ---- trays
 
@@ -106,13 +106,54 @@ module _ (lights : ℕ) (ws : List ℕ) (nodes table work : ℕ) (b : LightBVH) 
       go l k true is e = eqb-true lights l is
       go l k false is e = absurd (not-both e refl)
 
+  pub powered-few : b .k ≤ b .rows
+  powered-few = rw (parts .powered) (bounded-few ws (b .rows))
+
   pub laid : (nodesBefore tableBefore nodesAfter tableAfter : List ℕ)
       → nodesAfter ≡ tray nodesWritten (nodesReserve (getD ws 0 0)) (buildLightBvh lights ws nodes table work) nodesBefore
       → tableAfter ≡ tray tableWritten (getD ws 0 0) (buildLightBvh lights ws nodes table work) tableBefore
       → Laid b nodesAfter tableAfter
   laid nodesBefore tableBefore nodesAfter tableAfter nodes-are table-is =
       record {
-        few = rw (parts .powered) (bounded-few ws (b .rows));
+        few = powered-few;
         nodes-are = rw (nodes-are, accepted) (tray-front nodesWritten (nodesReserve (getD ws 0 0)) (nodesReserve (b .k)) b nodesBefore (node-words ws b parts));
         table-is = rw (table-is, accepted) (tray-front tableWritten (getD ws 0 0) (b .rows) b tableBefore (table-words ws b parts));
       }
+
+-- ---- the answer
+
+pub sizes-given : (m : ℕ) (ws : List ℕ) (k : ℕ) → given k ≡ powered (summary (treeOf m ws)) → given (m, k) ≡ sizes (treeOf m ws)
+unfolding treeOf sizes powered
+sizes-given m ws k e = go (treeOf m ws) refl e
+  where
+    go : (x : Answer LightBVH) → treeOf m ws ≡ x → given k ≡ powered (summary x) → given (m, k) ≡ sizes x
+    go (given b) is e = rw (rows-are m ws _ _ _ b is, given-injective e)
+    go (refused n) is e = absurd (not-both (sym e) refl)
+
+pub sizes-refused : (x : Answer LightBVH) (n : ℕ) → refused n ≡ powered (summary x) → refused n ≡ sizes x
+unfolding sizes powered
+sizes-refused (given b) n e = absurd (not-both e refl)
+sizes-refused (refused m) n e = ap refused (refused-injective {A = ℕ} e)
+
+-- no more lamps than a report takes
+pub sizes-few : (input : List ℕ) (m k : ℕ) → given (m, k) ≡ sizes (reportTree input) → (k ≤ m) × (m ≤ reportLamps)
+unfolding reportTree treeOf sizes
+sizes-few input m k e = go (reportTree input) refl e
+  where
+    go : (x : Answer LightBVH) → reportTree input ≡ x → given (m, k) ≡ sizes x → (k ≤ m) × (m ≤ reportLamps)
+    go (given b) is e =
+        let (l, count, tree) = then-given (blockLamps input) (λ (m : ℕ). treeOf m (wordsOf (take (blockBytes m) input))) b is in
+        let same = given-injective e in
+        let rows : m ≡ b .rows = ap (λ (p : ℕ × ℕ). p .0) same in
+        let powered : k ≡ b .k = ap (λ (p : ℕ × ℕ). p .1) same in
+        let (few, _) = lamps-there input l count in
+        let ws = wordsOf (take (blockBytes l) input) in
+        (omega (arith, rows, powered, powered-few l ws _ _ _ b tree), omega (arith, rows, few, rows-are l ws _ _ _ b tree))
+    go (refused n) is e = absurd (not-both (sym e) refl)
+
+-- a block's words stand at the front of the slice that its bytes were read into
+pub block-read : (m : ℕ) (input after : List ℕ) → blockBytes m ≤ length input
+    → take (length (take (blockBytes m) input) / 4) after ≡ wordsOf (take (blockBytes m) input) → take (blockWords m) after ≡ wordsOf (take (blockBytes m) input)
+block-read m input after room e =
+    let n : length (take (blockBytes m) input) / 4 ≡ blockWords m = rw (length-take-le (blockBytes m) input room) (omega arith) in
+    rw n at e
