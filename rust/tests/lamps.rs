@@ -1,14 +1,14 @@
 //! The differential runs of the gate: the proved lamp lists and blocks against the oracle, its stored answers, the limits, and the
-//! tool that makes lists of plain text.
+//! program that turns lists into blocks.
 
 use coltoctober::blocks;
 use coltoctober::cases::Random;
-use coltoctober::lists::{list_of, read, wrapping_count, Kind, BLOCK_RECORD, KINDS, MOST_LAMPS, MOST_WORDS};
+use coltoctober::lists::{list_of, wrapping_count, Kind, BLOCK_RECORD, KINDS, MOST_LAMPS, MOST_WORDS};
 use coltoctober::proved::{lamps_build_light_bounds, lamps_check_block};
 use coltoctober::stored::{check, PATTERN};
 use coltoctober::stored_lamps::Stored;
 use std::io::Write;
-use std::process::{Command, Output, Stdio};
+use std::process::{Command, Stdio};
 
 /// The answer, and the block of so many words after the call.
 fn built(list: &[u32], room: usize) -> (Result<(), u32>, Vec<u32>) {
@@ -185,113 +185,25 @@ fn check_block() {
     assert_eq!(lamps_check_block(&vec![0; MOST_WORDS + 1]), Err(2));
 }
 
-/// `tools/lamps` with a command's words, on some input.
-fn tool(words: &str, input: &[u8]) -> Output {
-    let path = concat!(env!("CARGO_MANIFEST_DIR"), "/../tools/lamps");
-    let mut command = Command::new("python3");
-    command.arg(path).args(words.split(' ')).stdin(Stdio::piped()).stdout(Stdio::piped()).stderr(Stdio::piped());
-    let mut tool = command.spawn().expect("python3 runs");
-    tool.stdin.take().unwrap().write_all(input).unwrap();
-    tool.wait_with_output().unwrap()
-}
-
-/// How it ended, and what it said of that.
-fn said(output: &Output) -> (Option<i32>, String) {
-    (output.status.code(), String::from_utf8_lossy(&output.stderr).into_owned())
+/// The program lamps_to_block on lists, good and damaged: the block's bytes, or `refused N`.
+#[test]
+fn program() {
+    let path = concat!(env!("CARGO_MANIFEST_DIR"), "/../target/bin/lamps_to_block");
+    let mut random = Random::new(3);
+    for _ in 0..40 {
+        let list = random.list_case().list;
+        let mut command = Command::new(path);
+        let mut running = command.stdin(Stdio::piped()).stdout(Stdio::piped()).spawn().expect("target/bin/lamps_to_block runs");
+        running.stdin.take().unwrap().write_all(&little_endian(&list)).unwrap();
+        let output = running.wait_with_output().unwrap();
+        let (answer, block) = built(&list, 1 + BLOCK_RECORD * list.first().map_or(0, |count| *count as usize).min(MOST_LAMPS));
+        let expected = answer.map_or_else(|number| format!("refused {number}\n").into_bytes(), |()| little_endian(&block));
+        assert_eq!((output.status.code(), output.stdout), (Some(0), expected));
+    }
 }
 
 fn little_endian(words: &[u32]) -> Vec<u8> {
     words.iter().flat_map(|word| word.to_le_bytes()).collect()
-}
-
-const ROOM: &str = include_str!("../../examples/room.txt");
-
-/// The example as a table, as a list, as a block and as a table again.
-#[test]
-fn plain_text() {
-    let made = tool("list", ROOM.as_bytes());
-    assert!(made.status.success(), "{}", String::from_utf8_lossy(&made.stderr));
-    let list: Vec<u32> = made.stdout.as_chunks().0.iter().map(|word| u32::from_le_bytes(*word)).collect();
-    let corner = |x: f32, y: f32| [x, y, 2.4];
-    let (a, b, c, d) = (corner(-0.6, -0.2), corner(0.6, -0.2), corner(0.6, 0.2), corner(-0.6, 0.2));
-    let rest = [0.24, 0.0, 0.0, -1.0];
-    let expected: [(Kind, Vec<u32>); 4] = [
-        (Kind::Point, words(&[-1.2, 0.8, 1.9, 3.0, 1.0])),
-        (Kind::Point, words(&[1.2, 0.8, 1.9, 3.0, 0.5])),
-        (Kind::Spot, words(&[0.4, 0.3, 2.2, 0.0, 0.0, -1.0, 40.0, 1.0, 0.9063078, 0.819152])),
-        (Kind::Group, [&words(&[8.0, 1.0])[..], &[0, 2], &words(&[&a[..], &b, &c, &rest, &a, &c, &d, &rest].concat())].concat()),
-    ];
-    let lamps = read(&list).expect("the tool's list has the layout");
-    assert_eq!(lamps.len(), expected.len());
-    for (place, (lamp, (kind, words))) in lamps.iter().zip(&expected).enumerate() {
-        assert_eq!((lamp.kind, lamp.handle as usize, lamp.words), (*kind, place, &words[..]));
-    }
-
-    let (answer, block) = built(&list, 1 + BLOCK_RECORD * 4);
-    assert_eq!(answer, Ok(()));
-    #[cfg(reference)]
-    {
-        let mut oracle = vec![PATTERN; block.len()];
-        assert_eq!((coltoctober::reference::build_light_bounds(&list, &mut oracle), &oracle), (Ok(()), &block));
-    }
-    let table = tool("block", &little_endian(&block));
-    assert_eq!(String::from_utf8_lossy(&table.stdout), TABLE);
-}
-
-const TABLE: &str = "\
-# handle min_x min_y min_z max_x max_y max_z direction_x direction_y direction_z phi cos_theta_o cos_theta_e sides
-0 -1.2 0.8 1.9 -1.2 0.8 1.9 0 0 1 37.699112 -1 -4.371139e-08 one
-1 1.2 0.8 1.9 1.2 0.8 1.9 0 0 1 18.849556 -1 -4.371139e-08 one
-2 0.4 0.3 2.2 0.4 0.3 2.2 0 0 -1 502.65485 0.9063078 0.9848077 one
-3 -0.6 -0.2 2.4 0.6 0.2 2.4 0 0 -1 12.063716 1 -4.371139e-08 one
-";
-
-/// What the tool cannot read: the line is named; a report's refusal is handed on.
-#[test]
-fn unreadable_text() {
-    let lines =
-        ["point 1 2 3 4", "point 1 2 3 4 x", "lamp", "spot 1 2 3", "group 1 1 both", "group 1 1 one | 1", "point 1 2 3 4 1e39"];
-    for line in lines {
-        let (code, text) = said(&tool("list", format!("# a comment\n\n{line}\n").as_bytes()));
-        assert!(code == Some(1) && text.starts_with("line 3: "), "{line}: {code:?} {text}");
-    }
-    assert_eq!(
-        tool("list", b"point 0x7fc00000 -0 1e-45 .5 1.").stdout,
-        little_endian(&[1, 1 << 30, 0x7fc0_0000, 1 << 31, 1, 0x3f00_0000, 0x3f80_0000])
-    );
-    let (code, text) = said(&tool("block", b"refused 7\n"));
-    assert!(code == Some(1) && text.starts_with("refused 7: "), "{code:?} {text}");
-    assert_eq!(tool("block", &little_endian(&[1])).status.code(), Some(1));
-}
-
-/// A room by the proved program: the table of its block, or one line that names the lamp and the reason.
-#[test]
-fn rooms() {
-    let program = concat!("room ", env!("CARGO_MANIFEST_DIR"), "/../target/bin/lamps_to_block");
-    let table = tool(program, ROOM.as_bytes());
-    assert_eq!((said(&table), String::from_utf8_lossy(&table.stdout).as_ref()), ((Some(0), String::new()), TABLE));
-    let triangle = "| 0 0 0 1 0 0 0 1 0 0.5 0 0 1 ";
-    let flat = "| 0 0 0 1 0 0 0 1 0 0 0 0 1 ";
-    for (room, start) in [
-        ("point 1 2 3 1 1\npoint 1 2 x 1 1".into(), "line 2: 'x' is no number"),
-        ("point 1 2 3 1 1\n\nspot 1 2 3 0 0 0 1 1 0.5 0.4".into(), "line 3: lamp 1, a spot: refused 7: "),
-        (
-            format!("group 1 1 one {triangle}{flat}{triangle}\npoint 0 0 0 -1 1"),
-            "line 1: lamp 0, a group, at its triangle 2: refused 9: ",
-        ),
-        ("point 0 0 0 1 1\npoint 0 0 0 -1 1".into(), "line 2: lamp 1, a point: refused 8: "),
-        ("group 1 1 two".into(), "line 1: lamp 0, a group: refused 9: "),
-        ("point 0x7fc00000 0 0 1 1".into(), "line 1: lamp 0, a point: refused 5: "),
-        ("point 0 0 0 1 1\n".repeat(MOST_LAMPS + 1), "refused 2: "),
-    ] {
-        let output = tool(program, room.as_bytes());
-        let (code, text) = said(&output);
-        assert!(
-            code == Some(1) && text.starts_with(start) && text.lines().count() == 1 && output.stdout.is_empty(),
-            "{code:?} {text}"
-        );
-    }
-    assert_eq!(said(&tool("room /nowhere/lamps_to_block", b"")).0, Some(2));
 }
 
 coltoctober::differential! {

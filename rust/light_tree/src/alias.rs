@@ -1,0 +1,85 @@
+use crate::{MAX_LAMPS, Refusal, sys};
+
+/// A bin of an [`AliasTable`].
+///
+/// ```
+/// use light_tree::{AliasTable, PowerAliasBin};
+///
+/// assert_eq!(AliasTable::build(&[1.0, 3.0])?.bins()[0], PowerAliasBin { q: 0.5, p: 0.25, alias: 1 });
+/// # Ok::<(), light_tree::Refusal>(())
+/// ```
+#[derive(Clone, Copy, Debug, PartialEq)]
+#[repr(C)]
+pub struct PowerAliasBin {
+    /// Below this the bin's own place is drawn, from it on its alias.
+    pub q: f32,
+    /// The weight's share of the sum.
+    pub p: f32,
+    /// The other place, [`INVALID_INDEX`](crate::INVALID_INDEX) where q is 1.
+    pub alias: u32,
+}
+
+/// An alias table: draws by weight alone, as of lamps by their power, with one look.
+///
+/// To draw, pick a bin, each alike, and a number from 0 to below 1: below q the bin's own place is drawn, else its alias.
+///
+/// ```
+/// use light_tree::{AliasTable, INVALID_INDEX};
+///
+/// let table = AliasTable::build(&[1.0, 3.0])?;
+/// assert_eq!(table.bins().iter().map(|bin| bin.p).collect::<Vec<_>>(), [0.25, 0.75]);
+/// assert_eq!((table.bins()[1].q, table.bins()[1].alias), (1.0, INVALID_INDEX));
+/// # Ok::<(), light_tree::Refusal>(())
+/// ```
+#[derive(Clone, Debug, PartialEq)]
+pub struct AliasTable {
+    bins: Vec<PowerAliasBin>,
+}
+
+impl AliasTable {
+    /// The table of at most 4,096 weights, each finite and not below 0. Where their sum is 0 each counts as 1.
+    ///
+    /// One allocation: the work stands behind the bins, and its room is given back.
+    ///
+    /// ```
+    /// use light_tree::{AliasTable, Refusal};
+    ///
+    /// assert_eq!(AliasTable::build(&[0.0; 4])?.bins()[2].p, 0.25);
+    /// assert_eq!(AliasTable::build(&[f32::NAN]), Err(Refusal::OutOfRange));
+    /// assert_eq!(AliasTable::build(&[1.0; 4097]), Err(Refusal::Crowded));
+    /// # Ok::<(), Refusal>(())
+    /// ```
+    pub fn build(weights: &[f32]) -> Result<AliasTable, Refusal> {
+        let count = weights.len();
+        if count > MAX_LAMPS {
+            return Err(Refusal::Crowded);
+        }
+        // the work is four words a weight, a bin three
+        let mut bins = vec![PowerAliasBin { q: 0.0, p: 0.0, alias: 0 }; count + (4 * count).div_ceil(3)];
+        let (front, work) = bins.split_at_mut(count);
+        sys::alias_table(weights, front, work)?;
+        bins.truncate(count);
+        bins.shrink_to_fit();
+        Ok(AliasTable { bins })
+    }
+
+    /// A bin for each weight.
+    ///
+    /// ```
+    /// assert_eq!(light_tree::AliasTable::build(&[])?.bins(), []);
+    /// # Ok::<(), light_tree::Refusal>(())
+    /// ```
+    pub fn bins(&self) -> &[PowerAliasBin] {
+        &self.bins
+    }
+
+    /// The bins, as their owner.
+    ///
+    /// ```
+    /// assert_eq!(light_tree::AliasTable::build(&[2.0])?.into_bins().len(), 1);
+    /// # Ok::<(), light_tree::Refusal>(())
+    /// ```
+    pub fn into_bins(self) -> Vec<PowerAliasBin> {
+        self.bins
+    }
+}
