@@ -153,7 +153,8 @@ sizes-few input m k e = go (reportTree input) refl e
 
 -- a block's words stand at the front of the slice that its bytes were read into
 pub block-read : (m : ℕ) (input after : List ℕ) → blockBytes m ≤ length input
-    → take (length (take (blockBytes m) input) / 4) after ≡ wordsOf (take (blockBytes m) input) → take (blockWords m) after ≡ wordsOf (take (blockBytes m) input)
+    → take (length (take (blockBytes m) input) / 4) after ≡ wordsOf (take (blockBytes m) input)
+    → take (blockWords m) after ≡ wordsOf (take (blockBytes m) input)
 block-read m input after room e =
     let n : length (take (blockBytes m) input) / 4 ≡ blockWords m = rw (length-take-le (blockBytes m) input room) (omega arith) in
     rw n at e

@@ -85,7 +85,13 @@ fn lay_words(words: &[u32], bytes: &mut [u8])
 }
 
 // Builds the tree; how many lamps have power.
-fn build_tree(lamps: usize, block: &[u32], nodes: &mut [u32], table: &mut [u32], work: &mut [u32]) -> Counted
+fn build_tree(
+    lamps: usize,
+    block: &[u32],
+    nodes: &mut [u32],
+    table: &mut [u32],
+    work: &mut [u32],
+) -> Counted
     requires { ⌜ (length (now nodes) ≡ 16368) × (length (now table) ≡ 512) × (length (now work) ≡ 1024) ⌝ }
     ensures { λ r. ⌜ counted r ≡ powered (summary (treeOf lamps (now (block .entry)))) ⌝ }
     ensures { λ _. ⌜ ((b : LightBVH) → treeOf lamps (now (block .entry)) ≡ given b → Laid b (now (nodes .exit)) (now (table .exit))) ⌝ }
@@ -98,7 +104,14 @@ fn build_tree(lamps: usize, block: &[u32], nodes: &mut [u32], table: &mut [u32],
 }
 
 // The same from the block's bytes.
-fn make_tree(lamps: usize, input: &[u8], block: &mut [u32], nodes: &mut [u32], table: &mut [u32], work: &mut [u32]) -> Counted
+fn make_tree(
+    lamps: usize,
+    input: &[u8],
+    block: &mut [u32],
+    nodes: &mut [u32],
+    table: &mut [u32],
+    work: &mut [u32],
+) -> Counted
     requires { ⌜ (lamps ≤ 512) × (blockBytes lamps ≤ length (now input)) × (7169 ≤ length (now block)) ⌝ }
     requires { ⌜ (length (now nodes) ≡ 16368) × (length (now table) ≡ 512) × (length (now work) ≡ 1024) ⌝ }
     ensures { λ r. ⌜ counted r ≡ powered (summary (treeOf lamps (wordsOf (take (blockBytes lamps) (now (input .entry)))))) ⌝ }
@@ -112,7 +125,13 @@ fn make_tree(lamps: usize, input: &[u8], block: &mut [u32], nodes: &mut [u32], t
 }
 
 // The tree of the block at the front of the input. Its nodes and its handle table stand at the front of the two trays.
-fn take_tree(input: &[u8], block: &mut [u32], nodes: &mut [u32], table: &mut [u32], work: &mut [u32]) -> Taken
+fn take_tree(
+    input: &[u8],
+    block: &mut [u32],
+    nodes: &mut [u32],
+    table: &mut [u32],
+    work: &mut [u32],
+) -> Taken
     requires { ⌜ (7169 ≤ length (now block)) × (length (now nodes) ≡ 16368) × (length (now table) ≡ 512) × (length (now work) ≡ 1024) ⌝ }
     ensures { λ r. ⌜ taken r ≡ sizes (reportTree (now (input .entry))) ⌝ }
     ensures { λ _. ⌜ ((b : LightBVH) → reportTree (now (input .entry)) ≡ given b → Laid b (now (nodes .exit)) (now (table .exit))) ⌝ }
@@ -193,7 +212,12 @@ fn write_report(
     lay_words(&table[0..lamps], table_bytes);
     let nodes_end = 4 * words;
     let table_end = 4 * lamps;
-    write_groups(&node_bytes[0..nodes_end], &table_bytes[0..table_end], chunk, out);
+    write_groups(
+        &node_bytes[0..nodes_end],
+        &table_bytes[0..table_end],
+        chunk,
+        out,
+    );
 }
 
 fn report(
@@ -212,7 +236,16 @@ fn report(
 {
     let n = read_block(chunk);
     match take_tree(&chunk[0..n], block, nodes, table, work) {
-        Taken::Tree(lamps, k) => write_report(lamps, k, nodes, table, node_bytes, table_bytes, chunk, out),
+        Taken::Tree(lamps, k) => write_report(
+            lamps,
+            k,
+            nodes,
+            table,
+            node_bytes,
+            table_bytes,
+            chunk,
+            out,
+        ),
         Taken::Refused(why) => write_refused(why, out),
     }
 }
@@ -228,7 +261,16 @@ fn lend(
     out: &mut [u8; 59421],
 ) {
     if write(b"lamp drawn named\n") {
-        report(block, nodes, table, work, node_bytes, table_bytes, chunk, out);
+        report(
+            block,
+            nodes,
+            table,
+            work,
+            node_bytes,
+            table_bytes,
+            chunk,
+            out,
+        );
     }
 }
 

@@ -15,4 +15,5 @@ abbrev μ-loop : tie.MeasureT-loop
 pub write-groups-spec : {M : Type 1} → statement M
 write-groups-spec =
     tie.close (tie.spec Inv-loop μ-loop (λ c. (refl, refl)) (λ c κs. search needs) (λ c. omega arith) (λ c. omega arith)
-    (λ c. (search needs, search needs)) (λ c. search needs) (λ c. search needs) (λ c. search needs) (λ c. search needs) (λ c. search needs) (λ c. search needs))
+    (λ c. (search needs, search needs)) (λ c. search needs) (λ c. search needs) (λ c. search needs) (λ c. search needs)
+    (λ c. search needs) (λ c. search needs))
