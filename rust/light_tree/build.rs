@@ -13,11 +13,11 @@ fn main() {
     println!("cargo:rerun-if-changed={}", archive.display());
     let Ok(archive) = archive.canonicalize() else {
         let there = folder.canonicalize().unwrap_or(folder);
-        eprintln!(
-            "{}/liblight_c.a is absent: run `rt staticlib light_c` in the repository's root, or set {FOLDER} to the folder that has it",
+        println!(
+            "cargo::error={}/liblight_c.a is absent: run `rt staticlib light_c` in the repository's root, or set {FOLDER} to the folder that has it",
             there.display()
         );
-        std::process::exit(1);
+        return;
     };
     println!("cargo:rustc-link-search=native={}", archive.parent().unwrap().display());
     println!("cargo:rustc-link-lib=static=light_c");

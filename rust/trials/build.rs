@@ -107,5 +107,6 @@ fn main() {
     if let (Ok(bounds), Ok(bvh), Ok(sampler), Ok(packed), Ok(sampling)) = (bounds, bvh, sampler, packed, sampling) {
         prepare(&bounds, &bvh, &sampler, &packed, &sampling);
         println!("cargo:rustc-cfg=reference");
+        println!("cargo:rustc-env=REFERENCE_FILES={}", files.canonicalize().unwrap().display());
     }
 }

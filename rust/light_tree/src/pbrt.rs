@@ -52,22 +52,48 @@ pub const LIGHT_BVH_INDEX_MAX: u32 = 0x7fff_ffff;
 /// assert_eq!(build_light_bounds(&[misplaced]), Err(Refusal::Misplaced));
 /// ```
 #[derive(Clone, Debug, PartialEq)]
-#[allow(missing_docs, reason = "the fields are those of `Lamp`")]
 pub enum LightBoundInput {
     /// [`Lamp::Point`](crate::Lamp::Point).
-    Point { handle: u32, world_position: [f32; 3], intensity_max: f32, scale: f32 },
+    Point {
+        /// Its place among the lamps.
+        handle: u32,
+        /// Where it is.
+        world_position: [f32; 3],
+        /// Its greatest intensity, not below 0.
+        intensity_max: f32,
+        /// A factor, not below 0.
+        scale: f32,
+    },
     /// [`Lamp::Spot`](crate::Lamp::Spot).
     Spot {
+        /// Its place among the lamps.
         handle: u32,
+        /// Where it is.
         world_position: [f32; 3],
+        /// Which way it shines, at any length.
         direction: [f32; 3],
+        /// Its greatest intensity, not below 0.
         intensity_max: f32,
+        /// A factor, not below 0.
         scale: f32,
+        /// The cosine of the angle where its light begins to fall off.
         cos_theta_o: f32,
+        /// The cosine of the angle where it ends.
         cos_falloff_end: f32,
     },
     /// [`Lamp::Group`](crate::Lamp::Group).
-    AreaGroup { handle: u32, triangles: Vec<AreaTriangleInput>, emission_max: f32, scale: f32, two_sided: bool },
+    AreaGroup {
+        /// Its place among the lamps.
+        handle: u32,
+        /// At least one.
+        triangles: Vec<AreaTriangleInput>,
+        /// Its greatest emission, not below 0.
+        emission_max: f32,
+        /// A factor, not below 0.
+        scale: f32,
+        /// Whether both sides shine.
+        two_sided: bool,
+    },
 }
 
 impl LightBoundInput {
