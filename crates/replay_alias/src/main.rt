@@ -1,4 +1,4 @@
-// Replays the stored answers of the alias table: pbrt-r4's own light_sampler.rs (rust/src/reference.rs). A case is 161 words: how many weights, the
+// Replays the stored answers of the alias table: pbrt-r4's own light_sampler.rs (rust/trials/src/reference.rs). A case is 161 words: how many weights, the
 // words lent for the bins and for the work, a refusal's number or 0, weights 17, the bins at exit 60, the work at exit 80. Bins and work are filled
 // with a5a5a5a5 before the call, lent as far as the case says, and compared whole after it.
 ghost use Prim.Native.Nat.{_≤_};

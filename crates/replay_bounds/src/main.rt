@@ -1,4 +1,4 @@
-// Replays the stored answers of the bounds: pbrt-r4's own light_bounds.rs over document 01's library functions (rust/src/reference.rs). A case is
+// Replays the stored answers of the bounds: pbrt-r4's own light_bounds.rs over document 01's library functions (rust/trials/src/reference.rs). A case is
 // forty words: a 13, b 13, a refusal's number or 0, result 13. Kinds 201 to 204 are cos, sin, acos and asin of the word a; 205 is the check of the
 // record a, 206 the union of a and b, 207 the importance of a for the query b.
 use light_bounds::bounds::Validity;

@@ -1,5 +1,5 @@
-// Replays the stored answers of the floats, document 01's library functions: rust/src/standins.rs has them again in Rust. A case is six words: a low,
-// a high, b, c, result low, result high; rust/src/functions.rs numbers the kinds.
+// Replays the stored answers of the floats, document 01's library functions: rust/trials/src/standins.rs has them again in Rust. A case is six words: a low,
+// a high, b, c, result low, result high; rust/trials/src/functions.rs numbers the kinds.
 use floats::choose;
 use floats::narrow;
 use floats::sqrt;

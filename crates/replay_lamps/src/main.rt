@@ -1,5 +1,5 @@
 // Replays the stored answers of the lamp lists: pbrt-r4's own light_bounds.rs and light_sampler.rs over document 01's library functions
-// (rust/src/reference.rs). A case is 243 words: how many words the lamp list has, the words lent for the block, a refusal's number or 0, the lamp
+// (rust/trials/src/reference.rs). A case is 243 words: how many words the lamp list has, the words lent for the block, a refusal's number or 0, the lamp
 // list 160, the block at exit 80. The block is filled with a5a5a5a5 before the call, lent as far as the case says, and compared whole after it.
 ghost use Prim.Native.Nat.{_≤_};
 ghost use lib.ListN.{length};

@@ -1,4 +1,4 @@
-// Replays the stored answers of the packing: pbrt-r4's own webgpu/light_bvh.rs over document 01's library functions (rust/src/pack_oracle.rs). A case is 241
+// Replays the stored answers of the packing: pbrt-r4's own webgpu/light_bvh.rs over document 01's library functions (rust/trials/src/pack_oracle.rs). A case is 241
 // words: the bytes that there are of nodes, k, whether there is a box, the box 6, how many bytes are lent, a refusal's number or 0, whether words are packed, how
 // many, the nodes 144, then the bytes lent 84 at exit. These are a5 before the call, lent as far as the case says, and compared whole after it.
 ghost use Prim.Native.Nat.{_≤_};

@@ -1,4 +1,4 @@
-// Replays the stored answers of the tree's build: pbrt-r4's own flat/light_bvh.rs (rust/src/reference.rs). A case is 253 words: the light records' count, the
+// Replays the stored answers of the tree's build: pbrt-r4's own flat/light_bvh.rs (rust/trials/src/reference.rs). A case is 253 words: the light records' count, the
 // block's length, the words lent for nodes, table and work, a refusal's number or 0, k, whether there is a box, the box 6, the block 71, then nodes 147, table 8
 // and work 13 at exit. The three are filled with a5a5a5a5 before the call, lent as far as the case says, and compared whole after it.
 ghost use Prim.Native.Nat.{_≤_};

@@ -1,4 +1,4 @@
-// Replays the stored answers of the draws and the chances by name: pbrt-r4's own flat/light_bvh.rs over document 01's library functions (rust/src/walk_oracle.rs).
+// Replays the stored answers of the draws and the chances by name: pbrt-r4's own flat/light_bvh.rs over document 01's library functions (rust/trials/src/walk_oracle.rs).
 // A case is 229 words: the bytes that there are of nodes and of table, the query 6, u's word (kind 600) or a handle (kind 601), a refusal's number or 0, whether
 // a chance is given, the handle drawn, the chance, then nodes 208 and table 8. Words are handed on as bytes, no more than the case says.
 ghost use Prim.Native.Nat.{_≤_};

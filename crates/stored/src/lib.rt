@@ -1,5 +1,5 @@
 // What the programs replay_* share: the cases of a part's stored answers, read from standard input, and the count of those that differ. A case is little-endian
-// words: a kind, how many words follow, those words. `tools/answers` makes them (rust/src/stored.rs).
+// words: a kind, how many words follow, those words. `tools/answers` makes them (rust/trials/src/stored.rs).
 ghost use Prim.Native.Nat.{_+_, _≤_, min};
 ghost use mathlib.Core.Path.{_≡_};
 ghost use lib.ListN.{length, drop};

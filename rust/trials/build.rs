@@ -89,11 +89,11 @@ fn prepare(bounds: &str, bvh: &str, sampler: &str, packed: &str, sampling: &str)
 }
 
 fn main() {
-    let archives = folder(ARCHIVES, "../target/staticlib");
+    let archives = folder(ARCHIVES, "../../target/staticlib");
     ["light_c", "parts_c"].iter().for_each(|name| link(&archives, name));
 
     println!("cargo:rustc-check-cfg=cfg(reference)");
-    let files = folder(REFERENCE, "../../shared/docs");
+    let files = folder(REFERENCE, "../../../shared/docs");
     let read = |name: &str| {
         let path = files.join(name);
         println!("cargo:rerun-if-changed={}", path.display());

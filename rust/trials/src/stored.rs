@@ -28,7 +28,7 @@ impl Case {
 
 /// A file of the program that replays a part: `stdin`, the cases, or `stdout`, what it must print of them.
 fn path(part: &str, file: &str) -> String {
-    format!("{}/../crates/replay_{part}/{file}", env!("CARGO_MANIFEST_DIR"))
+    format!("{}/../../crates/replay_{part}/{file}", env!("CARGO_MANIFEST_DIR"))
 }
 
 /// The stored cases of a part.

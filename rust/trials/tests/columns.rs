@@ -1,0 +1,154 @@
+//! The light report: the program columns on good, bad and cut input, its lines against those of the proved draw and chance by name.
+
+use coltoctober::blocks::block_of;
+use coltoctober::cases::Random;
+use coltoctober::lists::BLOCK_RECORD;
+use coltoctober::proved::{lamps_build_light_bounds, sampler_pmf, sampler_sample, tree_build_light_bvh};
+use coltoctober::records::{Query, Record};
+use coltoctober::rooms::Room;
+use coltoctober::trees::{all_about, reserves};
+use coltoctober::walks::bytes;
+use std::io::Write;
+use std::process::{Command, Stdio};
+
+const HEADER: &str = "lamp drawn named\n";
+/// The groups that the program reads at a time.
+const CHUNK: usize = 2048;
+
+/// What the program writes for an input.
+fn report(input: &[u8]) -> String {
+    let path = concat!(env!("CARGO_MANIFEST_DIR"), "/../../target/bin/columns");
+    let mut program = Command::new(path).stdin(Stdio::piped()).stdout(Stdio::piped()).spawn().expect("columns runs");
+    let (mut stdin, input) = (program.stdin.take().unwrap(), input.to_vec());
+    // a program that has refused the block reads no further
+    let writer = std::thread::spawn(move || drop(stdin.write_all(&input)));
+    let output = program.wait_with_output().unwrap();
+    writer.join().unwrap();
+    assert!(output.status.success());
+    String::from_utf8(output.stdout).unwrap()
+}
+
+/// A tree by the exported build, and the lines of groups by the exported walks.
+struct Tree {
+    nodes: Vec<u8>,
+    table: Vec<u8>,
+}
+
+impl Tree {
+    fn of(block: &[u32]) -> Tree {
+        let [mut nodes, mut table, mut work] = reserves(block[0] as usize).map(|reserve| vec![0; reserve]);
+        let (k, _) = tree_build_light_bvh(block[0], block, &mut nodes, &mut table, &mut work).unwrap();
+        nodes.truncate(reserves(k as usize)[0]);
+        Tree { nodes: bytes(&nodes), table: bytes(&table) }
+    }
+
+    fn line(&self, query: &Query, u: u32) -> String {
+        let shown = sampler_sample(&self.nodes, query, f32::from_bits(u)).and_then(|drawn| {
+            let named =
+                |(handle, chance)| sampler_pmf(&self.nodes, &self.table, query, handle).map(|by_name| (handle, chance, by_name));
+            drawn.map(named).transpose()
+        });
+        match shown {
+            Ok(Some((handle, drawn, named))) => format!("{handle} {drawn:08x} {named:08x}\n"),
+            Ok(None) => "none\n".into(),
+            Err(number) => format!("refused {number}\n"),
+        }
+    }
+}
+
+/// A report of good groups is the header and a line each; with bytes behind them, one more.
+fn agrees(block: &[u32], groups: &[(Query, u32)]) -> String {
+    let tree = Tree::of(block);
+    let mut input = bytes(block);
+    groups.iter().for_each(|(query, u)| input.extend(bytes(&[&query[..], &[*u]].concat())));
+    let lines: String = groups.iter().map(|(query, u)| tree.line(query, *u)).collect();
+    assert!(report(&input) == format!("{HEADER}{lines}"), "a report of {} groups differs", groups.len());
+    for stray in [1, 27] {
+        let part = [&input[..], &vec![0; stray]].concat();
+        assert!(report(&part) == format!("{HEADER}{lines}refused 1\n"), "{stray} bytes behind {} groups", groups.len());
+    }
+    lines
+}
+
+fn refused(input: &[u8], number: u32) {
+    assert_eq!(report(input), format!("{HEADER}refused {number}\n"));
+}
+
+fn office(random: &mut Random, lamps: usize) -> (Room, Vec<u32>) {
+    let room = Room::new(random, lamps);
+    let mut block = vec![0; 1 + BLOCK_RECORD * lamps];
+    lamps_build_light_bounds(&room.list, &mut block).unwrap();
+    (room, block)
+}
+
+fn office_groups(random: &mut Random, room: &Room, count: usize) -> Vec<(Query, u32)> {
+    (0..count).map(|_| (room.query(random), ((random.bits() >> 40) as f32 / (1 << 24) as f32).to_bits())).collect()
+}
+
+fn pair() -> Vec<u32> {
+    block_of(&[0.0, 2.0].map(|x| all_about([x, 0.0, 0.0], [x, 0.0, 0.0], 1.0)))
+}
+
+/// Blocks that end the report, in the order of their refusals.
+#[test]
+fn bad_blocks() {
+    refused(&[], 1);
+    refused(&[1, 2, 3], 1);
+    refused(&bytes(&[1]), 1);
+    refused(&bytes(&[513]), 2);
+    refused(&bytes(&[u32::MAX]), 2);
+    refused(&bytes(&[512]), 1);
+    let good = bytes(&pair());
+    (0..good.len()).for_each(|end| refused(&good[..end], 1));
+    assert_eq!(report(&good), HEADER);
+    let with = |place: usize, word: u32| {
+        let mut block = pair();
+        block[place] = word;
+        // what follows is not read as groups
+        bytes(&[&block[..], &[0; 70]].concat())
+    };
+    let nan = f32::NAN.to_bits();
+    for (place, word, number) in
+        [(14, 2, 1), (1, 1, 4), (2, nan, 5), (2, 9f32.to_bits(), 6), (10, 0, 7), (11, (-1f32).to_bits(), 8)]
+    {
+        refused(&with(place, word), number);
+    }
+    let big = all_about([-3e38; 3], [3e38; 3], 3e38);
+    refused(&bytes(&block_of(&[big, big, big])), 10);
+    let (_, block) = office(&mut Random::new(3), 513);
+    refused(&bytes(&block), 2);
+}
+
+/// Without powered lamps there is none to draw, whatever the point; a bad u is still refused.
+#[test]
+fn no_nodes() {
+    let groups = [0.5f32, f32::NAN, -0.0, 2.0].map(|u| ([f32::NAN.to_bits(); 6], u.to_bits()));
+    let dark: Vec<Record> = vec![all_about([0.0; 3], [1.0; 3], 0.0); 3];
+    for block in [vec![0], block_of(&dark)] {
+        assert_eq!(agrees(&block, &groups), "none\nrefused 11\nnone\nrefused 11\n");
+    }
+}
+
+/// A lone lamp is drawn unweighed; with two a point that is no point is refused, and the report goes on.
+#[test]
+fn refused_groups() {
+    let nowhere = [f32::NAN.to_bits(); 6];
+    let mut here = [0; 6];
+    (here[0], here[2]) = (1f32.to_bits(), 1f32.to_bits());
+    let lone = block_of(&[all_about([0.0; 3], [0.0; 3], 1.0)]);
+    assert_eq!(agrees(&lone, &[(nowhere, 0)]), "0 3f800000 3f800000\n");
+    let groups = [(here, 0x3e80_0000), (nowhere, 0), (here, 0x3f80_0001), (here, 0x3f40_0000)];
+    assert_eq!(agrees(&pair(), &groups), "0 3f000000 3f000000\nrefused 5\nrefused 11\n1 3f000000 3f000000\n");
+}
+
+/// Offices up to 512 lamps, and reports of many chunks and of just one or two.
+#[test]
+fn offices() {
+    let mut random = Random::new(4);
+    for (lamps, count) in [(64, 100_000), (512, 20_000), (512, CHUNK), (7, 2 * CHUNK), (130, CHUNK - 1), (3, CHUNK + 1), (1, 1)] {
+        let (room, block) = office(&mut random, lamps);
+        let lines = agrees(&block, &office_groups(&mut random, &room, count));
+        assert_eq!(lines.lines().count(), count);
+        assert!(lines.contains(' '), "no lamp was drawn of {lamps}");
+    }
+}
