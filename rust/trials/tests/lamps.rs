@@ -188,7 +188,7 @@ fn check_block() {
 /// The program lamps_to_block on lists, good and damaged: the block's bytes, or `refused N`.
 #[test]
 fn program() {
-    let path = concat!(env!("CARGO_MANIFEST_DIR"), "/../target/bin/lamps_to_block");
+    let path = concat!(env!("CARGO_MANIFEST_DIR"), "/../../target/bin/lamps_to_block");
     let mut random = Random::new(3);
     for _ in 0..40 {
         let list = random.list_case().list;
