@@ -4,11 +4,11 @@ use Prim.Native.Nat.{ℕ, zero, suc, _+_, _-_, _*_, _/_, _%_, _^_, _≤_, _<_}
 use mathlib.Core.Path.{_≡_, refl, sym, ap, _∙_}
 use mathlib.Core.Bool.{Bool, true, false, cond}
 use mathlib.Core.List.{List, [], _∷_, _++_, append-assoc, append-nil}
-use native.Mathlib.Nat.{pow-suc}
+use native.Mathlib.Nat.{pow-succ'}
 use native.Mathlib.Omega.{arith}
-use borrow.Author.Tests.{ltb-true, ltb-false}
-use lib.Dec.{ltb, eqb}
-use lib.ListN.{length, take, drop, length-append}
+use borrow.Author.Tests.{ltb-true, ltb-false, eq-eqb}
+use lib.Dec.{ltb}
+use lib.ListN.{length, take, drop, length-append, length-drop}
 use lib.Seq.{take-append-le, drop-append-le, drop-append-add}
 use Rattle.io.specs.Digits.{Fewest}
 use Rattle.words.specs.Answers.{refused}
@@ -16,17 +16,25 @@ use Rattle.columns.specs.Lines.{placesIn, places, lineBytes, groupLine, 
 
 -- ---- decimal places
 
+-- a digit more, where the rest has p
+more-digits : (n p : ℕ) → 10 ≤ n → Fewest 10 1 (n / 10) p → Fewest 10 1 n (1 + p)
+more-digits n zero h few = absurd (omega (arith, few .0))
+more-digits n (suc zero) h few = (omega arith, omega (arith, few .1), λ _. h)
+more-digits n (suc (suc q)) h few =
+    let next : 1 + suc (suc q) ≡ suc (suc (suc q)) = omega arith in
+    let here : 1 + suc (suc q) - 1 ≡ suc (suc q) = omega arith in
+    let last : suc (suc q) - 1 ≡ suc q = omega arith in
+    let below : 10 ^ suc q ≤ n / 10 = rw last at (few .2 (omega arith)) in
+    (omega arith, rw (next, pow-succ' 10 (suc (suc q))) (omega (arith, few .1)), λ _. rw (here, pow-succ' 10 (suc q)) (omega (arith, below)))
+
 placesIn-fewest : (more n : ℕ) → n < 10 ^ suc more → Fewest 10 1 n (placesIn more n)
 unfolding placesIn
 placesIn-fewest zero n h = (omega arith, h, λ (l : 1 < 1). omega (arith, l))
-placesIn-fewest (suc more) n h = go (ltb n 10) refl
+placesIn-fewest (suc more) n h = go (ltb n 10) refl (placesIn-fewest more (n / 10) (omega (arith, h, pow-succ' 10 (suc more))))
   where
-    p : ℕ
-    p = placesIn more (n / 10)
-
-    go : (b : Bool) → ltb n 10 ≡ b → Fewest 10 1 n (cond b 1 (1 + p))
-    go true is = (omega arith, ltb-true n 10 is, λ (l : 1 < 1). omega (arith, l))
-    go false is = ?
+    go : (b : Bool) → ltb n 10 ≡ b → Fewest 10 1 (n / 10) (placesIn more (n / 10)) → Fewest 10 1 n (cond b 1 (1 + placesIn more (n / 10)))
+    go true is few = (omega arith, ltb-true n 10 is, λ (l : 1 < 1). omega (arith, l))
+    go false is few = more-digits n (placesIn more (n / 10)) (ltb-false n 10 is) few
 
 -- of a word, and of any number of ten digits
 pub places-fewest : (n : ℕ) → n < 10 ^ 10 → Fewest 10 1 n (places n)
@@ -40,17 +48,32 @@ module _ (nodes table : List ℕ) where
   unfolding groupLines
   lines-front a b zero h = refl
   lines-front a b (suc n) h =
-      let here : take 28 (drop (28 * n) (a ++ b)) ≡ take 28 (drop (28 * n) a) = ? in
+      let long : 28 ≤ length (drop (28 * n) a) = rw (length-drop (28 * n) a) (omega (arith, h)) in
+      let here : take 28 (drop (28 * n) (a ++ b)) ≡ take 28 (drop (28 * n) a) =
+      rw (drop-append-le (28 * n) a b (omega (arith, h))) (take-append-le 28 (drop (28 * n) a) b long) in
       rw (lines-front a b n (omega (arith, h)), here)
 
   lines-behind : (a b : List ℕ) (n m : ℕ) → length a ≡ 28 * n
       → groupLines nodes table (a ++ b) (n + m) ≡ groupLines nodes table a n ++ groupLines nodes table b m
   unfolding groupLines
-  lines-behind a b n zero e = ?
-  lines-behind a b n (suc m) e = ?
+  lines-behind a b n zero e =
+      let all : n + 0 ≡ n = omega arith in
+      rw all (lines-front a b n (omega (arith, e)) ∙ sym (append-nil (groupLines nodes table a n)))
+  lines-behind a b n (suc m) e =
+      let next : n + suc m ≡ suc (n + m) = omega arith in
+      let at : 28 * (n + m) ≡ length a + 28 * m = omega (arith, e) in
+      rw (next, at, drop-append-add a b (28 * m), lines-behind a b n m e)
+      (append-assoc (groupLines nodes table a n) (groupLines nodes table b m) (groupLine nodes table (take 28 (drop (28 * m) b))))
 
   -- a chunk of whole groups, and what comes behind it
   pub report-chunks : (chunk rest : List ℕ) → length chunk % 28 ≡ 0
       → reportLines nodes table (chunk ++ rest) ≡ reportLines nodes table chunk ++ reportLines nodes table rest
   unfolding reportLines partLine
-  report-chunks chunk rest whole = ?
+  report-chunks chunk rest whole =
+      let long = length-append chunk rest in
+      let groups : length (chunk ++ rest) / 28 ≡ length chunk / 28 + length rest / 28 = rw long (omega (arith, whole)) in
+      let part : length (chunk ++ rest) % 28 ≡ length rest % 28 = rw long (omega (arith, whole)) in
+      let front : length chunk ≡ 28 * (length chunk / 28) = omega (arith, whole) in
+      rw (groups, part, lines-behind chunk rest (length chunk / 28) (length rest / 28) front, eq-eqb (length chunk % 28) 0 whole)
+      (rw (append-nil (groupLines nodes table chunk (length chunk / 28)))
+      (append-assoc (groupLines nodes table chunk (length chunk / 28)) (groupLines nodes table rest (length rest / 28)) (partLine rest)))
