@@ -172,6 +172,17 @@ fn grossly() {
     assert_eq!(row, ["0.5", "1", "2", "1", "0", "3f800000", "00000000", "1065353216"]);
 }
 
+/// A bench at the centre of a box of two lamps: some u are refused, others draw, and not every lamp has a chance by name.
+#[test]
+fn centre_of_a_box() {
+    let places = ["0 2", "5 2", "4 1", "5 1", "2 2", "0 0"];
+    let room: String = places.iter().map(|place| format!("point {place} 0 1 1\n")).collect();
+    let report = good(&["draw", "-", "5 1.5 0 -", "0", "0.5"], &room);
+    assert!(report.lines().nth(1).unwrap().starts_with("      0     0     1  0.022139473 "), "{report}");
+    assert!(report.lines().nth(2).unwrap().starts_with("    0.5 refused 7: "), "{report}");
+    assert!(report.ends_with("# sum of all named chances: lamp 1 is refused 7\n"), "{report}");
+}
+
 #[test]
 fn draw() {
     let expected = "\

@@ -210,6 +210,17 @@ fn handles() {
     }
 }
 
+/// One tree serves many threads.
+#[test]
+fn threads() {
+    let tree = LightTree::build(&pair()).unwrap();
+    let draw = || tree.sample(BETWEEN, NO_NORMAL, 0.75);
+    std::thread::scope(|scope| {
+        let drawn: Vec<_> = (0..4).map(|_| scope.spawn(draw)).collect();
+        drawn.into_iter().for_each(|thread| assert_eq!(thread.join().unwrap(), Ok(Some((1, 0.5)))));
+    });
+}
+
 /// Each refusal has a number, a sentence of its own on one line, and is an error.
 #[test]
 fn sentences() {
