@@ -141,6 +141,19 @@ fn refused_groups() {
     assert_eq!(agrees(&pair(), &groups), "0 3f000000 3f000000\nrefused 5\nrefused 11\n1 3f000000 3f000000\n");
 }
 
+/// Where a total is infinite the two chances part: the draw's share is no number, or is taken from one, and the name's is 0.
+#[test]
+fn columns_apart() {
+    let lamp = |x: f32, phi: u32| all_about([x, 0.0, 0.0], [x, 0.0, 0.0], f32::from_bits(phi));
+    let (huge, one) = (0x7f61_b1e6, 0x3f80_0000);
+    let near = [0, 0, 0x3a83_126f, 0, 0, 0];
+    let block = block_of(&[lamp(0.0, huge), lamp(2.0, one)]);
+    assert_eq!(agrees(&block, &[(near, 0), (near, one)]), "1 7fc00000 00000000\n1 7fc00000 00000000\n");
+    let between = [one, 0, 0, 0, 0, 0];
+    let block = block_of(&[lamp(0.0, huge), lamp(2.0, huge)]);
+    assert_eq!(agrees(&block, &[(between, 0x3f00_0000)]), "1 3f800000 00000000\n");
+}
+
 /// Offices up to 512 lamps, and reports of many chunks and of just one or two.
 #[test]
 fn offices() {

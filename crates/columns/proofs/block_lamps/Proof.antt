@@ -30,5 +30,6 @@ returns-4 c =
     (rw (le-ltb _ _ (c .before .if2 .left), le-ltb _ _ (c .if3 .left)))
 
 pub block-lamps-spec : {M : Type 1} → statement M
-block-lamps-spec = tie.close (tie.spec returns (λ c κs. search needs) (λ c κs. search needs) returns-2 (λ c. search needs)
-(λ c. search needs) (λ c. search needs) returns-3 returns-4)
+block-lamps-spec =
+    tie.close (tie.spec returns (λ c κs. search needs) (λ c κs. search needs) returns-2 (λ c. search needs) (λ c. search needs)
+    (λ c. search needs) returns-3 returns-4)
