@@ -41,11 +41,13 @@ use Rattle.light_sampler.specs.Fork.{parted, fork}
 use Rattle.light_sampler.specs.Walks.{Draw, weighAt, weights, turn, taken, onward, descend, partOf, rise, risen, upward, ascend}
 use Rattle.light_sampler.specs.Sampler.{sample, pmf, sampleCheck, fromRoot, sampleWalk, pmfCheck, leafOf, fromLeaf, pmfWalk}
 use Rattle.packed_bvh.specs.Quantize.{stepsOf, quantizeBounds, quantizeCos, sign, folded as foldedQuantize, octahedral, quantizeAxis, encodeOctahedral}
+use Rattle.packed_bvh.specs.Quantize.{axisOf, unfolded, decodeOctahedral}
 use Rattle.packed_bvh.specs.Packed.{compactWords, payloadCheck, parentCheck, leftCheck, packNode, packNodes, packCheck, agreed, packedTree, packLightBvh}
 use Rattle.alias_table.specs.AliasTable.{Bin, binWords, anyBad, sumFrom, filledIn, total, push, pushAll, start, update, turned, turns as turnsAliasTable}
 use Rattle.alias_table.specs.AliasTable.{leftover, table, buildPowerAliasTable}
 use Rattle.light_bounds.specs.declared.bounds.Bounds3.{Bounds3}
 use Rattle.light_bounds.specs.declared.importance.Query.{Query}
+use Rattle.light_bounds.specs.declared.vecmath.Vec3.{Vec3}
 
 -- ---- what the cases are about
 
@@ -105,6 +107,10 @@ packedFrom n (given (some ws)) = drop n ws
 packedFrom n (given none) = []
 packedFrom n (refused k) = []
 
+-- a vector's words
+abbrev pub bitsOf : Vec3 → List ℕ
+bitsOf v = toBits binary32 (v .x) ∷ toBits binary32 (v .y) ∷ toBits binary32 (v .z) ∷ []
+
 -- weights 1, 3, with room for seven words of bins and nine of work
 abbrev pub oneThree : Answer (List Bin)
 oneThree = buildPowerAliasTable (0x3f800000 ∷ 0x40400000 ∷ []) 7 9
@@ -136,6 +142,10 @@ pub record Marked : Type 0 where
   pub cosines : (quantizeCos minusOne ≡ 0) × (quantizeCos zerof ≡ 16383) × (quantizeCos onef ≡ 32767)
   -- direction (0,0,-1): ffffffff, sixteen bits each
   pub direction-down : encodeOctahedral (vec zerof zerof minusOne) ≡ (0xffff, 0xffff)
+  -- and what packed directions stand for: ffffffff the direction down, 80008000 almost the direction up, and one that is folded
+  pub direction-read : (bitsOf (decodeOctahedral 0xffff 0xffff) ≡ 0 ∷ 0 ∷ 0xbf800000 ∷ [])
+      × (bitsOf (decodeOctahedral 0x8000 0x8000) ≡ 0x37800100 ∷ 0x37800100 ∷ 0x3f800000 ∷ [])
+      × (bitsOf (decodeOctahedral 40000 1234) ≡ 0x3d407bfa ∷ 0xbf78f0cc ∷ 0xbe69ead7 ∷ [])
   -- square root of 40000000: 3fb504f3; of 00000001: 1a3504f3
   pub root-of-two : word (sqrt binary32) 0x40000000 ≡ 0x3fb504f3
   pub root-of-smallest : word (sqrt binary32) 0x00000001 ≡ 0x1a3504f3
@@ -159,9 +169,9 @@ unfolding toBits ofBits ofInt span climb size odd units round neg sum add sub mu
     combinedBounds better cuts axis chooseSplit kept goesLeft goesRight lefts rights partitionHandles partedCount partedHandles partedWork forked treeBy
     buildSubtree boundedHandles grown allBounds validated treeOf builtBvh buildCheck buildLightBvh nodesWritten tabled tableWritten parted fork weighAt
     weights turn taken onward descend partOf rise risen upward ascend sampleCheck fromRoot sampleWalk pmfCheck leafOf fromLeaf pmfWalk stepsOf
-    quantizeBounds quantizeCos sign foldedQuantize octahedral quantizeAxis encodeOctahedral compactWords payloadCheck parentCheck leftCheck packNode
-    packNodes packCheck agreed packedTree packLightBvh anyBad sumFrom filledIn total push pushAll start update turned turnsAliasTable leftover table
-    buildPowerAliasTable
+    quantizeBounds quantizeCos sign foldedQuantize octahedral quantizeAxis encodeOctahedral axisOf unfolded decodeOctahedral compactWords payloadCheck
+    parentCheck leftCheck packNode packNodes packCheck agreed packedTree packLightBvh anyBad sumFrom filledIn total push pushAll start update turned
+    turnsAliasTable leftover table buildPowerAliasTable
 marked =
     record {
       pair-built = refl;
@@ -179,6 +189,7 @@ marked =
       no-extent = (refl, refl);
       cosines = (refl, refl, refl);
       direction-down = refl;
+      direction-read = (refl, refl, refl);
       root-of-two = refl;
       root-of-smallest = refl;
       alias-of-one-three = refl;
