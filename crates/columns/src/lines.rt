@@ -175,7 +175,7 @@ fn put_refused(out: &mut [u8], at: usize, why: Refusal) -> usize
 }
 
 // Writes a line; the place behind it.
-pub fn put_line(out: &mut [u8], at: usize, shown: Line) -> usize
+pub(crate) fn put_line(out: &mut [u8], at: usize, shown: Line) -> usize
     requires { ⌜ at + 29 ≤ length (now out) ⌝ }
     ensures { λ _. ⌜ now (out .exit) ≡ sets (now (out .entry)) at (lineBytes (line shown)) ⌝ }
     ensures { λ r. ⌜ r ≡ at + length (lineBytes (line shown)) ⌝ }
@@ -200,7 +200,7 @@ fn put_group(nodes: &[u8], table: &[u8], group: &[u8], out: &mut [u8], at: usize
 }
 
 // Writes the lines of groups, and of a part group behind them; how many bytes these are.
-pub fn put_lines(nodes: &[u8], table: &[u8], groups: &[u8], out: &mut [u8]) -> usize
+pub(crate) fn put_lines(nodes: &[u8], table: &[u8], groups: &[u8], out: &mut [u8]) -> usize
     requires { ⌜ 29 * (length (now groups) / 28) + 29 ≤ length (now out) ⌝ }
     ensures { λ _. ⌜ now (out .exit) ≡ sets (now (out .entry)) 0 (reportLines (now (nodes .entry)) (now (table .entry)) (now (groups .entry))) ⌝ }
     ensures { λ r. ⌜ r ≡ length (reportLines (now (nodes .entry)) (now (table .entry)) (now (groups .entry))) ⌝ }
