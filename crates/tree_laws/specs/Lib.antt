@@ -1,4 +1,6 @@
 pub mod StretchLaws
+pub mod SortingBuild
+pub mod SortLaws
 pub mod BuiltTrees
 pub mod RecordsOfTree
 pub mod LeafLaws

@@ -99,7 +99,7 @@ bounded-ascends ws (suc n) = one (isPowered ws n) (bounded-ascends ws n)
 
 -- ---- the halves
 
-no-length : (xs : List ℕ) → length xs ≡ 0 → xs ≡ []
+pub no-length : (xs : List ℕ) → length xs ≡ 0 → xs ≡ []
 no-length [] e = refl
 no-length (x ∷ xs) e = absurd (omega arith)
 
