@@ -40,11 +40,11 @@ both true true h k = refl
 both true false h k = absurd k
 both false b h k = absurd h
 
-check-draw : (ns : List ℕ) (n : ℕ) (u : Float) → nodeCount ns ≡ given n → FromZeroToOne u → sampleCheck ns u ≡ given n
+pub check-draw : (ns : List ℕ) (n : ℕ) (u : Float) → nodeCount ns ≡ given n → FromZeroToOne u → sampleCheck ns u ≡ given n
 unfolding sampleCheck _then_
 check-draw ns n u counted unit = rw (counted, both (le zerof u) (le u onef) (unit .from-zero) (unit .to-one))
 
-from-root : (ws : List ℕ) (q : Query) (u : Float) (n : ℕ) → 0 < n → fromRoot ws q u n ≡ descend ws q n 0 onef (fmin u most)
+pub from-root : (ws : List ℕ) (q : Query) (u : Float) (n : ℕ) → 0 < n → fromRoot ws q u n ≡ descend ws q n 0 onef (fmin u most)
 unfolding fromRoot
 from-root ws q u zero h = absurd (omega arith)
 from-root ws q u (suc n) h = refl
@@ -72,7 +72,7 @@ module _ (ws : List ℕ) (b : LightBVH) (parts : Parts ws b) (q : Query) (u : Fl
 
 -- ---- the chance by name
 
-check-name : (ns ts : List ℕ) (n m : ℕ) → nodeCount ns ≡ given n → length ts ≡ 4 * m → m ≤ maxLamps → pmfCheck ns ts ≡ given n
+pub check-name : (ns ts : List ℕ) (n m : ℕ) → nodeCount ns ≡ given n → length ts ≡ 4 * m → m ≤ maxLamps → pmfCheck ns ts ≡ given n
 unfolding pmfCheck _then_
 check-name ns ts n m counted words few =
     rw (le-ltb maxLamps (length ts / 4) (omega arith), counted, eq-eqb (length ts % 4) 0 (omega arith))

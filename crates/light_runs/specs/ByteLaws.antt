@@ -1,5 +1,5 @@
 -- The words of a build that was accepted are below 2 ^ 32, so they come back from their bytes (`nodes-words`, `table-words-back`), which are 64 a node and 4 a
--- row (`nodes-bytes`, `table-bytes`), so that as many nodes are counted in them as there are (`nodes-counted`). Assumes nothing.
+-- row (`nodes-bytes`, `table-bytes`), so that as many nodes are counted in them as there are (`words-counted`, `nodes-counted`). Assumes nothing.
 use Prim.Native.Nat.{ℕ, zero, suc, _+_, _*_, _-_, _/_, _%_, _^_, _≤_, _<_}
 use mathlib.Core.Path.{_≡_, refl, _∙_}
 use mathlib.Core.Bool.{Bool, true, false, cond}
@@ -44,12 +44,21 @@ module _ (P : ℕ → Type 0) where
   all-set (y ∷ ys) zero x is h = (is, h .1)
   all-set (y ∷ ys) (suc i) x is h = (h .0, all-set ys i x is (h .1))
 
-  all-replicate : (n x : ℕ) → P x → All P (replicate n x)
+  pub all-replicate : (n x : ℕ) → P x → All P (replicate n x)
   all-replicate zero x is = tt
   all-replicate (suc n) x is = (is, all-replicate n x is)
 
 pub words-back : (ws : List ℕ) → All IsWord ws → wordsOf (bytesOf ws) ≡ ws
 words-back ws h = wordsOf-bytesOf ws (all-at IsWord (omega arith) ws h)
+
+-- sixteen words a node
+pub words-counted : (ws : List ℕ) (n : ℕ) → length ws ≡ 16 * n → n ≤ maxNodes → nodeCount (bytesOf ws) ≡ given n
+unfolding nodeCount
+words-counted ws n e few =
+    let size = length-bytesOf ws in
+    let many : length (bytesOf ws) / nodeBytes ≡ n = omega arith in
+    let whole : length (bytesOf ws) % nodeBytes ≡ 0 = omega arith in
+    rw (many, le-ltb maxNodes n few, eq-eqb (length (bytesOf ws) % nodeBytes) 0 whole)
 
 -- ---- the words of a node
 
@@ -150,12 +159,6 @@ module _ (ws : List ℕ) (b : LightBVH) (parts : Parts ws b) where
   table-bytes = length-bytesOf (tableWritten b) ∙ omega (arith, table-words ws b parts)
 
   pub nodes-counted : nodeCount (bytesOf (nodesWritten b)) ≡ given (2 * b .k - 1)
-  unfolding nodeCount
   nodes-counted =
-      let many : length (bytesOf (nodesWritten b)) / nodeBytes ≡ 2 * b .k - 1 = omega (arith, nodes-bytes) in
-      let whole : length (bytesOf (nodesWritten b)) % nodeBytes ≡ 0 = omega (arith, nodes-bytes) in
-      rw (
-        many,
-        le-ltb maxNodes (2 * b .k - 1) (omega (arith, parts .few, parts .powered, bounded-few ws (b .rows))),
-        eq-eqb (length (bytesOf (nodesWritten b)) % nodeBytes) 0 whole,
-      )
+      words-counted (nodesWritten b) (2 * b .k - 1) (node-words ws b parts)
+      (omega (arith, parts .few, parts .powered, bounded-few ws (b .rows)))

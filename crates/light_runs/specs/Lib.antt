@@ -9,5 +9,6 @@ pub mod UpLaws
 pub mod NodeLaws
 pub mod ByteLaws
 pub mod AcceptedWalks
+pub mod WholeTray
 pub mod AcceptedRuns
 pub mod Demand3

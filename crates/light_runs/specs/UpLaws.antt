@@ -120,7 +120,7 @@ pub rises-root : (ws : List ℕ) (q : Query) (i : ℕ) (x : LightBVHNode) → no
 unfolding upward
 rises-root ws q i x node top n d few = (d, rw (node, eq-eqb (parent x) invalidIndex top))
 
-root-parent : (at p : ℕ) (t : Tree) → parent (root at p t) ≡ p
+pub root-parent : (at p : ℕ) (t : Tree) → parent (root at p t) ≡ p
 root-parent at p (leaf h b) = refl
 root-parent at p (fork b l r) = refl
 
