@@ -32,7 +32,7 @@ use trig::cos;
 use words::floats::f32_of_word;
 use words::refusals::Refusal;
 
-// π as f32 has it, 40490fdb, and the cosine of its half, b33bbd2e (specs/LampBoundsLaws.antt).
+// π as f32 has it, 40490fdb, and the cosine of its half, b33bbd2e (proofs/LampBoundsLaws.antt computes it).
 const PI: f32 = 3.1415927;
 
 const COS_HALF_PI: f32 = -0.00000004371139;

@@ -35,7 +35,7 @@ cone v c = record { direction = v; «cos_theta» = c }
 abbrev pub wholeSphere : Cone
 wholeSphere = cone (vec zerof zerof onef) minusOne
 
--- the axis, or z where it has no vecLength to divide by
+-- the axis, or z where it has no length to divide by
 abbrev pub axisOr : Answer Vec3 → Vec3
 axisOr (given v) = v
 axisOr (refused n) = vec zerof zerof onef

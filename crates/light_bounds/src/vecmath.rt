@@ -1,4 +1,4 @@
-// Vectors of three f32, by value (specs/Vectors.antt). Sums run left to right, each step rounded once.
+// Vectors of three f32, by value (specs/Vecmath.antt). Sums run left to right, each step rounded once.
 ghost use mathlib.Core.Path.{_≡_};
 ghost use lib.Ieee.Scale.{finite};
 ghost use Rattle.light_bounds.specs.Vecmath.{dividing, divided, normalizeByDivision, dot as dotOf, cross as crossOf, plus, minus, scaled};

@@ -19,7 +19,7 @@ use Rattle.light_bounds.specs.RecordWords.{vecWords, restWords, recordList}
 use Rattle.light_bounds.specs.declared.light_bounds.LightBounds.{LightBounds}
 use Rattle.light_bounds.specs.declared.vecmath.Vec3.{Vec3}
 use Rattle.light_nodes.specs.Nodes.{LightBVHNode, leaf as leafNode, interior, invalidIndex, maxNodes}
-use Rattle.light_nodes.specs.Nodes.{nodeBytes, headWord, rightChild, parent, nodeList, nodeCount}
+use Rattle.light_nodes.specs.Nodes.{nodeWords, nodeBytes, headWord, rightChild, parent, nodeList, nodeCount}
 use Rattle.light_nodes.specs.Tree.{Tree, leaf, fork, leaves, rightPlace, flatten}
 use Rattle.light_nodes.specs.TreeLaws.{leaves-pos}
 use Rattle.light_bvh.specs.Build.{LightBVH, nodesWritten, tabled, tableWritten}
@@ -52,7 +52,7 @@ pub words-back : (ws : List ℕ) → All IsWord ws → wordsOf (bytesOf ws) ≡ 
 words-back ws h = wordsOf-bytesOf ws (all-at IsWord (omega arith) ws h)
 
 -- sixteen words a node
-pub words-counted : (ws : List ℕ) (n : ℕ) → length ws ≡ 16 * n → n ≤ maxNodes → nodeCount (bytesOf ws) ≡ given n
+pub words-counted : (ws : List ℕ) (n : ℕ) → length ws ≡ nodeWords * n → n ≤ maxNodes → nodeCount (bytesOf ws) ≡ given n
 unfolding nodeCount
 words-counted ws n e few =
     let size = length-bytesOf ws in

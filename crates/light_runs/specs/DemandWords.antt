@@ -29,14 +29,14 @@ pub record InOrder (u v : Float) : Type 0 where
   pub second : FromZeroToOne v
   pub order : T (le u v)
 
--- N and T: the words that build leaves, handed to the draw and to the chance by name as bytes
+-- the nodes' and the handle table's words that build leaves, handed to the draw and to the chance by name as bytes
 abbrev pub nodes : LightBVH → List ℕ
 nodes b = bytesOf (nodesWritten b)
 
 abbrev pub table : LightBVH → List ℕ
 table b = bytesOf (tableWritten b)
 
--- T's place of a lamp
+-- the place that the handle table has for a lamp
 abbrev pub placeOf : LightBVH → ℕ → ℕ
 placeOf b h = getD (tableWritten b) h invalidIndex
 

@@ -173,11 +173,11 @@ module _ (ws : List ℕ) (b : LightBVH) (parts : Parts ws b) where
   pub k-counted : b .k ≡ poweredBelow ws (b .rows)
   k-counted = parts .powered ∙ bounded-length ws (b .rows)
 
-  pub node-words : length (nodesWritten b) ≡ 16 * (2 * b .k - 1)
+  pub node-words : length (nodesWritten b) ≡ nodeWords * (2 * b .k - 1)
   unfolding nodesWritten
   node-words = go (b .tree) refl
     where
-      go : (o : Option Tree) → b .tree ≡ o → length (nodesWritten b) ≡ 16 * (2 * b .k - 1)
+      go : (o : Option Tree) → b .tree ≡ o → length (nodesWritten b) ≡ nodeWords * (2 * b .k - 1)
       go none is = rw (is, accepted-none ws b parts is)
       go (some t) is = accepted-words ws b t parts is
 

@@ -21,7 +21,7 @@ use Rattle.words.specs.LittleEndian.{wordsOf, bytesOf}
 use Rattle.words.specs.Tray.{tray}
 use Rattle.light_bounds.specs.declared.importance.Query.{Query}
 use Rattle.light_bounds.specs.declared.light_bounds.LightBounds.{LightBounds}
-use Rattle.light_nodes.specs.Nodes.{LightBVHNode, invalidIndex, nodePlace, parent, nodeCount, nodeOf, nodeAt}
+use Rattle.light_nodes.specs.Nodes.{LightBVHNode, invalidIndex, nodeWords, nodePlace, parent, nodeCount, nodeOf, nodeAt}
 use Rattle.light_nodes.specs.Tree.{Tree, leaf, fork, leaves, rightPlace}
 use Rattle.light_nodes.specs.TreeLaws.{leaves-pos, root}
 use Rattle.light_bvh.specs.Build.{LightBVH, isPowered, nodesReserve, nodesWritten, tableWritten}
@@ -128,7 +128,7 @@ module _ (ws : List ℕ) (b : LightBVH) (parts : Parts ws b) where
   few-k : b .k ≤ b .rows
   few-k = omega (arith, parts .powered, bounded-few ws (b .rows))
 
-  tray-words : length (nodesWritten b ++ rest) ≡ 16 * (2 * b .rows - 1)
+  tray-words : length (nodesWritten b ++ rest) ≡ nodeWords * (2 * b .rows - 1)
   tray-words = simp (length-append, length-replicate) (omega (arith, node-words ws b parts, few-k))
 
   tray-counted : nodeCount (bytesOf (nodesWritten b ++ rest)) ≡ given (2 * b .rows - 1)

@@ -1,4 +1,4 @@
--- Rows: blocks, nodes, packed nodes and bins are each a head and then rows of words of a fixed width, written by one function of a row's place and its item.
+-- Rows: bounds blocks and bins of the alias table are rows of words of a fixed width, behind a head or none, written by one function of a row's place and its item.
 -- Definitions only. Assumes nothing.
 use Prim.Native.Nat.{ℕ, zero, suc}
 use mathlib.Core.Bool.{Bool, true, _&&_}
