@@ -3,7 +3,6 @@
 use Prim.Native.Nat.{ℕ, _+_}
 use mathlib.Core.Bool.{cond, _&&_}
 use mathlib.Core.List.{List, [], _∷_, _++_}
-use mathlib.Core.Option.{Option, none, some}
 use lib.Dec.{leb}
 use lib.Ieee.{binary32, toBits}
 use lib.ListN.{length, getD}
@@ -41,25 +40,15 @@ readRecord ws at =
     lightBounds (boxAt ws at) (vecAt ws (at + 6)) (single (getD ws (at + 9) 0)) (single (getD ws (at + 10) 0)) (single (getD ws (at + 11) 0))
     (sideOf (getD ws (sidePlace at) 0))
 
--- the record at a place: none where there are too few words, or the side is unknown
-unfoldable pub recordIn : List ℕ → ℕ → Option LightBounds
-recordIn ws at = cond (leb (at + recordWords) (length ws) && sideKnown (getD ws (sidePlace at) 0)) (some (readRecord ws at)) none
-
--- none is refusal n: 1 in a list or a block, 12 in a tree
-abbrev pub orRefused : ℕ → Option LightBounds → Answer LightBounds
-orRefused n (some r) = given r
-orRefused n none = refused n
-
+-- the record at a place; too few words, and a side that is unknown, are refusal n: 1 in a list or a block, 12 in a tree
 unfoldable pub recordAt : ℕ → List ℕ → ℕ → Answer LightBounds
-recordAt n ws at = orRefused n (recordIn ws at)
+recordAt n ws at =
+    cond (leb (at + recordWords) (length ws) && sideKnown (getD ws (sidePlace at) 0)) (given (readRecord ws at)) (refused n)
 
--- what the enum `Found` answers, and what it is where none is refusal n
-abbrev pub foundRecord : Found → Option LightBounds
-foundRecord (Record r) = some r
-foundRecord Nothing = none
-
+-- what the enum `Found` answers
 abbrev pub found : ℕ → Found → Answer LightBounds
-found n f = orRefused n (foundRecord f)
+found n (Record r) = given r
+found n Nothing = refused n
 
 -- ---- written
 

@@ -17,8 +17,8 @@ use Rattle.words.proofs.AnswerLaws.{Gives, gives, gives-none, gives-any, gives-
 use Rattle.light_bounds.specs.BoundsLaws.{union-given}
 use Rattle.light_bounds.specs.LightBounds.{union}
 use Rattle.light_bounds.specs.RecordLaws.{RecordFits, join-fits, record-fits-read}
-use Rattle.light_bounds.specs.RecordWords.{readRecord}
-use Rattle.light_bounds.proofs.RecordPlaces.{recordAt-given}
+use Rattle.light_bounds.specs.RecordWords.{readRecord, recordAt, recordWords, sidePlace}
+use Rattle.light_bounds.specs.Side.{sideKnown}
 use Rattle.light_bounds.specs.declared.light_bounds.LightBounds.{LightBounds}
 use Rattle.light_nodes.specs.Nodes.{LightBVHNode, leaf as leafNode, interior, nodeWords, nodePlace, boundsPlace, boundsAt, nodeList, nodeWritten}
 use Rattle.light_nodes.specs.Tree.{Tree, leaf, fork, bounds, leaves, flatten, rightPlace}
@@ -187,9 +187,14 @@ build-fits ws n hs t e = gives-value (build-sized ws n hs) e .fits
 
 -- ---- read back from the words
 
+cond-given : {A : Type 0} (t : Bool) (a b : A) (n : ℕ) → cond t (given a) (refused n) ≡ given b → a ≡ b
+cond-given true a b n e = given-injective e
+cond-given false a b n e = absurd (not-both e refl)
+
 bounds-read-back : (ws : List ℕ) (i : ℕ) (b : LightBounds) → boundsAt ws i ≡ given b → readRecord ws (boundsPlace i) ≡ b
-unfolding boundsAt
-bounds-read-back ws i b e = recordAt-given 12 ws (boundsPlace i) b e
+unfolding boundsAt recordAt
+bounds-read-back ws i b e =
+    cond-given (leb (boundsPlace i + recordWords) (length ws) && sideKnown (getD ws (sidePlace (boundsPlace i)) 0)) (readRecord ws (boundsPlace i)) b 12 e
 
 -- any words of a node, then two trees
 abbrev pub laidOut : List ℕ → ℕ → Tree → Tree → List ℕ

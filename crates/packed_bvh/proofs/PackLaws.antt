@@ -23,7 +23,8 @@ use Rattle.words.proofs.Reserves.{tray-zeroed}
 use Rattle.words.proofs.Stores.{sets-append}
 use Rattle.light_bounds.specs.Bounds.{boxCheck}
 use Rattle.light_bounds.specs.LightBounds.{validate}
-use Rattle.light_bounds.proofs.RecordPlaces.{recordAt-only}
+use Rattle.light_bounds.specs.RecordWords.{recordAt, recordWords, sidePlace}
+use Rattle.light_bounds.specs.Side.{sideKnown}
 use Rattle.light_bounds.specs.Vecmath.{normalizeByDivision, dividing, vecLength}
 use Rattle.light_bounds.specs.declared.bounds.Bounds3.{Bounds3}
 use Rattle.light_bounds.specs.declared.light_bounds.LightBounds.{LightBounds}
@@ -125,8 +126,9 @@ late-node ws i =
     (only-refused (omega arith))
 
 late-bounds : (ws : List ℕ) (i : ℕ) → Late (boundsAt ws i)
-unfolding boundsAt
-late-bounds ws i = recordAt-only 12 ws (boundsPlace i) (omega arith)
+unfolding boundsAt recordAt
+late-bounds ws i =
+    only-cond (leb (boundsPlace i + recordWords) (length ws) && sideKnown (getD ws (sidePlace (boundsPlace i)) 0)) only-given (only-refused (omega arith))
 
 late-by-division : (v : Vec3) → Late (normalizeByDivision v)
 unfolding normalizeByDivision

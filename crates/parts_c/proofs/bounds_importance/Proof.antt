@@ -6,7 +6,6 @@ use borrow.Author.Tests.{lt-leb, le-leb}
 use lib.ListN.{length}
 use Rattle.words.specs.Answers.{_then_}
 use Rattle.light_c.specs.Codes.{valueCode}
-use Rattle.light_bounds.proofs.RecordPlaces.{recordAt-is}
 use Rattle.parts_c.specs.Codes.{importanceWords}
 use borrow.Author.Needs.{needs}
 use Rattle.parts_c.proofs.bounds_importance.Statement.{statement}
@@ -20,13 +19,13 @@ returns-2 : tie.Need-returns-2
 unfolding importanceWords _then_
 returns-2 c =
     rw (le-leb 6 (length (now (c .before .before .before .before .before .before .before .before .before .before .args .query))) (omega arith))
-    (rw (← recordAt-is 1 _ _ (c .before .before .before .before .before .before .read-record .result) (c .before .before .before .before .before .before .read-record .ensures), c .before .before .before .before .whole .given .1)
+    (rw (← c .before .before .before .before .before .before .read-record .ensures 1, c .before .before .before .before .whole .given .1)
     (rw (← c .before .before .query-of .ensures) (c .weight-code .ensures ∙ ap valueCode (c .before .weigh .ensures))))
 
 returns-3 : tie.Need-returns-3
 unfolding importanceWords _then_
 returns-3 c = rw (le-leb 6 (length (now (c .before .before .before .before .before .before .args .query))) (omega arith))
-    (rw (← recordAt-is 1 _ _ (c .before .before .read-record .result) (c .before .before .read-record .ensures), c .enum-told .given .1))
+    (rw (← c .before .before .read-record .ensures 1, c .enum-told .given .1))
 
 pub bounds-importance-spec : {M : Type 1} → statement M
 bounds-importance-spec =

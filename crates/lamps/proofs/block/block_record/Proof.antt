@@ -5,7 +5,7 @@ use denote.Ref.{now}
 use native.Mathlib.Omega.{arith}
 use borrow.Author.Tests.{lt-leb}
 use lib.ListN.{length}
-use Rattle.light_bounds.proofs.RecordPlaces.{recordAt-is, recordAt-past}
+use Rattle.light_bounds.proofs.RecordPlaces.{recordAt-past}
 use Rattle.lamps.specs.Block.{recordPlace}
 use borrow.Author.Needs.{needs}
 use Rattle.lamps.proofs.block.block_record.Statement.{statement}
@@ -17,4 +17,4 @@ returns c =
     sym (recordAt-past 1 (now (args .block)) (recordPlace (args .place)) (lt-leb (recordPlace (args .place) + 13) (length (now (args .block))) (omega arith)))
 
 pub block-record-spec : {M : Type 1} → statement M
-block-record-spec = tie.close (tie.spec returns (λ c. search needs) (λ c. search needs) (λ c κs. search needs) (λ c. recordAt-is 1 _ _ (c .read-record .result) (c .read-record .ensures)))
+block-record-spec = tie.close (tie.spec returns (λ c. search needs) (λ c. search needs) (λ c κs. search needs) (λ c. c .read-record .ensures 1))

@@ -1,14 +1,14 @@
--- there are words enough, or none is found. Assumes nothing.
+-- `light_bounds::record_words::read_record` meets its contract: there are words enough, or none is found. Assumes nothing.
 use mathlib.Core.Path.{sym, _∙_}
 use denote.Ref.{now}
 use borrow.Author.Tests.{leb-true}
-use Rattle.light_bounds.proofs.RecordPlaces.{recordIn-past}
+use Rattle.light_bounds.proofs.RecordPlaces.{recordAt-past}
 use borrow.Author.Needs.{needs}
 use Rattle.light_bounds.proofs.record_words.read_record.Statement.{statement}
 use Rattle.light_bounds.proofs.record_words.read_record.Tie as tie
 
 returns-2 : tie.Need-returns-2
-returns-2 c = sym (recordIn-past (now (c .before .before .before .args .words)) (c .before .before .before .args .at)
+returns-2 c n = sym (recordAt-past n (now (c .before .before .before .args .words)) (c .before .before .before .args .at)
     (sym (c .before .fits2 .ensures) ∙ c .if1 .left))
 
 pub read-record-spec : {M : Type 1} → statement M

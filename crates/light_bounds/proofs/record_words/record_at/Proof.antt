@@ -1,20 +1,20 @@
--- the side is judged, then each word read. Assumes nothing.
+-- `light_bounds::record_words::record_at` meets its contract: the side is judged, then each word read. Assumes nothing.
 use mathlib.Core.Path.{_≡_, ap, sym, _∙_}
-use mathlib.Core.Option.{some}
 use denote.Ref.{now}
-use Rattle.light_bounds.proofs.RecordPlaces.{recordIn-unknown, recordIn-found}
+use Rattle.words.specs.Answers.{given}
+use Rattle.light_bounds.proofs.RecordPlaces.{recordAt-unknown, recordAt-found}
 use borrow.Author.Needs.{needs}
 use Rattle.light_bounds.proofs.record_words.record_at.Statement.{statement}
 use Rattle.light_bounds.proofs.record_words.record_at.Tie as tie
 
 returns : tie.Need-returns
-returns c =
+returns c n =
     let args = c .before .before .before .before .before .before .before .before .before .before .before .before .before .before .args in
-    rw (recordIn-found (now (args .words)) (args .at)
+    rw (recordAt-found n (now (args .words)) (args .at)
     (c .before .before .before .before .before .before .before .before .before .before .before .before .before .before .pre)
     (sym (c .before .before .before .before .before .before .before .before .before .before .before .is-side .ensures) ∙
     c .before .before .before .before .before .before .before .before .before .before .if1 .taken))
-    (ap some (c .new .ensures
+    (ap given (c .new .ensures
     ∙ rw (
       c .before .before .before .before .before .before .before .before .before .box-at .ensures,
       c .before .before .before .before .before .before .before .before .vec-at .ensures,
@@ -25,9 +25,9 @@ returns c =
     )))
 
 returns-2 : tie.Need-returns-2
-returns-2 c =
+returns-2 c n =
     let args = c .before .before .before .before .args in
-    rw (recordIn-unknown (now (args .words)) (args .at) (c .before .before .before .before .pre) (sym (c .before .is-side .ensures) ∙ c .if1 .left))
+    rw (recordAt-unknown n (now (args .words)) (args .at) (c .before .before .before .before .pre) (sym (c .before .is-side .ensures) ∙ c .if1 .left))
 
 pub record-at-spec : {M : Type 1} → statement M
 record-at-spec =

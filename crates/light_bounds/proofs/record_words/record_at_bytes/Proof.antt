@@ -1,24 +1,24 @@
--- the side is judged, then each word read. Assumes nothing.
+-- `light_bounds::record_words::record_at_bytes` meets its contract: the side is judged, then each word read. Assumes nothing.
 use mathlib.Core.Path.{_≡_, ap, sym, _∙_}
-use mathlib.Core.Option.{some}
 use denote.Ref.{now}
+use Rattle.words.specs.Answers.{given}
 use Rattle.words.specs.LittleEndian.{wordsOf}
 use Rattle.words.proofs.LittleEndianLaws.{length-wordsOf}
 use Rattle.light_bounds.specs.Side.{sideKnown}
-use Rattle.light_bounds.proofs.RecordPlaces.{recordIn-unknown, recordIn-found}
+use Rattle.light_bounds.proofs.RecordPlaces.{recordAt-unknown, recordAt-found}
 use borrow.Author.Needs.{needs}
 use Rattle.light_bounds.proofs.record_words.record_at_bytes.Statement.{statement}
 use Rattle.light_bounds.proofs.record_words.record_at_bytes.Tie as tie
 
 returns : tie.Need-returns
-returns c =
+returns c n =
     let args = c .before .before .before .before .before .before .before .before .before .before .before .before .before .before .before .args in
-    rw (recordIn-found (wordsOf (now (args .bytes))) (args .at)
+    rw (recordAt-found n (wordsOf (now (args .bytes))) (args .at)
     (rw length-wordsOf (c .before .before .before .before .before .before .before .before .before .before .before .before .before .before .before .pre))
     (ap sideKnown (sym (c .before .before .before .before .before .before .before .before .before .before .before .before .before .word-in .ensures))
     ∙ sym (c .before .before .before .before .before .before .before .before .before .before .before .before .is-side .ensures) ∙
     c .before .before .before .before .before .before .before .before .before .before .before .if1 .taken))
-    (ap some (c .new .ensures
+    (ap given (c .new .ensures
     ∙ rw (
       c .before .before .before .before .before .before .before .before .before .before .vec-at-bytes .ensures,
       c .before .before .before .before .before .before .before .before .before .vec-at-bytes2 .ensures,
@@ -34,9 +34,9 @@ returns c =
     )))
 
 returns-2 : tie.Need-returns-2
-returns-2 c =
+returns-2 c n =
     let args = c .before .before .before .before .args in
-    rw (recordIn-unknown (wordsOf (now (args .bytes))) (args .at) (rw length-wordsOf (c .before .before .before .before .pre))
+    rw (recordAt-unknown n (wordsOf (now (args .bytes))) (args .at) (rw length-wordsOf (c .before .before .before .before .pre))
     (ap sideKnown (sym (c .before .before .word-in .ensures)) ∙ sym (c .before .is-side .ensures) ∙ c .if1 .left))
 
 pub record-at-bytes-spec : {M : Type 1} → statement M

@@ -3,7 +3,6 @@ use mathlib.Core.Path.{sym}
 use denote.Ref.{now}
 use Rattle.words.specs.LittleEndian.{wordsOf}
 use Rattle.words.proofs.LittleEndianLaws.{length-wordsOf}
-use Rattle.light_bounds.proofs.RecordPlaces.{recordAt-is}
 use Rattle.light_nodes.specs.Nodes.{boundsAt}
 use Rattle.light_nodes.specs.TreeLaws.{boundsAt-past}
 use borrow.Author.Needs.{needs}
@@ -12,7 +11,7 @@ use Rattle.light_nodes.proofs.nodes.bounds_at.Tie as tie
 
 returns : tie.Need-returns
 unfolding boundsAt
-returns c = recordAt-is 12 _ _ (c .read-record-bytes .result) (c .read-record-bytes .ensures)
+returns c = c .read-record-bytes .ensures 12
 
 returns-2 : tie.Need-returns-2
 returns-2 c =
