@@ -24,8 +24,8 @@ use Rattle.light_bounds.specs.Vecmath.{angleBetween}
 use Rattle.light_bounds.specs.Bounds.{boxCheck, leastOf, greatestOf, boxUnion, diagonal, centroid, surfaceArea}
 use Rattle.light_bounds.specs.Cones.{safeSqrt, cosSubClamped, sinSubClamped, boundSubtendedDirections, joined, unionDirectionCones}
 use Rattle.light_bounds.specs.LightBounds.{isCosine, rangeCheck, coneCheck, validate, join, union}
-use Rattle.light_bounds.specs.Importance.{sine, cosW, cosP, normalFactor, withNormal, toward, distance2, geometry, finish, checkedImportance, importance}
-use Rattle.light_bounds.specs.Importance.{weigh}
+use Rattle.light_bounds.specs.Importance.{sine, cosW, cosP, normalFactor, withNormal, toward, distance2, geometry}
+use Rattle.light_bounds.specs.Importance.{finish, checkedImportance, importanceBy, importance, weigh}
 use Rattle.light_bounds.specs.RecordWords.{vecAt, recordAt, recordList}
 use Rattle.lamps.specs.Block.{blockLayout, blockHandles}
 use Rattle.light_nodes.specs.Nodes.{nodeList, nodeCount, nodeOf, nodeAt, boundsAt}
@@ -164,7 +164,7 @@ unfolding toBits ofBits ofInt span climb size odd units round neg sum add sub mu
     series arcStep arc cos twiceArc acos asin finiteVec dot plus minus cross scaled divided vecLength normalize normalizeByDivision rotate angleBetween
     boxCheck leastOf greatestOf boxUnion diagonal centroid surfaceArea safeSqrt cosSubClamped sinSubClamped boundSubtendedDirections joined
     unionDirectionCones isCosine rangeCheck coneCheck validate join union sine cosW cosP normalFactor withNormal toward distance2 geometry finish
-    checkedImportance importance weigh vecAt recordAt recordList blockLayout blockHandles nodeList nodeCount nodeOf nodeAt boundsAt leaves flatten folded
+    checkedImportance importanceBy importance weigh vecAt recordAt recordList blockLayout blockHandles nodeList nodeCount nodeOf nodeAt boundsAt leaves flatten folded
     component widen centroidEnds bucketIndex bucketOf joinTo fillBuckets unionRange unionBucketRange mOmega kr evaluateCost sideCost cutCost slotList
     combinedBounds better cuts axis chooseSplit kept goesLeft goesRight lefts rights partitionHandles partedCount partedHandles partedWork forked treeBy
     buildSubtree boundedHandles grown allBounds validated treeOf builtBvh buildCheck buildLightBvh nodesWritten tabled tableWritten parted fork weighAt

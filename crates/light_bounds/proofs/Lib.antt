@@ -2,4 +2,4 @@ pub mod Clamped
 pub mod LateLaws
 pub mod RecordPlaces
 pub mod RootLaws
-pub mod WeighingLaws
+pub mod PlainView

@@ -15,13 +15,15 @@ use Rattle.words.specs.Answers.{Answer, given, refused, _then_}
 use Rattle.words.proofs.AnswerLaws.{Gives, gives, gives-none, gives-cond, gives-any, gives-then, gives-value, then-given, given-injective, not-both}
 use Rattle.light_bounds.specs.Bounds.{boxCheck, finiteBox, boxUnion, leastOf, greatestOf, inverted}
 use Rattle.light_bounds.specs.Cones.{unionDirectionCones}
-use Rattle.light_bounds.specs.Importance.{finiteQuery, Seen, dark, lit, facing, finish, geometry, checkedImportance, importance}
+use Rattle.light_bounds.specs.Importance.{Seen, dark, lit, facing, NormalStep, withNormal, finish}
+use Rattle.light_bounds.specs.Importance.{finiteQuery, geometry, checkedImportance, importanceBy, importance}
 use Rattle.light_bounds.specs.LightBounds.{joinPowered, operand, union, validate, coneCheck, join}
 use Rattle.light_bounds.specs.Side.{either}
 use Rattle.light_bounds.specs.Vecmath.{finiteVec}
 use Rattle.light_bounds.specs.declared.bounds.Bounds3.{Bounds3}
 use Rattle.light_bounds.specs.declared.light_bounds.LightBounds.{LightBounds}
 use Rattle.light_bounds.specs.declared.importance.Query.{Query}
+use Rattle.light_bounds.specs.declared.vecmath.Vec3.{Vec3}
 
 -- ---- the importance
 
@@ -32,15 +34,19 @@ finish-nonneg phi dark = tt
 finish-nonneg phi (lit p d2) = fmax-nonneg (phi ⊗ p ⊘ d2)
 finish-nonneg phi (facing p d2 i) = fmax-nonneg (phi ⊗ p ⊘ d2 ⊗ i)
 
-good : (r : LightBounds) (q : Query) → Gives (λ (x : Float). T (nonneg x)) (importance r q)
-unfolding importance checkedImportance
-good r q =
+-- whatever the normal makes of what is seen
+good : (r : LightBounds) (p : Vec3) (known : Bool) (normal : NormalStep)
+    → Gives (λ (x : Float). T (nonneg x)) (importanceBy r p known normal)
+unfolding importanceBy checkedImportance
+good r p known normal =
     gives-then (gives-any (validate r))
-    (λ _ _. gives-cond (finiteQuery q) (gives-then (gives-any (geometry r q)) (λ s _. gives (finish-nonneg (r .phi) s))) gives-none)
+    (λ _ _. gives-cond known
+    (gives-then (gives-any (geometry r p normal)) (λ s _. gives (finish-nonneg (r .phi) s))) gives-none)
 
 -- an importance is no NaN and not below zero
 pub importance-nonneg : (r : LightBounds) (q : Query) (x : Float) → importance r q ≡ given x → T (nonneg x)
-importance-nonneg r q x e = gives-value (good r q) e
+unfolding importance
+importance-nonneg r q x e = gives-value (good r (q .p) (finiteQuery q) (withNormal (q .n))) e
 
 -- ---- the union
 

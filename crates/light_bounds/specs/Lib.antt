@@ -5,6 +5,7 @@ pub mod Side
 pub mod LightBounds
 pub mod Importance
 pub mod Weighing
+pub mod WeighingLaws
 pub mod RecordWords
 pub mod SideLaws
 pub mod RecordLaws

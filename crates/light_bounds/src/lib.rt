@@ -6,4 +6,3 @@ pub mod light_bounds;
 pub mod record_words;
 pub mod side;
 pub mod vecmath;
-pub mod weighing;

@@ -1,6 +1,6 @@
 // Records as words (specs/RecordWords.antt): box min and max, direction, phi, the two cosines, side. The layout of a record is here alone.
 ghost use mathlib.Core.Path.{_≡_};
-ghost use Prim.Native.Nat.{ℕ, _+_, _/_, _≤_, _<_};
+ghost use Prim.Native.Nat.{_+_, _/_, _≤_, _<_};
 ghost use lib.ListN.{getD, length};
 ghost use lib.Seq.{sets};
 ghost use Rattle.words.specs.LittleEndian.{wordsOf};
@@ -60,9 +60,9 @@ pub fn box_at(words: &[u32], at: usize) -> Bounds3
     Bounds3 { min, max }
 }
 
-// The record at a place of a slice of words.
+// The record at a place of a slice of words, of a list or a block: none is refusal 1.
 pub fn read_record(words: &[u32], at: usize) -> Found
-    ensures { λ r. ⌜ ((n : ℕ) → found n r ≡ recordAt n (now (words .entry)) at) ⌝ }
+    ensures { λ r. ⌜ found 1 r ≡ recordAt 1 (now (words .entry)) at ⌝ }
 {
     if fits(words.len(), at, RECORD_WORDS) {
         return record_at(words, at);
@@ -72,7 +72,7 @@ pub fn read_record(words: &[u32], at: usize) -> Found
 
 fn record_at(words: &[u32], at: usize) -> Found
     requires { ⌜ at + recordWords ≤ length (now words) ⌝ }
-    ensures { λ r. ⌜ ((n : ℕ) → found n r ≡ recordAt n (now (words .entry)) at) ⌝ }
+    ensures { λ r. ⌜ found 1 r ≡ recordAt 1 (now (words .entry)) at ⌝ }
 {
     let side = words[at + SIDE_PLACE];
     if is_side(side) {
@@ -106,9 +106,9 @@ pub fn record_or_zeros(words: &[u32], at: usize) -> LightBounds
     )
 }
 
-// The same where the words are little-endian bytes.
+// The record at a place of the little-endian bytes of a tree: none is refusal 12.
 pub fn read_record_bytes(bytes: &[u8], at: usize) -> Found
-    ensures { λ r. ⌜ ((n : ℕ) → found n r ≡ recordAt n (wordsOf (now (bytes .entry))) at) ⌝ }
+    ensures { λ r. ⌜ found 12 r ≡ recordAt 12 (wordsOf (now (bytes .entry))) at ⌝ }
 {
     if fits(bytes.len() / 4, at, RECORD_WORDS) {
         return record_at_bytes(bytes, at);
@@ -118,7 +118,7 @@ pub fn read_record_bytes(bytes: &[u8], at: usize) -> Found
 
 fn record_at_bytes(bytes: &[u8], at: usize) -> Found
     requires { ⌜ at + recordWords ≤ length (now bytes) / 4 ⌝ }
-    ensures { λ r. ⌜ ((n : ℕ) → found n r ≡ recordAt n (wordsOf (now (bytes .entry))) at) ⌝ }
+    ensures { λ r. ⌜ found 12 r ≡ recordAt 12 (wordsOf (now (bytes .entry))) at ⌝ }
 {
     let side = word_in(bytes, at + SIDE_PLACE);
     if is_side(side) {

@@ -16,7 +16,7 @@ use Rattle.light_bounds.specs.declared.light_bounds.LightBounds.{LightBounds}
 use Rattle.light_nodes.specs.Tree.{Tree, leaf, fork, bounds, leaves, rightPlace}
 use Rattle.light_nodes.specs.TreeLaws.{leaves-pos}
 use Rattle.light_sampler.specs.Fork.{Turn, neither, left, right}
-use Rattle.light_sampler.specs.Walks.{Walked, entering, Draw, weighAt, weights, turn, taken, onward, descend}
+use Rattle.light_sampler.specs.Walks.{Walked, entering, Draw, byQuery, weighAt, weights, turn, taken, onward, descend}
 use Rattle.light_runs.specs.StandingLaws.{stands-root}
 use Rattle.light_runs.specs.StandingTree.{Stands, weighed}
 use Rattle.light_runs.specs.WeightedTree.{leavesOf, walk, NotBelow, WeightsNotBelow}
@@ -46,13 +46,15 @@ leaves-weighed q (leaf h b) = refl
 leaves-weighed q (fork b l r) = omega (arith, leaves-weighed q l, leaves-weighed q r)
 
 -- of the node at a place, by its record
-weigh-at : (ws : List ℕ) (q : Query) (at p : ℕ) (t : Tree) → Stands ws at p t → weighAt ws q at ≡ weigh (bounds t) q
+weigh-at : (ws : List ℕ) (q : Query) (at p : ℕ) (t : Tree) → Stands ws at p t
+    → weighAt ws (byQuery q) at ≡ weigh (bounds t) q
 unfolding weighAt _then_
 weigh-at ws q at p t s = rw (stands-root ws at p t s .1)
 
 -- at a fork, those of `weighed`
 pub weights-standing : (ws : List ℕ) (q : Query) (at p : ℕ) (b : LightBounds) (l r : Tree) → Stands ws at p (fork b l r)
-    → weights ws q at (rightPlace at l) ≡ (weigh (bounds l) q then λ (x : Float). weigh (bounds r) q then λ (y : Float). given (x, y))
+    → weights ws (byQuery q) at (rightPlace at l)
+    ≡ (weigh (bounds l) q then λ (x : Float). weigh (bounds r) q then λ (y : Float). given (x, y))
 unfolding weights
 weights-standing ws q at p b l r s = rw (weigh-at ws q (at + 1) at l (s .1), weigh-at ws q (rightPlace at l) at r (s .2))
 

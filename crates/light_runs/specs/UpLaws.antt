@@ -22,7 +22,8 @@ use Rattle.light_nodes.specs.Nodes.{LightBVHNode, leaf as leafNode, interior, i
 use Rattle.light_nodes.specs.Tree.{Tree, leaf, fork, bounds, leaves, rightPlace}
 use Rattle.light_nodes.specs.TreeLaws.{leaves-pos, root}
 use Rattle.light_sampler.specs.Fork.{Turn, neither, left, right, most, parted, fork as forkOf}
-use Rattle.light_sampler.specs.Walks.{Walked, entering, Draw, weights, taken, part, partOf, rise, risen, upward, ascend}
+use Rattle.light_sampler.specs.Walks.{Walked, entering, Draw, byQuery, weights, taken}
+use Rattle.light_sampler.specs.Walks.{part, partOf, rise, risen, upward, ascend}
 use Rattle.tree_laws.specs.PlaceLaws.{headEnd}
 use Rattle.light_runs.specs.DemandWords.{reversed}
 use Rattle.light_runs.specs.DownLaws.{leaves-weighed, weights-standing}
@@ -147,8 +148,8 @@ part-of i l r x y (inr e) some-weight = rw some-weight (go (eqb i l))
 
 -- a child of a fork, whose place is entered next
 pub rises-child : (ws : List ℕ) (q : Query) (at l r p i : ℕ) (n : LightBVHNode) (x y : Float) (acc : List ℕ) → nodeAt ws at ≡ given (interior l r p)
-    → nodeAt ws i ≡ given n → parent n ≡ at → (at ≡ invalidIndex → ⊥) → (i ≡ at + 1) ⊎ (i ≡ r) → weights ws q at r ≡ given (x, y)
-    → le (x ⊕ y) zerof ≡ false → Rises ws q at acc → Rises ws q i (at ∷ acc)
+    → nodeAt ws i ≡ given n → parent n ≡ at → (at ≡ invalidIndex → ⊥) → (i ≡ at + 1) ⊎ (i ≡ r)
+    → weights ws (byQuery q) at r ≡ given (x, y) → le (x ⊕ y) zerof ≡ false → Rises ws q at acc → Rises ws q i (at ∷ acc)
 unfolding upward rise risen _then_
 rises-child ws q at l r p i n x y acc above node up inner child weight some-weight rises m d few =
     let (s, is) = part-of i (at + 1) r x y child some-weight in

@@ -1,6 +1,7 @@
--- A turn of each walk: what it comes to, or the walk that is left. The places that a walk enters are no part of its outcome. Assumes nothing.
+-- A turn of each walk: what it comes to, or the walk that is left. The places that a walk enters are no part of its
+-- outcome. A query that is held weighs as the query does (`by-held`). Assumes nothing.
 use Prim.Native.Nat.{ℕ, zero, suc, _+_, _-_, _/_, _<_, _≤_}
-use mathlib.Core.Path.{_≡_, refl, ap, _∙_}
+use mathlib.Core.Path.{_≡_, refl, sym, ap, _∙_}
 use mathlib.Core.Bool.{Bool, true, false, cond}
 use mathlib.Core.List.{List, [], _∷_}
 use mathlib.Core.Option.{none, some}
@@ -13,13 +14,18 @@ use Rattle.ieee.specs.Choose.{fmin}
 use Rattle.ieee.specs.Single.{_⊗_, zerof, onef}
 use Rattle.words.specs.Answers.{Answer, given, refused, code}
 use Rattle.words.proofs.AnswerLaws.{not-both, given-injective}
+use Rattle.light_bounds.specs.Weighing.{prepared}
+use Rattle.light_bounds.specs.WeighingLaws.{weigh-prepared}
+use Rattle.light_bounds.specs.declared.light_bounds.LightBounds.{LightBounds}
 use Rattle.light_bounds.specs.declared.importance.Query.{Query}
+use Rattle.light_bounds.specs.declared.importance.Prepared.{Prepared}
 use Rattle.light_nodes.specs.Nodes.{LightBVHNode, leaf, interior, invalidIndex, nodeAt, nodeWords}
 use Rattle.light_nodes.specs.TreeLaws.{nodeAt-past}
 use Rattle.light_sampler.specs.Fork.{neither, left, right, most}
 use Rattle.light_sampler.specs.Sampler.{fromRoot}
-use Rattle.light_sampler.specs.Turns.{parentOf}
-use Rattle.light_sampler.specs.Walks.{Walked, ended, afterCheck, turn, taken, onward, descend, nought, part, rise, risen, upward, ascend}
+use Rattle.light_sampler.specs.Turns.{byPrepared, parentOf}
+use Rattle.light_sampler.specs.Walks.{Walked, ended, afterCheck, Weighing, byQuery, turn, taken}
+use Rattle.light_sampler.specs.Walks.{onward, descend, nought, part, rise, risen, upward, ascend}
 
 -- within a list the value past its end is no matter
 pub getD-within : (ws : List ℕ) (i d e : ℕ) → i < length ws → getD ws i d ≡ getD ws i e
@@ -42,6 +48,18 @@ module _ {A B : Type 0} (walk : A → Walked B) {check : Answer A} where
 
   pub check-refused : {n : ℕ} → check ≡ refused n → afterCheck check walk .outcome ≡ refused n
   check-refused e = ap (λ (x : Answer A). afterCheck x walk .outcome) e
+
+-- ---- the query that is held
+
+by-held : (h : Prepared) (q : Query) → h ≡ prepared q → byQuery q ≡ byPrepared h
+by-held h q e = λ i b. sym (weigh-prepared b h q e) i
+
+module _ (ws : List ℕ) (h : Prepared) (q : Query) (held : h ≡ prepared q) where
+  pub turn-held : (i r : ℕ) (u : Float) → turn ws (byQuery q) i r u ≡ turn ws (byPrepared h) i r u
+  turn-held i r u = ap (λ (by : Weighing). turn ws by i r u) (by-held h q held)
+
+  pub rise-held : (i p : ℕ) → rise ws (byQuery q) i p ≡ rise ws (byPrepared h) i p
+  rise-held i p = ap (λ (by : Weighing). rise ws by i p) (by-held h q held)
 
 -- ---- down
 
@@ -67,20 +85,21 @@ module _ (ws : List ℕ) (q : Query) (i : ℕ) (pmf u : Float) where
     descend-unknown e = descend-on m more ∙ rw e
 
     module _ {l r p : ℕ} (stands : nodeAt ws i ≡ given (interior l r p)) where
-      pub descend-refused : {n : ℕ} → turn ws q i r u ≡ refused n → descend ws q m i pmf u .outcome ≡ refused n
+      pub descend-refused : {n : ℕ} → turn ws (byQuery q) i r u ≡ refused n
+          → descend ws q m i pmf u .outcome ≡ refused n
       unfolding onward taken
       descend-refused e = descend-on m more ∙ rw (stands, e)
 
-      pub descend-neither : turn ws q i r u ≡ given neither → descend ws q m i pmf u .outcome ≡ given none
+      pub descend-neither : turn ws (byQuery q) i r u ≡ given neither → descend ws q m i pmf u .outcome ≡ given none
       unfolding onward taken
       descend-neither e = descend-on m more ∙ rw (stands, e)
 
-      pub descend-left : {s v : Float} → turn ws q i r u ≡ given (left s v)
+      pub descend-left : {s v : Float} → turn ws (byQuery q) i r u ≡ given (left s v)
           → descend ws q m i pmf u .outcome ≡ descend ws q (m - 1) (i + 1) (pmf ⊗ s) v .outcome
       unfolding onward taken
       descend-left e = descend-on m more ∙ rw (stands, e)
 
-      pub descend-right : {s v : Float} → turn ws q i r u ≡ given (right s v)
+      pub descend-right : {s v : Float} → turn ws (byQuery q) i r u ≡ given (right s v)
           → descend ws q m i pmf u .outcome ≡ descend ws q (m - 1) r (pmf ⊗ s) v .outcome
       unfolding onward taken
       descend-right e = descend-on m more ∙ rw (stands, e)
@@ -116,12 +135,14 @@ module _ (ws : List ℕ) (q : Query) (i : ℕ) (pmf : Float) where
 
     module _ {p : ℕ} (stands : parentOf (nodeAt ws i) ≡ given p) where
       ascend-parent : ascend ws q m i pmf .outcome
-          ≡ cond (eqb p invalidIndex) (ended (given pmf)) (risen p pmf (λ (j : ℕ) (c : Float). ascend ws q (m - 1) j c) (rise ws q i p)) .outcome
+          ≡ cond (eqb p invalidIndex) (ended (given pmf))
+          (risen p pmf (λ (j : ℕ) (c : Float). ascend ws q (m - 1) j c) (rise ws (byQuery q) i p)) .outcome
       unfolding upward
       ascend-parent = ascend-on m more ∙ go (nodeAt ws i) stands
         where
           go : (a : Answer LightBVHNode) → parentOf a ≡ given p → upward ws q i pmf (λ (j : ℕ) (c : Float). ascend ws q (m - 1) j c) a .outcome
-              ≡ cond (eqb p invalidIndex) (ended (given pmf)) (risen p pmf (λ (j : ℕ) (c : Float). ascend ws q (m - 1) j c) (rise ws q i p)) .outcome
+              ≡ cond (eqb p invalidIndex) (ended (given pmf))
+              (risen p pmf (λ (j : ℕ) (c : Float). ascend ws q (m - 1) j c) (rise ws (byQuery q) i p)) .outcome
           go (given node) e = rw (given-injective e)
           go (refused k) e = absurd (not-both e refl)
 
@@ -129,14 +150,15 @@ module _ (ws : List ℕ) (q : Query) (i : ℕ) (pmf : Float) where
       ascend-root e = ascend-parent ∙ rw (eq-eqb p invalidIndex e)
 
       module _ (inner : p ≡ invalidIndex → ⊥) where
-        pub ascend-refused : {n : ℕ} → rise ws q i p ≡ refused n → ascend ws q m i pmf .outcome ≡ refused n
+        pub ascend-refused : {n : ℕ} → rise ws (byQuery q) i p ≡ refused n → ascend ws q m i pmf .outcome ≡ refused n
         unfolding risen
         ascend-refused e = ascend-parent ∙ rw (ne-eqb p invalidIndex inner, e)
 
-        pub ascend-nought : rise ws q i p ≡ given nought → ascend ws q m i pmf .outcome ≡ given zerof
+        pub ascend-nought : rise ws (byQuery q) i p ≡ given nought → ascend ws q m i pmf .outcome ≡ given zerof
         unfolding risen
         ascend-nought e = ascend-parent ∙ rw (ne-eqb p invalidIndex inner, e)
 
-        pub ascend-part : {s : Float} → rise ws q i p ≡ given (part s) → ascend ws q m i pmf .outcome ≡ ascend ws q (m - 1) p (pmf ⊗ s) .outcome
+        pub ascend-part : {s : Float} → rise ws (byQuery q) i p ≡ given (part s)
+            → ascend ws q m i pmf .outcome ≡ ascend ws q (m - 1) p (pmf ⊗ s) .outcome
         unfolding risen
         ascend-part e = ascend-parent ∙ rw (ne-eqb p invalidIndex inner, e)

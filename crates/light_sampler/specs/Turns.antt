@@ -1,11 +1,15 @@
--- What the enums of the walks' steps answer. Definitions only. Assumes nothing.
+-- The walks' steps as the code has them: what their enums answer, and how they weigh, by the query that is held.
+-- Definitions only. Assumes nothing.
 use Prim.Native.Nat.{ℕ}
 use lib.Ieee.{Float}
 use Rattle.words.specs.Answers.{Answer, given, refused}
 use Rattle.words.specs.Refusals.{number}
+use Rattle.light_bounds.specs.Weighing.{weighHeld}
+use Rattle.light_bounds.specs.declared.light_bounds.LightBounds.{LightBounds}
+use Rattle.light_bounds.specs.declared.importance.Prepared.{Prepared}
 use Rattle.light_nodes.specs.Nodes.{LightBVHNode, parent}
 use Rattle.light_sampler.specs.Fork.{Turn as Turned, neither, left, right}
-use Rattle.light_sampler.specs.Walks.{Rise, nought, part}
+use Rattle.light_sampler.specs.Walks.{Weighing, Rise, nought, part}
 use Rattle.light_sampler.specs.declared.fork.Turn.{Turn}
 use Rattle.light_sampler.specs.declared.fork.Turn.the-variants.{Neither, Left, Right}
 use Rattle.light_sampler.specs.declared.weigh.Weights.{Weights}
@@ -16,6 +20,10 @@ use Rattle.light_sampler.specs.declared.pmf.Factor.{Factor}
 use Rattle.light_sampler.specs.declared.pmf.Factor.the-variants.{Nought, Part, Refused as Factor·Refused}
 use Rattle.light_sampler.specs.declared.pmf.Above.{Above}
 use Rattle.light_sampler.specs.declared.pmf.Above.the-variants.{Parent, Unknown}
+
+-- for the query that is held; of `prepared q` it is `byQuery q` (proofs WalkLaws `by-held`)
+abbrev pub byPrepared : Prepared → Weighing
+byPrepared h = λ (b : LightBounds). weighHeld b h
 
 abbrev pub turned : Turn → Turned
 turned Neither = neither

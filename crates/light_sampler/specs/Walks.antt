@@ -36,13 +36,21 @@ afterCheck (refused n) walk = ended (refused n)
 
 -- ---- weighing
 
+-- how a walk weighs a record
+abbrev pub Weighing : Type 0
+Weighing = LightBounds → Answer Float
+
+-- a walk for a query
+abbrev pub byQuery : Query → Weighing
+byQuery q = λ (b : LightBounds). weigh b q
+
 -- of the node at a place: 12 past the end, 12 of its side word, the record's check, its weight
-unfoldable pub weighAt : List ℕ → Query → ℕ → Answer Float
-weighAt ws q i = boundsAt ws i then λ (b : LightBounds). weigh b q
+unfoldable pub weighAt : List ℕ → Weighing → ℕ → Answer Float
+weighAt ws by i = boundsAt ws i then by
 
 -- of the two children of the node at a place: the left one stands next to it, the right one where its word says
-unfoldable pub weights : List ℕ → Query → ℕ → ℕ → Answer (Float × Float)
-weights ws q i r = weighAt ws q (i + 1) then λ (x : Float). weighAt ws q r then λ (y : Float). given (x, y)
+unfoldable pub weights : List ℕ → Weighing → ℕ → ℕ → Answer (Float × Float)
+weights ws by i r = weighAt ws by (i + 1) then λ (x : Float). weighAt ws by r then λ (y : Float). given (x, y)
 
 -- ---- down
 
@@ -50,8 +58,8 @@ weights ws q i r = weighAt ws q (i + 1) then λ (x : Float). weighAt ws q r then
 abbrev pub Draw : Type 0
 Draw = Option (ℕ × Float)
 
-unfoldable pub turn : List ℕ → Query → ℕ → ℕ → Float → Answer Turn
-turn ws q i r u = weights ws q i r then λ (w : Float × Float). given (fork (w .0) (w .1) u)
+unfoldable pub turn : List ℕ → Weighing → ℕ → ℕ → Float → Answer Turn
+turn ws by i r u = weights ws by i r then λ (w : Float × Float). given (fork (w .0) (w .1) u)
 
 -- neither branch ends the walk with none; a branch is entered with its share in the chance
 unfoldable pub taken : (goLeft goRight : Float → Float → Walked Draw) → Float → Answer Turn → Walked Draw
@@ -64,7 +72,7 @@ taken goLeft goRight pmf (given (right s u)) = goRight (pmf ⊗ s) u
 unfoldable pub onward : List ℕ → Query → ℕ → Float → Float → (ℕ → Float → Float → Walked Draw) → Answer LightBVHNode → Walked Draw
 onward ws q i pmf u enter (refused n) = ended (refused n)
 onward ws q i pmf u enter (given (leaf h p)) = ended (given (some (h, pmf)))
-onward ws q i pmf u enter (given (interior l r p)) = taken (enter (i + 1)) (enter r) pmf (turn ws q i r u)
+onward ws q i pmf u enter (given (interior l r p)) = taken (enter (i + 1)) (enter r) pmf (turn ws (byQuery q) i r u)
 
 -- `n` is how many places may still be entered; then the walk is spent
 unfoldable pub descend : List ℕ → Query → ℕ → ℕ → Float → Float → Walked Draw
@@ -91,9 +99,10 @@ rightChildOf (leaf h p) = refused 12
 rightChildOf (interior l r p) = given r
 
 -- from the child at `i` to its parent at `p`
-unfoldable pub rise : List ℕ → Query → ℕ → ℕ → Answer Rise
-rise ws q i p =
-    nodeAt ws p then λ (n : LightBVHNode). rightChildOf n then λ (r : ℕ). weights ws q p r then λ (w : Float × Float). partOf i (p + 1) r (w .0) (w .1)
+unfoldable pub rise : List ℕ → Weighing → ℕ → ℕ → Answer Rise
+rise ws by i p =
+    nodeAt ws p then λ (n : LightBVHNode). rightChildOf n then λ (r : ℕ). weights ws by p r
+    then λ (w : Float × Float). partOf i (p + 1) r (w .0) (w .1)
 
 -- children without weight end the walk with 0; else the parent is entered with the child's part in the chance
 unfoldable pub risen : ℕ → Float → (ℕ → Float → Walked Float) → Answer Rise → Walked Float
@@ -105,7 +114,8 @@ risen p pmf enter (given (part s)) = enter p (pmf ⊗ s)
 unfoldable pub upward : List ℕ → Query → ℕ → Float → (ℕ → Float → Walked Float) → Answer LightBVHNode → Walked Float
 upward ws q i pmf enter (refused n) = ended (refused n)
 upward ws q i pmf enter (given node) =
-    cond (eqb (parent node) invalidIndex) (ended (given pmf)) (risen (parent node) pmf enter (rise ws q i (parent node)))
+    cond (eqb (parent node) invalidIndex) (ended (given pmf))
+    (risen (parent node) pmf enter (rise ws (byQuery q) i (parent node)))
 
 unfoldable pub ascend : List ℕ → Query → ℕ → ℕ → Float → Walked Float
 ascend ws q zero i pmf = ended (refused 12)

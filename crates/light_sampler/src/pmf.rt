@@ -3,17 +3,15 @@ ghost use mathlib.Core.Path.{_≡_};
 ghost use Rattle.ieee.specs.Single.{onef};
 ghost use Rattle.words.specs.Answers.{counted};
 ghost use Rattle.words.specs.LittleEndian.{wordsOf};
-ghost use Rattle.light_bounds.specs.Weighing.{Holds};
-ghost use Rattle.light_bounds.specs.declared.importance.Query.{Query};
 ghost use Rattle.light_sampler.specs.Sampler.{pmfCheck, leafOf, pmf as pmfOf, chance};
 ghost use Rattle.light_sampler.specs.Walks.{partOf, rise as riseOf, ascend as ascendOf};
 ghost use Rattle.light_nodes.specs.Nodes.{nodeAt};
-ghost use Rattle.light_sampler.specs.Turns.{factorOf, parentOf, aboveOf};
+ghost use Rattle.light_sampler.specs.Turns.{byPrepared, factorOf, parentOf, aboveOf};
 use super::weigh::Weights;
 use super::weigh::weigh_children;
+use light_bounds::importance::Prepared;
 use light_bounds::importance::Query;
-use light_bounds::weighing::Prepared;
-use light_bounds::weighing::prepare;
+use light_bounds::importance::prepare;
 use light_nodes::nodes::INVALID_INDEX;
 use light_nodes::nodes::Node;
 use light_nodes::nodes::node_at;
@@ -54,7 +52,7 @@ fn part_of(place: usize, left: usize, right: usize, x: f32, y: f32) -> Factor
 
 // From a child to its parent.
 fn rise(nodes: &[u8], query: Prepared, place: usize, parent: u32) -> Factor
-    ensures { λ r. ⌜ ((q : Query) → Holds query q → factorOf r ≡ riseOf (wordsOf (now (nodes .entry))) q place parent) ⌝ }
+    ensures { λ r. ⌜ factorOf r ≡ riseOf (wordsOf (now (nodes .entry))) (byPrepared query) place parent ⌝ }
 {
     match node_at(nodes, parent as usize) {
         Node::Interior(_, right, _) => match weigh_children(nodes, query, parent as usize, right) {

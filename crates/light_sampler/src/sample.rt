@@ -4,20 +4,18 @@ ghost use Prim.Native.Nat.{_<_, _^_};
 ghost use Rattle.ieee.specs.Single.{onef};
 ghost use Rattle.words.specs.Answers.{counted};
 ghost use Rattle.words.specs.LittleEndian.{wordsOf};
-ghost use Rattle.light_bounds.specs.Weighing.{Holds};
-ghost use Rattle.light_bounds.specs.declared.importance.Query.{Query};
 ghost use Rattle.light_sampler.specs.Sampler.{sampleCheck, sample, drawn};
 ghost use Rattle.light_sampler.specs.Walks.{turn as turnOf, descend as descendOf};
-ghost use Rattle.light_sampler.specs.Turns.{wayOf};
+ghost use Rattle.light_sampler.specs.Turns.{byPrepared, wayOf};
 use super::fork::MOST;
 use super::fork::Turn;
 use super::fork::fork;
 use super::weigh::Weights;
 use super::weigh::weigh_children;
 use floats::choose::min;
+use light_bounds::importance::Prepared;
 use light_bounds::importance::Query;
-use light_bounds::weighing::Prepared;
-use light_bounds::weighing::prepare;
+use light_bounds::importance::prepare;
 use light_nodes::nodes::Node;
 use light_nodes::nodes::node_at;
 use light_nodes::nodes::node_count;
@@ -39,7 +37,7 @@ enum Way {
 
 fn turn(nodes: &[u8], query: Prepared, place: usize, right: u32, u: f32) -> Way
     requires { ⌜ place < 2 ^ 60 ⌝ }
-    ensures { λ r. ⌜ ((q : Query) → Holds query q → wayOf r ≡ turnOf (wordsOf (now (nodes .entry))) q place right u) ⌝ }
+    ensures { λ r. ⌜ wayOf r ≡ turnOf (wordsOf (now (nodes .entry))) (byPrepared query) place right u ⌝ }
 {
     match weigh_children(nodes, query, place, right) {
         Weights::Both(x, y) => Way::On(fork(x, y, u)),

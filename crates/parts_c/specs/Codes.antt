@@ -6,7 +6,7 @@ use lib.Dec.{leb}
 use lib.Ieee.{Float}
 use lib.ListN.{length}
 use Rattle.words.specs.Answers.{Answer, given, refused, _then_}
-use Rattle.light_bounds.specs.Importance.{weigh}
+use Rattle.light_bounds.specs.Importance.{importance}
 use Rattle.light_bounds.specs.LightBounds.{validate, union}
 use Rattle.light_bounds.specs.RecordWords.{recordAt, recordWords, vecAt}
 use Rattle.light_bounds.specs.declared.importance.Query.{Query}
@@ -25,7 +25,7 @@ unfoldable pub queryOf : List ℕ → Query
 queryOf ws = record { p = vecAt ws 0; n = vecAt ws 3 }
 
 unfoldable pub importanceWords : List ℕ → List ℕ → Answer Float
-importanceWords ws qs = cond (leb 6 (length qs)) (recordAt 1 ws 0 then λ r. weigh r (queryOf qs)) (refused 1)
+importanceWords ws qs = cond (leb 6 (length qs)) (recordAt 1 ws 0 then λ r. importance r (queryOf qs)) (refused 1)
 
 -- `room` words are lent for the answer
 unfoldable pub unionWords : List ℕ → List ℕ → ℕ → Answer LightBounds

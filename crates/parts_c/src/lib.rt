@@ -24,7 +24,7 @@ use lamps::block::check_block;
 use light_bounds::bounds::Validity;
 use light_bounds::importance::Query;
 use light_bounds::importance::Weight;
-use light_bounds::importance::weigh;
+use light_bounds::importance::importance;
 use light_bounds::light_bounds::Bounded;
 use light_bounds::light_bounds::LightBounds;
 use light_bounds::light_bounds::union;
@@ -300,7 +300,7 @@ pub extern "C" fn bounds_importance(record: &[u32], query: &[u32]) -> u64
         return 0x1_0000_0001;
     }
     match read_record(record, 0) {
-        Found::Record(whole) => weight_code(weigh(whole, query_of(query))),
+        Found::Record(whole) => weight_code(importance(whole, query_of(query))),
         Found::Nothing => 0x1_0000_0001,
     }
 }

@@ -4,7 +4,7 @@
 use light_bounds::bounds::Validity;
 use light_bounds::importance::Query;
 use light_bounds::importance::Weight;
-use light_bounds::importance::weigh;
+use light_bounds::importance::importance;
 use light_bounds::light_bounds::Bounded;
 use light_bounds::light_bounds::LightBounds;
 use light_bounds::light_bounds::union;
@@ -63,7 +63,7 @@ fn query(case: &[u32]) -> Query {
 }
 
 fn weighed(record: LightBounds, query: Query, out: &mut [u32]) -> u32 {
-    match weigh(record, query) {
+    match importance(record, query) {
         Weight::Importance(x) => {
             put(out, word_of_f32(x));
             0

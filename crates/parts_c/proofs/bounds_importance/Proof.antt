@@ -19,13 +19,14 @@ returns-2 : tie.Need-returns-2
 unfolding importanceWords _then_
 returns-2 c =
     rw (le-leb 6 (length (now (c .before .before .before .before .before .before .before .before .before .before .args .query))) (omega arith))
-    (rw (← c .before .before .before .before .before .before .read-record .ensures 1, c .before .before .before .before .whole .given .1)
-    (rw (← c .before .before .query-of .ensures) (c .weight-code .ensures ∙ ap valueCode (c .before .weigh .ensures))))
+    (rw (← c .before .before .before .before .before .before .read-record .ensures, c .before .before .before .before .whole .given .1)
+    (rw (← c .before .before .query-of .ensures)
+    (c .weight-code .ensures ∙ ap valueCode (c .before .importance .ensures))))
 
 returns-3 : tie.Need-returns-3
 unfolding importanceWords _then_
 returns-3 c = rw (le-leb 6 (length (now (c .before .before .before .before .before .before .args .query))) (omega arith))
-    (rw (← c .before .before .read-record .ensures 1, c .enum-told .given .1))
+    (rw (← c .before .before .read-record .ensures, c .enum-told .given .1))
 
 pub bounds-importance-spec : {M : Type 1} → statement M
 bounds-importance-spec =

@@ -9,12 +9,12 @@ use Rattle.parts_c.proofs.bounds_validate.Tie as tie
 returns : tie.Need-returns
 unfolding validateWords _then_
 returns c =
-    rw (← c .before .before .before .before .before .read-record .ensures 1, c .before .before .before .whole .given .1)
+    rw (← c .before .before .before .before .before .read-record .ensures, c .before .before .before .whole .given .1)
     (c .validity-code .ensures ∙ ap code (c .before .validate .ensures))
 
 returns-2 : tie.Need-returns-2
 unfolding validateWords _then_
-returns-2 c = rw (← c .before .before .read-record .ensures 1, c .enum-told .given .1)
+returns-2 c = rw (← c .before .before .read-record .ensures, c .enum-told .given .1)
 
 pub bounds-validate-spec : {M : Type 1} → statement M
 bounds-validate-spec =

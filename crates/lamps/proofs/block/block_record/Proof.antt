@@ -17,4 +17,4 @@ returns c =
     sym (recordAt-past 1 (now (args .block)) (recordPlace (args .place)) (lt-leb (recordPlace (args .place) + 13) (length (now (args .block))) (omega arith)))
 
 pub block-record-spec : {M : Type 1} → statement M
-block-record-spec = tie.close (tie.spec returns (λ c. search needs) (λ c. search needs) (λ c κs. search needs) (λ c. c .read-record .ensures 1))
+block-record-spec = tie.close (tie.spec returns (λ c. search needs) (λ c. search needs) (λ c κs. search needs) (λ c. c .read-record .ensures))

@@ -1,17 +1,14 @@
--- `light_bounds::importance::importance` meets its contract: the record's check, then the query. Assumes nothing.
-use Rattle.words.specs.Answers.{_then_}
-use Rattle.light_bounds.specs.Importance.{importance}
+-- A query is weighed as a walk holds it, which changes no weight. Assumes nothing.
+use mathlib.Core.Path.{_∙_}
+use Rattle.light_bounds.specs.Importance.{weigh}
+use Rattle.light_bounds.specs.WeighingLaws.{weigh-prepared}
 use borrow.Author.Needs.{needs}
 use Rattle.light_bounds.proofs.importance.importance.Statement.{statement}
 use Rattle.light_bounds.proofs.importance.importance.Tie as tie
 
 returns : tie.Need-returns
-unfolding importance _then_
-returns c = rw (← c .before .before .before .validate .ensures, c .before .enum-told .given .1) (c .finite-importance .ensures)
-
-returns-2 : tie.Need-returns-2
-unfolding importance _then_
-returns-2 c = rw (← c .before .before .before .validate .ensures, c .before .why .given .1)
+unfolding weigh
+returns c = c .weigh-prepared .ensures ∙ weigh-prepared _ _ _ (c .before .prepare .ensures)
 
 pub importance-spec : {M : Type 1} → statement M
-importance-spec = tie.close (tie.spec (λ c κs. search needs) (λ c. search needs) (λ c κs. search needs) (λ c. search needs) returns returns-2)
+importance-spec = tie.close (tie.spec (λ c κs. search needs) (λ c κs. search needs) returns)

@@ -8,7 +8,7 @@ use Rattle.light_bounds.proofs.record_words.read_record.Statement.{stat
 use Rattle.light_bounds.proofs.record_words.read_record.Tie as tie
 
 returns-2 : tie.Need-returns-2
-returns-2 c n = sym (recordAt-past n (now (c .before .before .before .args .words)) (c .before .before .before .args .at)
+returns-2 c = sym (recordAt-past 1 (now (c .before .before .before .args .words)) (c .before .before .before .args .at)
     (sym (c .before .fits2 .ensures) ∙ c .if1 .left))
 
 pub read-record-spec : {M : Type 1} → statement M

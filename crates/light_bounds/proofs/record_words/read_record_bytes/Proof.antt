@@ -10,8 +10,8 @@ use Rattle.light_bounds.proofs.record_words.read_record_bytes.Statement
 use Rattle.light_bounds.proofs.record_words.read_record_bytes.Tie as tie
 
 returns-2 : tie.Need-returns-2
-returns-2 c n =
-    sym (recordAt-past n (wordsOf (now (c .before .before .before .args .bytes))) (c .before .before .before .args .at)
+returns-2 c =
+    sym (recordAt-past 12 (wordsOf (now (c .before .before .before .args .bytes))) (c .before .before .before .args .at)
     (rw length-wordsOf (sym (c .before .fits2 .ensures) ∙ c .if1 .left)))
 
 pub read-record-bytes-spec : {M : Type 1} → statement M

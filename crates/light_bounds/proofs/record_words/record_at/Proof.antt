@@ -8,9 +8,9 @@ use Rattle.light_bounds.proofs.record_words.record_at.Statement.{statem
 use Rattle.light_bounds.proofs.record_words.record_at.Tie as tie
 
 returns : tie.Need-returns
-returns c n =
+returns c =
     let args = c .before .before .before .before .before .before .before .before .before .before .before .before .before .before .args in
-    rw (recordAt-found n (now (args .words)) (args .at)
+    rw (recordAt-found 1 (now (args .words)) (args .at)
     (c .before .before .before .before .before .before .before .before .before .before .before .before .before .before .pre)
     (sym (c .before .before .before .before .before .before .before .before .before .before .before .is-side .ensures) ∙
     c .before .before .before .before .before .before .before .before .before .before .if1 .taken))
@@ -25,9 +25,9 @@ returns c n =
     )))
 
 returns-2 : tie.Need-returns-2
-returns-2 c n =
+returns-2 c =
     let args = c .before .before .before .before .args in
-    rw (recordAt-unknown n (now (args .words)) (args .at) (c .before .before .before .before .pre) (sym (c .before .is-side .ensures) ∙ c .if1 .left))
+    rw (recordAt-unknown 1 (now (args .words)) (args .at) (c .before .before .before .before .pre) (sym (c .before .is-side .ensures) ∙ c .if1 .left))
 
 pub record-at-spec : {M : Type 1} → statement M
 record-at-spec =

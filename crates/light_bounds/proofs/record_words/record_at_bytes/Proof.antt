@@ -11,9 +11,9 @@ use Rattle.light_bounds.proofs.record_words.record_at_bytes.Statement.{
 use Rattle.light_bounds.proofs.record_words.record_at_bytes.Tie as tie
 
 returns : tie.Need-returns
-returns c n =
+returns c =
     let args = c .before .before .before .before .before .before .before .before .before .before .before .before .before .before .before .args in
-    rw (recordAt-found n (wordsOf (now (args .bytes))) (args .at)
+    rw (recordAt-found 12 (wordsOf (now (args .bytes))) (args .at)
     (rw length-wordsOf (c .before .before .before .before .before .before .before .before .before .before .before .before .before .before .before .pre))
     (ap sideKnown (sym (c .before .before .before .before .before .before .before .before .before .before .before .before .before .word-in .ensures))
     ∙ sym (c .before .before .before .before .before .before .before .before .before .before .before .before .is-side .ensures) ∙
@@ -34,9 +34,9 @@ returns c n =
     )))
 
 returns-2 : tie.Need-returns-2
-returns-2 c n =
+returns-2 c =
     let args = c .before .before .before .before .args in
-    rw (recordAt-unknown n (wordsOf (now (args .bytes))) (args .at) (rw length-wordsOf (c .before .before .before .before .pre))
+    rw (recordAt-unknown 12 (wordsOf (now (args .bytes))) (args .at) (rw length-wordsOf (c .before .before .before .before .pre))
     (ap sideKnown (sym (c .before .before .word-in .ensures)) ∙ sym (c .before .is-side .ensures) ∙ c .if1 .left))
 
 pub record-at-bytes-spec : {M : Type 1} → statement M

@@ -11,7 +11,7 @@ use Rattle.light_nodes.proofs.nodes.bounds_at.Tie as tie
 
 returns : tie.Need-returns
 unfolding boundsAt
-returns c = c .read-record-bytes .ensures 12
+returns c = c .read-record-bytes .ensures
 
 returns-2 : tie.Need-returns-2
 returns-2 c =

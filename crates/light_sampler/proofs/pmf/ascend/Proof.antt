@@ -1,21 +1,23 @@
--- `light_sampler::pmf::ascend` meets its contract: the walk that is left comes to what the whole walk comes to. Assumes nothing.
+-- The walk that is left comes to what the whole walk comes to, for whatever query is held. Assumes nothing.
 use mathlib.Core.Path.{_≡_, refl, sym, ap, _∙_}
 use native.Mathlib.Omega.{arith}
 use borrow.Author.Needs.{needs}
 use lib.Ieee.{ofBits}
 use Rattle.ieee.specs.Single.{onef}
 use Rattle.words.specs.LittleEndian.{wordsOf}
-use Rattle.light_bounds.specs.Weighing.{Holds}
+use Rattle.light_bounds.specs.Weighing.{prepared}
 use Rattle.light_bounds.specs.declared.importance.Query.{Query}
 use Rattle.light_sampler.specs.Turns.{factorOf, aboveOf}
 use Rattle.light_sampler.specs.Walks.{ascend}
-use Rattle.light_sampler.proofs.WalkLaws.{ascend-spent, ascend-unknown, ascend-root, ascend-refused, ascend-nought, ascend-part}
+use Rattle.light_sampler.proofs.WalkLaws.{rise-held, ascend-spent, ascend-unknown, ascend-root}
+use Rattle.light_sampler.proofs.WalkLaws.{ascend-refused, ascend-nought, ascend-part}
 use Rattle.light_sampler.proofs.pmf.ascend.Statement.{statement}
 use Rattle.light_sampler.proofs.pmf.ascend.Tie as tie
 
 abbrev Inv-loop : tie.InvT-loop
 Inv-loop nodes count leaf held entries₀ place₀ pmf₀ entries place pmf =
-    (q : Query) → Holds held q → ascend (wordsOf nodes) q entries place pmf .outcome ≡ ascend (wordsOf nodes) q count leaf onef .outcome
+    (q : Query) → held ≡ prepared q
+    → ascend (wordsOf nodes) q entries place pmf .outcome ≡ ascend (wordsOf nodes) q count leaf onef .outcome
 
 abbrev μ-loop : tie.MeasureT-loop
 μ-loop nodes count leaf held entries₀ place₀ pmf₀ entries place pmf = entries
@@ -29,15 +31,19 @@ returns c =
     let at = c .before .before .before .before in
     let stands = sym (at .parent-at .ensures) ∙ ap aboveOf (c .before .before .parent .given .1) in
     let start = at .before .before .before in
-    sym (ascend-root _ _ _ _ _ (at .before .loop-test .taken) stands (c .if1 .taken)) ∙ at .before .before .loop .inv (start .before .before .args .query) (start .prepare .ensures)
+    sym (ascend-root _ _ _ _ _ (at .before .loop-test .taken) stands (c .if1 .taken))
+    ∙ at .before .before .loop .inv _ (start .prepare .ensures)
 
 loop-again : tie.Need-loop-again Inv-loop μ-loop
 loop-again c q h =
     let inner = c .before .before .before .before in
     let at = inner .before .before .before .before in
     let stands = sym (at .parent-at .ensures) ∙ ap aboveOf (inner .before .before .parent .given .1) in
-    let step = sym (c .before .before .before .rise .ensures q h) ∙ ap factorOf (c .before .share .given .1) in
-    sym (ascend-part _ _ _ _ _ (at .before .loop-test .taken) stands (inner .if1 .left) step) ∙ at .before .before .loop .inv q h
+    let step =
+    rise-held _ _ q h _ _ ∙ sym (c .before .before .before .rise .ensures)
+    ∙ ap factorOf (c .before .share .given .1) in
+    sym (ascend-part _ _ _ _ _ (at .before .loop-test .taken) stands (inner .if1 .left) step)
+    ∙ at .before .before .loop .inv q h
 
 returns-2 : tie.Need-returns-2 Inv-loop μ-loop
 unfolding ofBits
@@ -46,8 +52,11 @@ returns-2 c =
     let at = inner .before .before .before .before in
     let start = at .before .before .before in
     let stands = sym (at .parent-at .ensures) ∙ ap aboveOf (inner .before .before .parent .given .1) in
-    let step = sym (c .before .before .rise .ensures (start .before .before .args .query) (start .prepare .ensures)) ∙ ap factorOf (c .enum-told .given .1) in
-    sym (ascend-nought _ _ _ _ _ (at .before .loop-test .taken) stands (inner .if1 .left) step) ∙ at .before .before .loop .inv (start .before .before .args .query) (start .prepare .ensures)
+    let step =
+    rise-held _ _ _ (start .prepare .ensures) _ _ ∙ sym (c .before .before .rise .ensures)
+    ∙ ap factorOf (c .enum-told .given .1) in
+    sym (ascend-nought _ _ _ _ _ (at .before .loop-test .taken) stands (inner .if1 .left) step)
+    ∙ at .before .before .loop .inv _ (start .prepare .ensures)
 
 returns-3 : tie.Need-returns-3 Inv-loop μ-loop
 returns-3 c =
@@ -55,18 +64,23 @@ returns-3 c =
     let at = inner .before .before .before .before in
     let start = at .before .before .before in
     let stands = sym (at .parent-at .ensures) ∙ ap aboveOf (inner .before .before .parent .given .1) in
-    let step = sym (c .before .before .before .rise .ensures (start .before .before .args .query) (start .prepare .ensures)) ∙ ap factorOf (c .before .why .given .1) in
-    sym (ascend-refused _ _ _ _ _ (at .before .loop-test .taken) stands (inner .if1 .left) step) ∙ at .before .before .loop .inv (start .before .before .args .query) (start .prepare .ensures)
+    let step =
+    rise-held _ _ _ (start .prepare .ensures) _ _ ∙ sym (c .before .before .before .rise .ensures)
+    ∙ ap factorOf (c .before .why .given .1) in
+    sym (ascend-refused _ _ _ _ _ (at .before .loop-test .taken) stands (inner .if1 .left) step)
+    ∙ at .before .before .loop .inv _ (start .prepare .ensures)
 
 returns-4 : tie.Need-returns-4 Inv-loop μ-loop
 returns-4 c =
     let at = c .before .before in
     let start = at .before .before .before in
     let stands = sym (at .parent-at .ensures) ∙ ap aboveOf (c .enum-told2 .given .1) in
-    sym (ascend-unknown _ _ _ _ _ (at .before .loop-test .taken) stands) ∙ at .before .before .loop .inv (start .before .before .args .query) (start .prepare .ensures)
+    sym (ascend-unknown _ _ _ _ _ (at .before .loop-test .taken) stands)
+    ∙ at .before .before .loop .inv _ (start .prepare .ensures)
 
 returns-5 : tie.Need-returns-5 Inv-loop μ-loop
-returns-5 c = sym (ascend-spent _ _ _ _ _ (c .loop-test .left)) ∙ c .before .loop .inv (c .before .before .before .before .args .query) (c .before .before .prepare .ensures)
+returns-5 c =
+    sym (ascend-spent _ _ _ _ _ (c .loop-test .left)) ∙ c .before .loop .inv _ (c .before .before .prepare .ensures)
 
 pub ascend-spec : {M : Type 1} → statement M
 ascend-spec =

@@ -1,4 +1,4 @@
--- `light_sampler::pmf::rise` meets its contract: the parent's kind, the two weights, the child's part. Assumes nothing.
+-- The parent's kind, the two weights, the child's part. Assumes nothing.
 use Rattle.words.specs.Answers.{_then_}
 use Rattle.light_sampler.specs.Walks.{rise}
 use borrow.Author.Needs.{needs}
@@ -7,24 +7,26 @@ use Rattle.light_sampler.proofs.pmf.rise.Tie as tie
 
 returns : tie.Need-returns
 unfolding rise _then_
-returns c q held =
+returns c =
     let right = c .before .before .before .before .before .before in
     rw (← right .before .before .node-at .ensures, right .right .given .1)
-    (rw (← c .before .before .before .before .weigh-children .ensures q held, c .before .before .x .given .1) (c .part-of .ensures))
+    (rw (← c .before .before .before .before .weigh-children .ensures, c .before .before .x .given .1)
+    (c .part-of .ensures))
 
 returns-2 : tie.Need-returns-2
 unfolding rise _then_
-returns-2 c q held =
+returns-2 c =
     let right = c .before .before .before .before .before in
-    rw (← right .before .before .node-at .ensures, right .right .given .1) (rw (← c .before .before .before .weigh-children .ensures q held, c .before .why .given .1))
+    rw (← right .before .before .node-at .ensures, right .right .given .1)
+    (rw (← c .before .before .before .weigh-children .ensures, c .before .why .given .1))
 
 returns-3 : tie.Need-returns-3
 unfolding rise _then_
-returns-3 c q held = rw (← c .before .before .node-at .ensures, c .enum-told .given .1)
+returns-3 c = rw (← c .before .before .node-at .ensures, c .enum-told .given .1)
 
 returns-4 : tie.Need-returns-4
 unfolding rise _then_
-returns-4 c q held = rw (← c .before .before .node-at .ensures, c .enum-told2 .given .1)
+returns-4 c = rw (← c .before .before .node-at .ensures, c .enum-told2 .given .1)
 
 pub rise-spec : {M : Type 1} → statement M
 rise-spec =
