@@ -28,7 +28,7 @@ use Rattle.light_bvh.specs.Build.{LightBVH, isPowered, nodesReserve, nodesWritt
 use Rattle.light_bvh.proofs.RowsLaws.{All, all-append, bounded-few}
 use Rattle.light_sampler.specs.Fork.{most}
 use Rattle.light_sampler.specs.Sampler.{sampleCheck, fromRoot, sampleWalk, sample, leafOf, fromLeaf, pmfWalk}
-use Rattle.light_sampler.specs.Walks.{Walked, Draw, ended, entering, afterCheck, nought, part, Rise, rise, risen, upward, ascend, onward, descend}
+use Rattle.light_sampler.specs.Walks.{Walked, Draw, ended, entering, afterCheck, byQuery, nought, part, Rise, rise, risen, upward, ascend, onward, descend}
 use Rattle.tree_laws.specs.AcceptedTree.{Parts, accepted-sound, accepted-leaves, accepted-read, labels-fit, places-fit, nodes-are}
 use Rattle.tree_laws.specs.PlaceLaws.{headEnd, nodeIn, nodeIn-leaf, nodeIn-fork, sound-records}
 use Rattle.light_runs.specs.AcceptedWalks.{check-draw, check-name, from-root}
@@ -70,7 +70,7 @@ module _ (xs ys : List ℕ) (q : Query) where
 
   -- a child of a fork: the fork's weights are those of its trees in either list
   module _ (at p : ℕ) (b : LightBounds) (l r : Tree) (sx : Stands xs at p (fork b l r)) (sy : Stands ys at p (fork b l r)) where
-    rise-same : (i : ℕ) → rise xs q i at ≡ rise ys q i at
+    rise-same : (i : ℕ) → rise xs (byQuery q) i at ≡ rise ys (byQuery q) i at
     unfolding rise _then_
     rise-same i = rw (sx .0 .0, sy .0 .0, weights-standing xs q at p b l r sx, weights-standing ys q at p b l r sy)
 
@@ -88,7 +88,7 @@ module _ (xs ys : List ℕ) (q : Query) where
           rise-same i,
         )
         (ap (entering i)
-        (risen-same at c (λ (j : ℕ) (d : Float). ascend xs q n j d) (λ (j : ℕ) (d : Float). ascend ys q m j d) (rise ys q i at)
+        (risen-same at c (λ (j : ℕ) (d : Float). ascend xs q n j d) (λ (j : ℕ) (d : Float). ascend ys q m j d) (rise ys (byQuery q) i at)
         (λ d. same n m d (omega arith) (omega arith))))
 
   -- any node of the tree, with an entry more for each leaf but one
