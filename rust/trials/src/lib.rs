@@ -3,6 +3,7 @@
 
 pub mod absent;
 pub mod blocks;
+pub mod both;
 pub mod cases;
 pub mod functions;
 pub mod lent;

@@ -9,7 +9,7 @@ use crate::proved;
 use crate::records::Record;
 use crate::reference::{self, marked, Branch, Branches, INVALID_INDEX, LOST_UNION};
 use crate::runs::{Tally, OWN};
-use crate::trees::{reserves, Build, Built, Case, INTERIOR, LEAF, NODE};
+use crate::trees::{depth, reserves, Build, Built, Case, INTERIOR, LEAF, NODE};
 
 /// Nodes, table and work.
 type Trays = [Lent<u32>; 3];
@@ -108,14 +108,6 @@ fn box_around<'a>(records: impl Iterator<Item = &'a &'a Record>) -> Option<[u32;
     let passes = |i: usize, word: u32, other: u32| if i < 3 { value(other) < value(word) } else { value(other) > value(word) };
     let boxes = records.map(|record| std::array::from_fn(|i| record[i]));
     boxes.reduce(|a, b: [u32; 6]| std::array::from_fn(|i| if passes(i, a[i], b[i]) { b[i] } else { a[i] }))
-}
-
-/// How many forks lie above the deepest node.
-pub fn depth(nodes: &[u32]) -> usize {
-    let nodes: &[[u32; NODE]] = nodes.as_chunks().0;
-    let mut depths: Vec<usize> = Vec::new();
-    nodes.iter().for_each(|node| depths.push(depths.get(node[2] as usize).map_or(0, |above| above + 1)));
-    depths.into_iter().max().unwrap_or(0)
 }
 
 /// Runs on a stack that the deepest tree fits on; a test's own of 2 MiB is too small for the reference.

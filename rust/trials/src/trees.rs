@@ -59,6 +59,14 @@ pub fn deepest(lamps: usize) -> Vec<Record> {
     [first].into_iter().chain((0..lamps).map(lamp)).take(lamps).collect()
 }
 
+/// How many forks lie above the deepest of a tree's nodes.
+pub fn depth(nodes: &[u32]) -> usize {
+    let nodes: &[[u32; NODE]] = nodes.as_chunks().0;
+    let mut depths: Vec<usize> = Vec::new();
+    nodes.iter().for_each(|node| depths.push(depths.get(node[2] as usize).map_or(0, |above| above + 1)));
+    depths.into_iter().max().unwrap_or(0)
+}
+
 fn sorted(a: Vector, b: Vector) -> [Vector; 2] {
     [[0, 1, 2].map(|i| a[i].min(b[i])), [0, 1, 2].map(|i| a[i].max(b[i]))]
 }
