@@ -142,7 +142,7 @@ fn pair() {
     drawn(&Tree { nodes: vec![0; 64], table: vec![] }, &query, HALF, Err(12));
 }
 
-/// Totals that are infinite, an importance of -0, normals too large and too small.
+/// Totals and weights that are infinite, a tiny share, an importance of -0, normals too large and too small.
 #[test]
 fn figures() {
     let (zero, huge) = ([0.0; 3], f32::from_bits(0x7f61_b1e6));
@@ -154,6 +154,15 @@ fn figures() {
     }
     named(&lamps([huge, 1.0]), &near, 1, Ok(0));
     named(&lamps([huge; 2]), &query_at([1.0, 0.0, 0.0], zero), 1, Ok(0));
+    // a weight that is infinite, at the right and at both sides
+    for (first, chance) in [(1.0, 0x3f80_0000), (huge, NAN)] {
+        let near_both = words(&[point(zero, first), point(zero, huge)]).tree();
+        drawn(&near_both, &near, HALF, Ok(Some((1, chance))));
+        named(&near_both, &near, 1, Ok(NAN));
+    }
+    // a right share that is tiny: 1 less the left one's is twice its own
+    drawn(&lamps([1.0, 6e-8]), &query_at([1.0, 0.0, 1.0], zero), 0x3f80_0000, Ok(Some((1, 0x3400_0000))));
+    named(&lamps([1.0, 6e-8]), &query_at([1.0, 0.0, 1.0], zero), 1, Ok(0x3380_d958));
     // trap 7
     for (x, refused) in [(0x7149_f2ca, true), (0x0da2_4260, false)] {
         let query = query_at([1.0, 0.0, 1.0], [f32::from_bits(x), 0.0, 0.0]);
