@@ -25,6 +25,7 @@ static void hold(bool holds, const char *what, int line)
 #define BYTES(a) (const uint8_t *)(a), sizeof(a)
 #define POINT 0, 0, 1
 #define NO_NORMAL 0, 0, 0
+#define NO_BOX 0, 0, 0, 0, 0, 0, 0
 
 static bool all_are(const uint32_t *words, size_t count, uint32_t word)
 {
@@ -80,6 +81,15 @@ static void lists(void)
     HOLDS(all_are(block, LIGHT_BLOCK_WORDS(1), 0) && block[LIGHT_BLOCK_WORDS(1)] != 0);
 }
 
+/* Packs a tree with k and the box of build's answer. */
+static uint64_t pack(const uint8_t *tree, size_t tree_len, const uint32_t *answer, uint8_t *out, size_t out_len)
+{
+    float box[6];
+    for (int i = 0; i < 6; i++)
+        box[i] = light_float(answer[1 + i]);
+    return light_pack(tree, tree_len, answer[0], answer[0] != 0, box[0], box[1], box[2], box[3], box[4], box[5], out, out_len);
+}
+
 static void trees(void)
 {
     const uint32_t one = light_word(1), two = light_word(2), minus_one = light_word(-1);
@@ -97,7 +107,15 @@ static void trees(void)
     HOLDS(light_nodes(k) == 3 && all_are(nodes + 16 * 3, 16 * 2, 0) && all_are(work, LIGHT_WORK_RESERVE(3), 0));
     HOLDS(nodes[0] == 0x80000001 && nodes[1] == 2 && nodes[2] == LIGHT_NO_INDEX);
     HOLDS(table[0] == 1 && table[1] == 2 && table[2] == LIGHT_NO_INDEX);
+
+    /* the answer is lent too: short it is refused, and left; a refusal behind the lengths zeroes it, not the word behind */
     HOLDS(light_build(2, WORDS(block), WORDS(nodes), WORDS(table), WORDS(work), WORDS(answer)) == LIGHT_RAGGED && answer[0] == 2);
+    for (size_t len = 0; len < LIGHT_ANSWER_WORDS; len++)
+        HOLDS(light_build(3, WORDS(block), WORDS(nodes), WORDS(table), WORDS(work), answer, len) == LIGHT_SHORT_TRAY && answer[0] == 2);
+    uint32_t bad[LIGHT_BLOCK_WORDS(1)] = {1}, longer[LIGHT_ANSWER_WORDS + 1] = {7, 7, 7, 7, 7, 7, 7, 7};
+    put_row(bad + 1, 0, 0, -1);
+    HOLDS(light_build(1, WORDS(bad), nodes + 16 * 3, 16 * 2, work, 1, work + 1, 2, WORDS(longer)) == LIGHT_OUT_OF_RANGE);
+    HOLDS(all_are(longer, LIGHT_ANSWER_WORDS, 0) && longer[LIGHT_ANSWER_WORDS] == 7);
 
     uint64_t draw = light_sample(tree, tree_len, 1, 0, 1, NO_NORMAL, 1);
     HOLDS(light_is_drawn(draw) && !light_is_none(draw) && light_refusal(draw) == 0);
@@ -114,16 +132,15 @@ static void trees(void)
 
     uint32_t packed[LIGHT_PACKED_WORDS(3) + 1] = {7, [LIGHT_PACKED_WORDS(3)] = 7};
     const uint32_t lamp_1[] = {0x0000ffff, 0xffff0000, 0, 0x80008000, 0x3f800000, 0x1fff8000, 0x80000001, 0};
-    uint64_t answered = light_pack(tree, tree_len, k, k != 0, answer + 1, 6, (uint8_t *)packed, LIGHT_PACKED_BYTES(3) - 1);
+    uint64_t answered = pack(tree, tree_len, answer, (uint8_t *)packed, LIGHT_PACKED_BYTES(3) - 1);
     HOLDS(light_pack_refusal(answered) == LIGHT_SHORT_TRAY && light_pack_words(answered) == 0 && packed[0] == 7);
-    answered = light_pack(tree, tree_len, k, k != 0, answer + 1, 6, (uint8_t *)packed, sizeof packed);
+    answered = pack(tree, tree_len, answer, (uint8_t *)packed, sizeof packed);
     HOLDS(light_pack_words(answered) == LIGHT_PACKED_WORDS(3) && light_pack_refusal(answered) == 0 && !light_pack_is_none(answered));
     HOLDS(memcmp(packed, box, 12) == 0 && packed[3] == 0 && memcmp(packed + 4, box + 3, 12) == 0 && packed[7] == 0);
     HOLDS(memcmp(packed + 8 + 8 * 2, lamp_1, sizeof lamp_1) == 0 && packed[LIGHT_PACKED_WORDS(3)] == 7);
-    answered = light_pack(tree, 0, 0, 0, answer + 1, 6, (uint8_t *)packed, sizeof packed);
+    answered = light_pack(tree, 0, 0, NO_BOX, (uint8_t *)packed, sizeof packed);
     HOLDS(light_pack_is_none(answered) && light_pack_words(answered) == 0 && light_pack_refusal(answered) == 0);
-    HOLDS(light_pack_refusal(light_pack(tree, 0, 0, 0, answer + 1, 5, NULL, 0)) == LIGHT_RAGGED);
-    HOLDS(light_pack_refusal(light_pack(tree, tree_len, 0, 0, answer + 1, 6, (uint8_t *)packed, sizeof packed)) == LIGHT_BROKEN_TREE);
+    HOLDS(light_pack_refusal(light_pack(tree, tree_len, k, NO_BOX, (uint8_t *)packed, sizeof packed)) == LIGHT_BROKEN_TREE);
     HOLDS(all_are(packed, LIGHT_PACKED_WORDS(3), 0) && packed[LIGHT_PACKED_WORDS(3)] == 7);
 }
 
@@ -198,15 +215,16 @@ static void empty_slices(void *any)
 {
     uint32_t *words = (uint32_t *)any;
     uint8_t *bytes = (uint8_t *)any;
-    const uint32_t none = 0, box[6] = {0};
+    const uint32_t none = 0;
+    uint32_t answer[LIGHT_ANSWER_WORDS];
     HOLDS(light_bounds_block(words, 0, words, 0) == LIGHT_RAGGED);
     HOLDS(light_bounds_block(&none, 1, words, 0) == LIGHT_SHORT_TRAY);
     HOLDS(light_build(0, words, 0, words, 0, words, 0, words, 0, words, 0) == LIGHT_RAGGED);
-    HOLDS(light_build(0, &none, 1, words, 0, words, 0, words, 0, words, 0) == 0);
+    HOLDS(light_build(0, &none, 1, words, 0, words, 0, words, 0, words, 0) == LIGHT_SHORT_TRAY);
+    HOLDS(light_build(0, &none, 1, words, 0, words, 0, words, 0, WORDS(answer)) == 0 && all_are(WORDS(answer), 0));
     HOLDS(light_is_none(light_sample(bytes, 0, POINT, NO_NORMAL, 0.5f)));
     HOLDS(light_pmf(bytes, 0, bytes, 0, POINT, NO_NORMAL, 0) == 0);
-    HOLDS(light_pack_refusal(light_pack(bytes, 0, 0, 0, words, 0, bytes, 0)) == LIGHT_RAGGED);
-    HOLDS(light_pack_is_none(light_pack(bytes, 0, 0, 0, box, 6, bytes, 0)));
+    HOLDS(light_pack_is_none(light_pack(bytes, 0, 0, NO_BOX, bytes, 0)));
     HOLDS(light_alias_table(words, 0, words, 0, words, 0) == 0);
 }
 

@@ -30,7 +30,6 @@
  *   - an accepted call writes what it has to say, and zeroes what it does not use, work included;
  *   - refusals 1 to 4 change nothing;
  *   - later refusals zero the whole reserve.
- * `answer` of light_build, which is not such a slice, is told there.
  *
  * A refusal carries its number alone (enum light_refusals). Of several that hold the one given is
  * the first of 2, 1, 4, 3; the others come behind these, in the order of the work.
@@ -268,12 +267,11 @@ uint32_t light_bounds_block(const uint32_t *list, size_t list_len, uint32_t *blo
  *
  * Uses `work`, words, reserve light_work_reserve(m), and zeroes it.
  *
- * Leaves `nodes`, `table` and `work` as they were on refusals 1 to 4; zeroes the three reserves on
- * later ones.
+ * Writes `answer`, words, reserve LIGHT_ANSWER_WORDS: k, then min 3 and max 3 of the box about the
+ * powered lamps, floats' bits; zeros where k is 0.
  *
- * Writes `answer`, words, LIGHT_ANSWER_WORDS of them, where the tree is built: k, then min 3 and
- * max 3 of the box about the powered lamps, floats' bits; seven zeros where k is 0. Leaves it as it
- * was on every refusal; and where it is shorter than that, which is no refusal: k is then not told.
+ * Leaves `nodes`, `table`, `work` and `answer` as they were on refusals 1 to 4; zeroes the four
+ * reserves on later ones.
  */
 uint32_t light_build(size_t lights,
                      const uint32_t *block, size_t block_len,
@@ -380,13 +378,13 @@ static inline uint32_t light_pmf_refusal(uint64_t answer)
  * Packs a tree for a graphics card.
  *
  * Takes `nodes`, BYTES, as light_sample does, n nodes; `k` and the box as light_build answered them:
- * answer[0]; `present`, 0 where there is no box (k is 0), else any other number; and `all`, WORDS,
- * six of them, answer + 1, which must be there even where `present` is 0 and are not read then.
+ * answer[0]; `present`, 0 where there is no box (k is 0), else any other number; and its corners,
+ * answer[1] to answer[6] as floats (light_float), which do not count where `present` is 0.
  *
  * Answers how many words were packed, light_packed_words(n) (light_pack_words); 2^32 where there is
  * no tree: no nodes, k 0 and no box (light_pack_is_none); or 2^33 and the refusal's number
- * (light_pack_refusal): 1 where `all` has less than six words; 2, 1, 3; 12 where nodes, k and box do
- * not agree; 5 or 6 of the box; then by the first node that is refused 12, 5 to 8, 13 or 12.
+ * (light_pack_refusal): 2, 1, 3; 12 where nodes, k and box do not agree; 5 or 6 of the box; then by
+ * the first node that is refused 12, 5 to 8, 13 or 12.
  *
  * Writes `out`, BYTES, reserve light_packed_bytes(n): words, the lowest byte first. Eight of header,
  * box min 3, 0, box max 3, 0; then eight a node, the first of a pair in the lower bits:
@@ -403,7 +401,9 @@ static inline uint32_t light_pmf_refusal(uint64_t answer)
  * Leaves `out` as it was on refusals 1 to 4; zeroes the reserve on later ones.
  */
 uint64_t light_pack(const uint8_t *nodes, size_t nodes_len,
-                    size_t k, uint32_t present, const uint32_t *all, size_t all_len,
+                    size_t k, uint32_t present,
+                    float min_x, float min_y, float min_z,
+                    float max_x, float max_y, float max_z,
                     uint8_t *out, size_t out_len);
 
 /* How many words were packed, 0 where there is no tree or it is refused. */

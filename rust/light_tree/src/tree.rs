@@ -316,7 +316,7 @@ impl LightTree {
     pub fn pack(&self) -> Result<Option<PackedLightBVH>, Refusal> {
         let nodes = self.len();
         let mut rows = vec![[0; LIGHT_BVH_NODE_WORDS]; if nodes == 0 { 0 } else { 1 + nodes }];
-        let packed = sys::pack(&self.nodes, self.k, self.all_bounds.map(Bounds3::to_words), &mut rows)?;
+        let packed = sys::pack(&self.nodes, self.k, self.all_bounds, &mut rows)?;
         Ok(packed.map(|_| {
             let header_words = rows.remove(0);
             PackedLightBVH { header_words, node_words: rows, handle_to_leaf: self.table.clone() }

@@ -4,45 +4,62 @@
 use crate::packing::{Corners, Packed};
 use crate::proved;
 use crate::records::{Query, Record};
-use crate::trees::Built;
+use crate::trees::Trays;
 use crate::walks::{Chance, Drawn, Tree};
 #[cfg(reference)]
 use crate::{pack_oracle, reference, walk_oracle::Decoded};
+#[cfg(reference)]
+use std::fmt::Debug;
 
-/// The proved answer, with what is written to the slices lent, which the oracle must give and write to copies of them.
+/// The proved answer and what it writes to the slices lent; the oracle must give and write the same to copies of them.
 macro_rules! alike {
-    ($proved:path, $oracle:path, ($($taken:expr),*), ($($lent:ident),*)) => {{
+    ($lent:expr, $proved:expr, $oracle:expr) => {{
         #[cfg(reference)]
-        let expected = {
-            $(let mut $lent = $lent.to_vec();)*
-            ($oracle($($taken,)* $(&mut $lent),*), $($lent),*)
-        };
-        let answer = $proved($($taken,)* $($lent),*);
-        #[cfg(reference)]
-        assert!((answer, $($lent.to_vec()),*) == expected, "proved: {answer:08x?}; oracle: {:08x?}", expected.0);
+        let answer = held($lent, $proved, $oracle);
+        #[cfg(not(reference))]
+        let answer = $proved($lent);
         answer
     }};
 }
 
+#[cfg(reference)]
+fn held<T: Clone + PartialEq, A: PartialEq + Debug, const N: usize>(
+    mut lent: [&mut [T]; N],
+    proved: impl FnOnce([&mut [T]; N]) -> A,
+    oracle: impl FnOnce([&mut [T]; N]) -> A,
+) -> A {
+    let mut copies = lent.each_ref().map(|slice| slice.to_vec());
+    let expected = oracle(copies.each_mut().map(Vec::as_mut_slice));
+    let answer = proved(lent.each_mut().map(|slice| &mut **slice));
+    let other = lent.iter().zip(&copies).position(|(slice, copy)| **slice != copy[..]);
+    assert!(
+        answer == expected && other.is_none(),
+        "proved {answer:08x?}, oracle {expected:08x?}, other words in slice {other:?}"
+    );
+    answer
+}
+
 /// A `Build`.
-pub fn build_light_bvh(
-    light_count: u32,
-    block: &[u32],
-    nodes: &mut [u32],
-    table: &mut [u32],
-    work: &mut [u32],
-) -> Result<Built, u32> {
-    alike!(proved::tree_build_light_bvh, reference::build_light_bvh, (light_count, block), (nodes, table, work))
+pub fn build_light_bvh(light_count: u32, block: &[u32], trays: Trays) -> Result<(), u32> {
+    alike!(trays, |trays: Trays| proved::tree_build_light_bvh(light_count, block, trays), |trays| reference::build_light_bvh(
+        light_count,
+        block,
+        trays
+    ))
 }
 
 /// A `Pack`.
 pub fn pack_light_bvh(nodes: &[u8], k: usize, all: Option<Corners>, out: &mut [u8]) -> Packed {
-    alike!(proved::packed_pack_light_bvh, pack_oracle::pack_light_bvh, (nodes, k, all), (out))
+    alike!([out], |[out]: [&mut [u8]; 1]| proved::packed_pack_light_bvh(nodes, k, all, out), |[out]| pack_oracle::pack_light_bvh(
+        nodes, k, all, out
+    ))
 }
 
 /// The records of a lamp list.
 pub fn build_light_bounds(list: &[u32], block: &mut [u32]) -> Result<(), u32> {
-    alike!(proved::lamps_build_light_bounds, reference::build_light_bounds, (list), (block))
+    alike!([block], |[block]: [&mut [u32]; 1]| proved::lamps_build_light_bounds(list, block), |[block]| {
+        reference::build_light_bounds(list, block)
+    })
 }
 
 /// A `Weigh`.

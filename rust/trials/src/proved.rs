@@ -4,6 +4,7 @@
 use crate::packing::{Corners, Packed};
 use crate::records::Query;
 use crate::stored::PATTERN;
+use crate::trees::Trays;
 use crate::walks::{Chance, Drawn};
 
 // SAFETY: nothing checks these lines against the Rattle source. There each function is proved for every input, so those on
@@ -119,8 +120,12 @@ unsafe extern "C" {
         len: usize,
         k: usize,
         present: u32,
-        all: *const u32,
-        all_len: usize,
+        min_x: f32,
+        min_y: f32,
+        min_z: f32,
+        max_x: f32,
+        max_y: f32,
+        max_z: f32,
         out: *mut u8,
         out_len: usize,
     ) -> u64;
@@ -203,32 +208,12 @@ fn answer(number: u32) -> Result<(), u32> {
     }
 }
 
-/// k and the powered lamps' box, or the refusal's number.
-pub fn tree_build_light_bvh(
-    light_count: u32,
-    block: &[u32],
-    nodes: &mut [u32],
-    table: &mut [u32],
-    work: &mut [u32],
-) -> Result<(u32, Option<[u32; 6]>), u32> {
-    let mut summary = [0; 7];
-    let number = unsafe {
-        build_light_bvh(
-            light_count as usize,
-            block.as_ptr(),
-            block.len(),
-            nodes.as_mut_ptr(),
-            nodes.len(),
-            table.as_mut_ptr(),
-            table.len(),
-            work.as_mut_ptr(),
-            work.len(),
-            summary.as_mut_ptr(),
-            summary.len(),
-        )
-    };
-    let [k, around @ ..] = summary;
-    answer(number).map(|()| (k, (k > 0).then_some(around)))
+/// The tree of a block, written to the front of each tray.
+pub fn tree_build_light_bvh(light_count: u32, block: &[u32], trays: Trays) -> Result<(), u32> {
+    let (lights, len) = (light_count as usize, block.len());
+    let lens = trays.each_ref().map(|tray| tray.len());
+    let [a, b, c, d] = trays.map(|tray| tray.as_mut_ptr());
+    answer(unsafe { build_light_bvh(lights, block.as_ptr(), len, a, lens[0], b, lens[1], c, lens[2], d, lens[3]) })
 }
 
 /// A draw over a tree's nodes as bytes.
@@ -255,12 +240,12 @@ pub fn sampler_pmf(nodes: &[u8], table: &[u8], query: &Query, handle: u32) -> Ch
     }
 }
 
-/// The packed words of a tree's nodes as bytes, written to the front of `out`: how many they are. The box is six words, and there where
-/// `present` is not 0; less than six words are refusal 1.
-pub fn packed_by_words(nodes: &[u8], k: usize, present: u32, all: &[u32], out: &mut [u8]) -> Packed {
-    let (nodes_len, out_len) = (nodes.len(), out.len());
-    let answer =
-        unsafe { pack_light_bvh(nodes.as_ptr(), nodes_len, k, present, all.as_ptr(), all.len(), out.as_mut_ptr(), out_len) };
+/// The packed words of a tree's nodes as bytes, written to the front of `out`: how many they are. The box is there where `present` is
+/// not 0.
+pub fn packed_by_value(nodes: &[u8], k: usize, present: u32, all: Corners, out: &mut [u8]) -> Packed {
+    let (len, out_len) = (nodes.len(), out.len());
+    let [a, b, c, d, e, f] = all.map(f32::from_bits);
+    let answer = unsafe { pack_light_bvh(nodes.as_ptr(), len, k, present, a, b, c, d, e, f, out.as_mut_ptr(), out_len) };
     let (high, low) = ((answer >> 32) as u32, answer as u32);
     match high {
         0 => Ok(Some(low as usize)),
@@ -270,7 +255,7 @@ pub fn packed_by_words(nodes: &[u8], k: usize, present: u32, all: &[u32], out: &
     }
 }
 
-/// The same of a box or its absence, where its words, which make a box too, are not to be read.
+/// The same of a box or its absence, where the corners, which make a box too, are not to be read.
 pub fn packed_pack_light_bvh(nodes: &[u8], k: usize, all: Option<Corners>, out: &mut [u8]) -> Packed {
-    packed_by_words(nodes, k, all.is_some().into(), &all.unwrap_or([PATTERN; 6]), out)
+    packed_by_value(nodes, k, all.is_some().into(), all.unwrap_or([PATTERN; 6]), out)
 }

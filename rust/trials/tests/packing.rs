@@ -3,7 +3,7 @@
 
 use coltoctober::both::{build_light_bvh, pack_light_bvh};
 use coltoctober::packing::{reserve, Case, Corners, Packed};
-use coltoctober::proved::packed_by_words;
+use coltoctober::proved::packed_by_value;
 use coltoctober::trees::{all_about, INTERIOR};
 use coltoctober::walks::{words, Words, MOST_NODES, NODE_BYTES};
 
@@ -99,28 +99,34 @@ fn stored_answers() {
     coltoctober::stored::check::<coltoctober::stored_packed::Stored>(68);
 }
 
-/// The C function's own: how the box is handed over.
+/// The C function's own: how the box is handed over. Any mark but 0 says that it is there; without it the corners are not read, and it
+/// has no refusal before that of lengths.
 #[test]
-fn box_by_words() {
-    let pair = Tree::pair();
-    let Case { nodes, k, all, room } = pair.case();
+fn box_by_value() {
+    let Case { nodes, k, all, room } = Tree::pair().case();
     let all = all.unwrap();
-    let packed = |present: u32, all: &[u32], k: usize, nodes: &[u8]| {
+    let packed = |present: u32, all: Corners, k: usize, nodes: &[u8]| {
         let mut out = vec![0xa5; room];
-        (packed_by_words(nodes, k, present, all, &mut out), out)
+        (packed_by_value(nodes, k, present, all, &mut out), out)
     };
-    let whole = packed(1, &all, k, &nodes);
+    let whole = packed(1, all, k, &nodes);
     assert_eq!(whole.0, Ok(Some(32)));
-    for present in [2, 0x100, 1 << 31, u32::MAX] {
-        assert_eq!(packed(present, &all, k, &nodes), whole);
-        assert_eq!(packed(present, &[&all[..], &[NAN]].concat(), k, &nodes), whole);
+    [2, 0x100, 1 << 31, u32::MAX].into_iter().for_each(|present| assert_eq!(packed(present, all, k, &nodes), whole));
+    for corners in [[NAN; 6], [0; 6], all] {
+        assert_eq!(packed(0, corners, 0, &[]), (Ok(None), vec![0xa5; room]));
+        assert_eq!(packed(0, corners, k, &nodes), (Err(12), vec![0; room]));
+        for present in [0, 1] {
+            assert_eq!(packed(present, corners, k, &nodes[1..]), (Err(1), vec![0xa5; room]));
+            assert_eq!(packed(present, corners, k, &vec![0; NODE_BYTES * (MOST_NODES + 1)]), (Err(2), vec![0xa5; room]));
+        }
     }
-    for (len, present) in (0..6).flat_map(|len| [0, 1].map(|present| (len, present))) {
-        assert_eq!(packed(present, &all[..len], k, &nodes), (Err(1), vec![0xa5; room]));
-        assert_eq!(packed(present, &all[..len], k, &vec![0; NODE_BYTES * (MOST_NODES + 1)]), (Err(1), vec![0xa5; room]));
+    // each corner by its own place
+    for place in 0..6 {
+        let mut corners = all;
+        corners[place] = if place < 3 { -1f32 } else { 7.0 }.to_bits();
+        let (answer, out) = packed(1, corners, k, &nodes);
+        assert_eq!((answer, words(&out)[..8].to_vec()), (Ok(Some(32)), [&corners[..3], &[0], &corners[3..], &[0]].concat()));
     }
-    assert_eq!(packed(0, &[NAN; 6], 0, &[]), (Ok(None), vec![0xa5; room]));
-    assert_eq!(packed(0, &all, k, &nodes), (Err(12), vec![0; room]));
 }
 
 /// The answer; what is refused later than by lengths leaves zeros in the reserve.

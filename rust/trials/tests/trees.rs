@@ -9,7 +9,7 @@ use coltoctober::proved::tree_build_light_bvh;
 use coltoctober::records::{query_at, Record};
 use coltoctober::rooms::Room;
 use coltoctober::stored::PATTERN;
-use coltoctober::trees::{all_about, deepest, depth, reserves, Built, INTERIOR, LEAF, NODE};
+use coltoctober::trees::{all_about, deepest, depth, lent, reserves, Built, ANSWER, INTERIOR, LEAF, NODE};
 use coltoctober::walks::{Chance, Drawn, Words};
 
 const NONE: u32 = u32::MAX;
@@ -39,20 +39,20 @@ fn with(record: Record, place: usize, figure: f32) -> Record {
     record
 }
 
-/// The answer, and nodes, table and work after the call.
-fn built(light_count: u32, block: &[u32], rooms: [usize; 3]) -> (Result<Built, u32>, [Vec<u32>; 3]) {
-    let mut lent = rooms.map(|room| vec![PATTERN; room]);
-    let [nodes, table, work] = &mut lent;
-    let answer = build_light_bvh(light_count, block, nodes, table, work);
-    (answer, lent)
+/// The refusal's number, 0 for none, and nodes, table, work and answer after the call.
+fn built(light_count: u32, block: &[u32], rooms: [usize; 4]) -> (u32, [Vec<u32>; 4]) {
+    let mut trays = rooms.map(|room| vec![PATTERN; room]);
+    let number = build_light_bvh(light_count, block, lent(&mut trays)).err().unwrap_or(0);
+    (number, trays)
 }
 
 /// A refusal; the words lent are left, or zeroed with those behind the reserve left.
-fn refused(light_count: u32, block: &[u32], rooms: [usize; 3], number: u32) {
-    let (answer, lent) = built(light_count, block, rooms);
-    assert_eq!(answer, Err(number), "{:08x?}, rooms {rooms:?}", &block[..block.len().min(40)]);
-    let zeros = if number < 5 { [0; 3] } else { reserves(light_count as usize) };
-    for (words, zeros) in lent.iter().zip(zeros) {
+#[track_caller]
+fn refused(light_count: u32, block: &[u32], rooms: [usize; 4], number: u32) {
+    let (answer, trays) = built(light_count, block, rooms);
+    assert_eq!(answer, number, "{:08x?}, rooms {rooms:?}", &block[..block.len().min(40)]);
+    let zeros = if number < 5 { [0; 4] } else { reserves(light_count as usize) };
+    for (words, zeros) in trays.iter().zip(zeros) {
         assert!(words.iter().enumerate().all(|(i, word)| *word == if i < zeros { 0 } else { PATTERN }), "{number}: {words:08x?}");
     }
 }
@@ -60,10 +60,11 @@ fn refused(light_count: u32, block: &[u32], rooms: [usize; 3], number: u32) {
 /// The answer, the nodes that are used and the table, given in slices one word longer than they need be.
 fn tree(records: &[Record]) -> (Built, Vec<[u32; NODE]>, Vec<u32>) {
     let reserves = reserves(records.len());
-    let (answer, mut lent) = built(records.len() as u32, &block_of(records), reserves.map(|reserve| reserve + 1));
-    let answer = answer.unwrap_or_else(|number| panic!("refused {number}"));
-    lent.iter_mut().for_each(|words| assert_eq!(words.pop(), Some(PATTERN)));
-    let [nodes, table, work] = lent;
+    let (number, mut trays) = built(records.len() as u32, &block_of(records), reserves.map(|reserve| reserve + 1));
+    assert_eq!(number, 0);
+    trays.iter_mut().for_each(|words| assert_eq!(words.pop(), Some(PATTERN)));
+    let [nodes, table, work, answer] = trays;
+    let answer = coltoctober::trees::built(&answer);
     let (used, unused) = nodes.split_at(NODE * (2 * answer.0 as usize).saturating_sub(1));
     assert!(unused.iter().chain(&work).all(|word| *word == 0));
     (answer, used.as_chunks().0.to_vec(), table)
@@ -175,19 +176,20 @@ fn order_of_refusals() {
         block
     };
     let (nan, handle, side) = (f32::NAN.to_bits(), (15, 7), (14, 2));
-    refused(3, &change(&[(0, 4097), handle, side]), [0; 3], 2);
-    refused(4097, &[4097], [0; 3], 2);
-    refused(0, &vec![0; MOST_WORDS + 1], [0; 3], 2);
-    refused(0, &vec![0; MOST_WORDS], [0; 3], 1);
-    refused(0, &[], [0; 3], 1);
-    [2, 4, 5000, u32::MAX].into_iter().for_each(|count| refused(count, &change(&[handle]), [0; 3], 1));
-    refused(3, &change(&[handle, side]), [0; 3], 1);
+    refused(3, &change(&[(0, 4097), handle, side]), [0; 4], 2);
+    refused(4097, &[4097], [0; 4], 2);
+    refused(0, &vec![0; MOST_WORDS + 1], [0; 4], 2);
+    refused(0, &vec![0; MOST_WORDS], [0; 4], 1);
+    refused(0, &[], [0; 4], 1);
+    [2, 4, 5000, u32::MAX].into_iter().for_each(|count| refused(count, &change(&[handle]), [0; 4], 1));
+    refused(3, &change(&[handle, side]), [0; 4], 1);
     (0..good.len()).for_each(|length| refused(3, &good[..length], enough, 1));
     refused(3, &[&good[..], &[0]].concat(), enough, 1);
-    refused(3, &change(&[handle, (2, nan)]), [0; 3], 4);
-    for short in 0..3 {
+    refused(3, &change(&[handle, (2, nan)]), [0; 4], 4);
+    for short in 0..4 {
         let rooms = |room: usize| std::array::from_fn(|i| if i == short { room } else { enough[i] });
         (0..enough[short]).for_each(|room| refused(3, &change(&[(2, nan)]), rooms(room), 3));
+        refused(3, &change(&[(2, nan)]), rooms(enough[short] + 1), 5);
     }
     // the first record that fails, whatever the later ones fail for
     let behind = enough.map(|room| room + 2);
@@ -202,6 +204,47 @@ fn order_of_refusals() {
     refused(4097, &block_of(&most), reserves(4097), 2);
     most.pop();
     assert_eq!(tree(&most).0 .0, 4096);
+}
+
+/// The answer's own: of every length from 0 to 8, what is written of it, left and zeroed, by trees, without lamps or power, and refused.
+#[test]
+fn answers() {
+    let [first, second] = the_pair();
+    let answer = |block: &[u32], room: usize| {
+        let [nodes, table, work, _] = reserves(block[0] as usize);
+        let (number, [nodes, .., answer]) = built(block[0], block, [nodes, table, work, room]);
+        (number, answer, nodes.iter().all(|word| *word == PATTERN))
+    };
+    let dark = lamp([9.0; 3], 0.0);
+    let pair = [2, 0, 0, 0, 2f32.to_bits(), 0, 0];
+    let blocks = [(vec![first, second], pair), (vec![], [0; 7]), (vec![dark, dark], [0; 7])];
+    for (block, words) in blocks.map(|(records, words)| (block_of(&records), words)) {
+        for room in 0..=8 {
+            let expected = match room < ANSWER {
+                true => (3, vec![PATTERN; room], true),
+                false => (0, [&words[..], &vec![PATTERN; room - ANSWER]].concat(), words[0] == 0 && block[0] == 0),
+            };
+            assert_eq!(answer(&block, room), expected, "{room} words");
+        }
+    }
+    // 1, 4 and 2 leave it, and come before a short one; 5 to 8 and 10 zero it, behind a short one
+    let mut block = block_of(&[first, second]);
+    let changes = [(0, 1, 1), (14, 2, 1), (0, 4097, 2), (15, 7, 4)];
+    for (place, word, number) in changes {
+        let before = std::mem::replace(&mut block[place], word);
+        (0..=8).for_each(|room| refused(2, &block, [46, 2, 4, room], number));
+        block[place] = before;
+    }
+    let huge = lost().map(|lamps| (block_of(&lamps), 10));
+    let bad = [(2, f32::NAN, 5), (2, 9.0, 6), (10, 0.0, 7), (11, -1.0, 8)].map(|(place, figure, number)| {
+        let mut block = block.clone();
+        block[place] = f32::to_bits(figure);
+        (block, number)
+    });
+    for (block, number) in huge.into_iter().chain(bad) {
+        let [nodes, table, work, _] = reserves(block[0] as usize);
+        (0..=8).for_each(|room| refused(block[0], &block, [nodes, table, work, room], if room < ANSWER { 3 } else { number }));
+    }
 }
 
 /// Two huge lamps in one bucket, in one half, and on either side of the cut that wins but together with a third lamp on one of another.
@@ -238,8 +281,8 @@ fn stack() {
     for (lamps, stack) in [(MOST_LAMPS, 2 << 20), (2489, 1 << 20)] {
         let block = block_of(&deepest(lamps));
         let build = move || {
-            let [mut nodes, mut table, mut work] = reserves(lamps).map(|reserve| vec![0; reserve]);
-            tree_build_light_bvh(lamps as u32, &block, &mut nodes, &mut table, &mut work).map(|(k, _)| (k, depth(&nodes)))
+            let mut trays = reserves(lamps).map(|reserve| vec![0; reserve]);
+            tree_build_light_bvh(lamps as u32, &block, lent(&mut trays)).map(|()| (trays[3][0], depth(&trays[0])))
         };
         let deep = std::thread::Builder::new().stack_size(stack).spawn(build).unwrap().join().unwrap();
         assert_eq!(deep, Ok((lamps as u32, lamps - 1)));
@@ -294,7 +337,7 @@ coltoctober::differential! {
         let tally = coltoctober::tree_runs::trees(0, 40_000);
         println!("trees: {tally}");
         let errors = ["error 5: Light", "error 6: Light", "error 7: Light bounds", "error 8: Light bounds", "error 10"];
-        let branches = ["cones", "tree", "split", "bucket", "cost", "refused", "order", "room"];
+        let branches = ["cones", "tree", "split", "bucket", "cost", "refused", "order", "room", "answer"];
         tally.check(&[0, 1, 2, 3, 4, 5, 6, 7, 8, 10], &[&errors[..], &branches].concat());
         [9, 11, 12, 13].into_iter().for_each(|number| assert_eq!(tally.answers[number], 0, "{number}"));
         let unmet = tally.labels.iter().filter(|(label, _)| label.starts_with("never") || label.starts_with("union"));

@@ -44,8 +44,12 @@ unsafe extern "C" {
         len: usize,
         k: usize,
         present: u32,
-        all: *const u32,
-        all_len: usize,
+        min_x: f32,
+        min_y: f32,
+        min_z: f32,
+        max_x: f32,
+        max_y: f32,
+        max_z: f32,
         out: *mut u8,
         out_len: usize,
     ) -> u64;
@@ -214,7 +218,7 @@ impl Zones {
         let answer = unsafe {
             light_build(lights, from, len, lent[0].0, lent[0].1, lent[1].0, lent[1].1, lent[2].0, lent[2].1, lent[3].0, lent[3].1)
         };
-        if answer != 0 || lent[3].1 < 7 {
+        if answer != 0 {
             return (answer, None);
         }
         let words = |i: usize, n: usize| (0..n).map(|j| unsafe { *lent[i].0.add(j) }).collect::<Vec<u32>>();
@@ -322,15 +326,15 @@ fn main() {
                 let (from, len) = zones.inputs[0].lend(&mut random, &nodes);
                 let k = if random.below(8) == 0 { random.below(3) as usize } else { tree.k };
                 let present = (random.below(8) > 0) as u32;
-                let cut = if random.below(32) == 0 { random.below(7) as usize } else { 6 };
-                let (all, all_len) = zones.inputs[1].lend_words(&mut random, &tree.corners[..cut]);
+                let odd = random.below(32) == 0;
+                let [a, b, c, d, e, f] = tree.corners.map(|word| f32::from_bits(if odd { float(&mut random) } else { word }));
                 let reserve = if nodes.len() < 64 { 0 } else { 32 + 32 * (nodes.len() / 64) };
                 let size = match random.below(16) {
                     0 => random.below(reserve as u64 + 1) as usize,
                     _ => reserve + random.below(6) as usize,
                 };
                 let (out, room) = zones.outputs[0].lend(&mut random, &vec![7; size.min(64 * 300)]);
-                let answer = unsafe { light_pack(from, len, k, present, all, all_len, out, room) };
+                let answer = unsafe { light_pack(from, len, k, present, a, b, c, d, e, f, out, room) };
                 let said = match answer {
                     0x1_0000_0000 => "none".into(),
                     0x2_0000_0000.. => format!("refused {}", answer - 0x2_0000_0000),
