@@ -7,6 +7,7 @@ pub mod both;
 pub mod cases;
 pub mod functions;
 pub mod lent;
+pub mod light_c;
 pub mod light_runs;
 pub mod lists;
 #[cfg(reference)]

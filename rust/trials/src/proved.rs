@@ -1,6 +1,7 @@
-//! The proved functions: the one place that declares what the archives export, `light_c` for whoever links it and `parts_c` for the
-//! tests alone.
+//! The proved functions behind safe names: those of `light_c`, which whoever links it calls, and those of `parts_c`, for the tests alone,
+//! which are declared here.
 
+use crate::light_c::{light_alias_table, light_bounds_block, light_build, light_pack, light_pmf, light_sample};
 use crate::packing::{Corners, Packed};
 use crate::records::Query;
 use crate::stored::PATTERN;
@@ -71,64 +72,8 @@ unsafe extern "C" {
     #[link_name = "bounds_importance"]
     fn importance(record: *const u32, len: usize, query: *const u32, query_len: usize) -> u64;
 
-    #[link_name = "light_bounds_block"]
-    fn build_light_bounds(list: *const u32, len: usize, block: *mut u32, block_len: usize) -> u32;
     #[link_name = "lamps_check_block"]
     fn check_block(block: *const u32, len: usize) -> u32;
-    #[link_name = "light_alias_table"]
-    fn build_power_alias_table(
-        weights: *const u32,
-        len: usize,
-        bins: *mut u32,
-        bins_len: usize,
-        work: *mut u32,
-        work_len: usize,
-    ) -> u32;
-    #[link_name = "light_build"]
-    fn build_light_bvh(
-        lights: usize,
-        block: *const u32,
-        len: usize,
-        nodes: *mut u32,
-        nodes_len: usize,
-        table: *mut u32,
-        table_len: usize,
-        work: *mut u32,
-        work_len: usize,
-        answer: *mut u32,
-        answer_len: usize,
-    ) -> u32;
-    #[link_name = "light_sample"]
-    fn sample(nodes: *const u8, len: usize, px: f32, py: f32, pz: f32, nx: f32, ny: f32, nz: f32, u: f32) -> u64;
-    #[link_name = "light_pmf"]
-    fn pmf(
-        nodes: *const u8,
-        len: usize,
-        table: *const u8,
-        table_len: usize,
-        px: f32,
-        py: f32,
-        pz: f32,
-        nx: f32,
-        ny: f32,
-        nz: f32,
-        handle: u32,
-    ) -> u64;
-    #[link_name = "light_pack"]
-    fn pack_light_bvh(
-        nodes: *const u8,
-        len: usize,
-        k: usize,
-        present: u32,
-        min_x: f32,
-        min_y: f32,
-        min_z: f32,
-        max_x: f32,
-        max_y: f32,
-        max_z: f32,
-        out: *mut u8,
-        out_len: usize,
-    ) -> u64;
 }
 
 /// The word at a place, 0 past the last whole word.
@@ -183,7 +128,7 @@ pub fn bounds_importance(record: &[u32], query: &[u32]) -> Result<u32, u32> {
 
 /// The records of a lamp list, written to the front of `block`.
 pub fn lamps_build_light_bounds(list: &[u32], block: &mut [u32]) -> Result<(), u32> {
-    answer(unsafe { build_light_bounds(list.as_ptr(), list.len(), block.as_mut_ptr(), block.len()) })
+    answer(unsafe { light_bounds_block(list.as_ptr(), list.len(), block.as_mut_ptr(), block.len()) })
 }
 
 /// The check of a bounds block's layout.
@@ -195,7 +140,7 @@ pub fn lamps_check_block(block: &[u32]) -> Result<(), u32> {
 pub fn alias_build_power_alias_table(weights: &[u32], bins: &mut [u32], work: &mut [u32]) -> Result<(), u32> {
     let (bins_len, work_len) = (bins.len(), work.len());
     answer(unsafe {
-        build_power_alias_table(weights.as_ptr(), weights.len(), bins.as_mut_ptr(), bins_len, work.as_mut_ptr(), work_len)
+        light_alias_table(weights.as_ptr(), weights.len(), bins.as_mut_ptr(), bins_len, work.as_mut_ptr(), work_len)
     })
 }
 
@@ -213,13 +158,13 @@ pub fn tree_build_light_bvh(light_count: u32, block: &[u32], trays: Trays) -> Re
     let (lights, len) = (light_count as usize, block.len());
     let lens = trays.each_ref().map(|tray| tray.len());
     let [a, b, c, d] = trays.map(|tray| tray.as_mut_ptr());
-    answer(unsafe { build_light_bvh(lights, block.as_ptr(), len, a, lens[0], b, lens[1], c, lens[2], d, lens[3]) })
+    answer(unsafe { light_build(lights, block.as_ptr(), len, a, lens[0], b, lens[1], c, lens[2], d, lens[3]) })
 }
 
 /// A draw over a tree's nodes as bytes.
 pub fn sampler_sample(nodes: &[u8], query: &Query, u: f32) -> Drawn {
     let [px, py, pz, nx, ny, nz] = query.map(f32::from_bits);
-    let answer = unsafe { sample(nodes.as_ptr(), nodes.len(), px, py, pz, nx, ny, nz, u) };
+    let answer = unsafe { light_sample(nodes.as_ptr(), nodes.len(), px, py, pz, nx, ny, nz, u) };
     let (high, low) = ((answer >> 32) as u32, answer as u32);
     match high >> 30 {
         0 => Ok(Some((high, low))),
@@ -232,7 +177,7 @@ pub fn sampler_sample(nodes: &[u8], query: &Query, u: f32) -> Drawn {
 /// The chance of a lamp by its handle, over a tree's nodes and table as bytes.
 pub fn sampler_pmf(nodes: &[u8], table: &[u8], query: &Query, handle: u32) -> Chance {
     let [px, py, pz, nx, ny, nz] = query.map(f32::from_bits);
-    let answer = unsafe { pmf(nodes.as_ptr(), nodes.len(), table.as_ptr(), table.len(), px, py, pz, nx, ny, nz, handle) };
+    let answer = unsafe { light_pmf(nodes.as_ptr(), nodes.len(), table.as_ptr(), table.len(), px, py, pz, nx, ny, nz, handle) };
     match answer >> 32 {
         0 => Ok(answer as u32),
         1 => Err(answer as u32),
@@ -245,7 +190,7 @@ pub fn sampler_pmf(nodes: &[u8], table: &[u8], query: &Query, handle: u32) -> Ch
 pub fn packed_by_value(nodes: &[u8], k: usize, present: u32, all: Corners, out: &mut [u8]) -> Packed {
     let (len, out_len) = (nodes.len(), out.len());
     let [a, b, c, d, e, f] = all.map(f32::from_bits);
-    let answer = unsafe { pack_light_bvh(nodes.as_ptr(), len, k, present, a, b, c, d, e, f, out.as_mut_ptr(), out_len) };
+    let answer = unsafe { light_pack(nodes.as_ptr(), len, k, present, a, b, c, d, e, f, out.as_mut_ptr(), out_len) };
     let (high, low) = ((answer >> 32) as u32, answer as u32);
     match high {
         0 => Ok(Some(low as usize)),

@@ -3,64 +3,14 @@
 //! program. At its end it prints how often each function was called and how often it answered what.
 
 use coltoctober::cases::Random;
+use coltoctober::light_c::{light_alias_table, light_bounds_block, light_build, light_pack, light_pmf, light_sample};
 use std::collections::BTreeMap;
 use std::ffi::c_void;
 
-// SAFETY: the C functions are proved for every slice; the two of the system are called as their manual says.
+// SAFETY: the two of the system are called as their manual says; the others are proved for every slice.
 unsafe extern "C" {
     fn mmap(at: *mut c_void, len: usize, protection: i32, flags: i32, file: i32, offset: i64) -> *mut c_void;
     fn mprotect(at: *mut c_void, len: usize, protection: i32) -> i32;
-
-    fn light_bounds_block(list: *const u32, len: usize, block: *mut u32, block_len: usize) -> u32;
-    fn light_build(
-        lights: usize,
-        block: *const u32,
-        len: usize,
-        nodes: *mut u32,
-        nodes_len: usize,
-        table: *mut u32,
-        table_len: usize,
-        work: *mut u32,
-        work_len: usize,
-        answer: *mut u32,
-        answer_len: usize,
-    ) -> u32;
-    fn light_sample(nodes: *const u8, len: usize, px: f32, py: f32, pz: f32, nx: f32, ny: f32, nz: f32, u: f32) -> u64;
-    fn light_pmf(
-        nodes: *const u8,
-        len: usize,
-        table: *const u8,
-        table_len: usize,
-        px: f32,
-        py: f32,
-        pz: f32,
-        nx: f32,
-        ny: f32,
-        nz: f32,
-        handle: u32,
-    ) -> u64;
-    fn light_pack(
-        nodes: *const u8,
-        len: usize,
-        k: usize,
-        present: u32,
-        min_x: f32,
-        min_y: f32,
-        min_z: f32,
-        max_x: f32,
-        max_y: f32,
-        max_z: f32,
-        out: *mut u8,
-        out_len: usize,
-    ) -> u64;
-    fn light_alias_table(
-        weights: *const u32,
-        len: usize,
-        bins: *mut u32,
-        bins_len: usize,
-        work: *mut u32,
-        work_len: usize,
-    ) -> u32;
 }
 
 const PAGE: usize = 4096;
