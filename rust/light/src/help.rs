@@ -42,12 +42,12 @@ Draws a lamp for each bench and prints, a bench a line:
     bits    the bits of both, in the same order
     apart   how many floats one is from the other; or wholly: one is NaN or infinite, or 0 beside
             one that is not
-    sum of named   all lamps' chances by name together; below 1 where a branch shines there by its
-            bounds but none of its lamps does, and a draw may end with none
+    sum of named   all lamps' chances by name together: about 1; less where a branch shines there by
+            its bounds but none of its lamps does, and a draw may end with none
 or `refused N` and why; the report goes on behind it. The last lines count the rows and say how far
 the chances part at the most. Both multiply rounded shares, and the draw's share of a right branch
 is 1 less the left one's: most part by a few floats, by more where a right branch has a tiny share.
-Where weights overflow they can part wholly.
+Where weights overflow they can part wholly, and the sum is not about 1.
 
 BENCHES has a bench a line: a point, a normal there, a number u from 0 to 1; `-` in place of the
 normal is none. `#` starts a comment; numbers are as in ROOM, of which `light --help` tells.
