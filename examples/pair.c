@@ -50,7 +50,7 @@ int main(void)
 
     /* draws read the tree as bytes: 2k - 1 nodes for k powered lamps */
     const uint8_t *tree = (const uint8_t *)nodes;
-    const size_t tree_len = LIGHT_TREE_BYTES(answer[0]);
+    const size_t tree_len = light_tree_bytes(answer[0]);
     static const char *const known[] = {"0 3f000000 3f000000", "1 3f000000 3f000000"};
     static const float us[] = {0.25f, 0.75f};
     for (int i = 0; i < 2; i++) {

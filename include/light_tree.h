@@ -20,7 +20,7 @@
  *   - `uint32_t *` slices are WORDS: the length counts words, and the pointer is aligned to 4.
  *   - `uint8_t *` slices are BYTES: the length counts bytes, at any alignment. They hold words,
  *     the lowest byte first, so the words that light_build writes are lent as they stand:
- *     (const uint8_t *)nodes, LIGHT_TREE_BYTES(k).
+ *     (const uint8_t *)nodes, light_tree_bytes(k).
  *   - Of an empty slice, length 0, nothing is read or written, and the pointer may be anything
  *     that was set: NULL, one that dangles, one that is not aligned.
  *   - A slice that is not const is lent for writing and overlaps no other slice of the call.
@@ -30,7 +30,6 @@
  *   - an accepted call writes what it has to say, and zeroes what it does not use, work included;
  *   - refusals 1 to 4 change nothing;
  *   - later refusals zero the whole reserve.
- * `answer` of light_build, which is not such a slice, is told there.
  *
  * A refusal carries its number alone (enum light_refusals). Of several that hold the one given is
  * the first of 2, 1, 4, 3; the others come behind these, in the order of the work.
@@ -98,39 +97,96 @@ enum light_refusals {
 #define LIGHT_MAX_WORDS 0x100000
 #define LIGHT_NO_INDEX UINT32_C(0xffffffff)
 
-/* The words of a lamp in a list, its head counted. */
+/* The words of a lamp in a list, its head counted, and of a triangle in a group. */
 #define LIGHT_POINT_WORDS 6
 #define LIGHT_SPOT_WORDS 11
 #define LIGHT_TRIANGLE_WORDS 13
-#define LIGHT_GROUP_WORDS(triangles) (5 + LIGHT_TRIANGLE_WORDS * (size_t)(triangles))
 
-/* The words of a bounds record, of a row of a block, of a block. */
+/* The words of a bounds record, of a row of a block, of a node, of build's answer, of a bin. */
 #define LIGHT_RECORD_WORDS 13
 #define LIGHT_ROW_WORDS (1 + LIGHT_RECORD_WORDS)
-#define LIGHT_BLOCK_WORDS(m) (1 + LIGHT_ROW_WORDS * (size_t)(m))
-
-/* A tree of k powered lamps has 2k - 1 nodes, none for none. */
 #define LIGHT_NODE_WORDS 16
 #define LIGHT_NODE_BYTES (4 * LIGHT_NODE_WORDS)
-#define LIGHT_NODES(k) ((k) == 0 ? (size_t)0 : 2 * (size_t)(k) - 1)
-#define LIGHT_TREE_BYTES(k) (LIGHT_NODE_BYTES * LIGHT_NODES(k))
+#define LIGHT_ANSWER_WORDS 7
+#define LIGHT_BIN_WORDS 3
 
-/* The reserves of light_build, in words, and the words of its answer. */
-#define LIGHT_NODES_RESERVE(m) (LIGHT_NODE_WORDS * LIGHT_NODES(m))
+/*
+ * For the sizes of arrays, where a constant is needed: macros, some of which evaluate their argument
+ * twice. Elsewhere call the functions below, whose names are the same in small letters.
+ */
+#define LIGHT_GROUP_WORDS(triangles) (5 + LIGHT_TRIANGLE_WORDS * (size_t)(triangles))
+#define LIGHT_BLOCK_WORDS(m) (1 + LIGHT_ROW_WORDS * (size_t)(m))
+#define LIGHT_NODES_RESERVE(m) ((m) == 0 ? (size_t)0 : LIGHT_NODE_WORDS * (2 * (size_t)(m) - 1))
 #define LIGHT_TABLE_RESERVE(m) ((size_t)(m))
 #define LIGHT_WORK_RESERVE(m) (2 * (size_t)(m))
-#define LIGHT_ANSWER_WORDS 7
-
-/* A packed tree of n nodes; the reserve of light_pack, in words and in bytes. */
 #define LIGHT_PACKED_WORDS(n) ((n) == 0 ? (size_t)0 : 8 + 8 * (size_t)(n))
 #define LIGHT_PACKED_BYTES(n) (4 * LIGHT_PACKED_WORDS(n))
-
-/* The reserves of light_alias_table, in words. */
-#define LIGHT_BIN_WORDS 3
 #define LIGHT_BINS_RESERVE(m) (LIGHT_BIN_WORDS * (size_t)(m))
 #define LIGHT_ALIAS_WORK_RESERVE(m) (4 * (size_t)(m))
 
-/* The heads of lamps in a list. */
+/* The words of a group of so many triangles in a list, its head counted. */
+static inline size_t light_group_words(size_t triangles)
+{
+    return LIGHT_GROUP_WORDS(triangles);
+}
+
+/* The words of a block of m lamps. */
+static inline size_t light_block_words(size_t m)
+{
+    return LIGHT_BLOCK_WORDS(m);
+}
+
+/* A tree of k powered lamps has 2k - 1 nodes, none for none. */
+static inline size_t light_nodes(size_t k)
+{
+    return k == 0 ? 0 : 2 * k - 1;
+}
+
+/* The bytes of these nodes, as draws, chances and packing take them. */
+static inline size_t light_tree_bytes(size_t k)
+{
+    return LIGHT_NODE_BYTES * light_nodes(k);
+}
+
+/* The reserves of light_build for m lamps, in words. */
+static inline size_t light_nodes_reserve(size_t m)
+{
+    return LIGHT_NODES_RESERVE(m);
+}
+
+static inline size_t light_table_reserve(size_t m)
+{
+    return LIGHT_TABLE_RESERVE(m);
+}
+
+static inline size_t light_work_reserve(size_t m)
+{
+    return LIGHT_WORK_RESERVE(m);
+}
+
+/* A packed tree of n nodes; the reserve of light_pack, in words and in bytes. */
+static inline size_t light_packed_words(size_t n)
+{
+    return LIGHT_PACKED_WORDS(n);
+}
+
+static inline size_t light_packed_bytes(size_t n)
+{
+    return LIGHT_PACKED_BYTES(n);
+}
+
+/* The reserves of light_alias_table for m weights, in words. */
+static inline size_t light_bins_reserve(size_t m)
+{
+    return LIGHT_BINS_RESERVE(m);
+}
+
+static inline size_t light_alias_work_reserve(size_t m)
+{
+    return LIGHT_ALIAS_WORK_RESERVE(m);
+}
+
+/* The heads of lamps in a list; macros, for constant lists. They evaluate their argument once. */
 #define LIGHT_POINT(handle) (UINT32_C(0x40000000) | (uint32_t)(handle))
 #define LIGHT_SPOT(handle) (UINT32_C(0x80000000) | (uint32_t)(handle))
 #define LIGHT_GROUP(handle) (UINT32_C(0xc0000000) | (uint32_t)(handle))
@@ -172,7 +228,7 @@ static inline float light_float(uint32_t word)
  * Answers 0, or the refusal's number: 2, 1, 4, 3, then by the first lamp that is refused 5, 7, 8, 9
  * or 10.
  *
- * Writes `block`, words, of which LIGHT_BLOCK_WORDS(m) are its reserve: m, then a row of
+ * Writes `block`, words, of which light_block_words(m) are its reserve: m, then a row of
  * LIGHT_ROW_WORDS for each lamp, in the list's order. A row is the handle and a record:
  *
  *     handle | box min 3, max 3 | direction 3 | power phi | cos_theta_o, cos_theta_e | sides
@@ -190,7 +246,7 @@ uint32_t light_bounds_block(const uint32_t *list, size_t list_len, uint32_t *blo
  * Builds the tree of a block.
  *
  * Takes `lights`, the number of the caller's light records, which must be the block's m; and
- * `block`, words, exactly LIGHT_BLOCK_WORDS(m) of them, laid out as light_bounds_block writes them
+ * `block`, words, exactly light_block_words(m) of them, laid out as light_bounds_block writes them
  * or filled in by the caller. Each record's box and figures are finite, min is not above max, the
  * direction has a length, phi is not below 0, both cosines lie from -1 to 1. A lamp is powered where
  * its phi is above 0; k of the m lamps are.
@@ -198,7 +254,7 @@ uint32_t light_bounds_block(const uint32_t *list, size_t list_len, uint32_t *blo
  * Answers 0, or the refusal's number: 2, 1, 4, 3, then by the first record that fails its check 5,
  * 6, 7 or 8, then 10.
  *
- * Writes `nodes`, words, reserve LIGHT_NODES_RESERVE(m): LIGHT_NODES(k) nodes of LIGHT_NODE_WORDS,
+ * Writes `nodes`, words, reserve light_nodes_reserve(m): light_nodes(k) nodes of LIGHT_NODE_WORDS,
  * the root first, a left child right behind its parent; and zeros behind them. A node is
  *
  *     head | right child | parent | record of 13 words
@@ -206,17 +262,16 @@ uint32_t light_bounds_block(const uint32_t *list, size_t list_len, uint32_t *blo
  * The head's top two bits are 01 at a leaf, with the handle below, and 10 at a fork, with the left
  * child's place below. A leaf's right child and the root's parent are LIGHT_NO_INDEX.
  *
- * Writes `table`, words, reserve LIGHT_TABLE_RESERVE(m): at each handle the place of its leaf,
+ * Writes `table`, words, reserve light_table_reserve(m): at each handle the place of its leaf,
  * LIGHT_NO_INDEX for a lamp that is not powered.
  *
- * Uses `work`, words, reserve LIGHT_WORK_RESERVE(m), and zeroes it.
+ * Uses `work`, words, reserve light_work_reserve(m), and zeroes it.
  *
- * Leaves `nodes`, `table` and `work` as they were on refusals 1 to 4; zeroes the three reserves on
- * later ones.
+ * Writes `answer`, words, reserve LIGHT_ANSWER_WORDS: k, then min 3 and max 3 of the box about the
+ * powered lamps, floats' bits; zeros where k is 0.
  *
- * Writes `answer`, words, LIGHT_ANSWER_WORDS of them, where the tree is built: k, then min 3 and
- * max 3 of the box about the powered lamps, floats' bits; seven zeros where k is 0. Leaves it as it
- * was on every refusal; and where it is shorter than that, which is no refusal: k is then not told.
+ * Leaves `nodes`, `table`, `work` and `answer` as they were on refusals 1 to 4; zeroes the four
+ * reserves on later ones.
  */
 uint32_t light_build(size_t lights,
                      const uint32_t *block, size_t block_len,
@@ -230,10 +285,10 @@ uint32_t light_build(size_t lights,
 /*
  * Draws a lamp for a point.
  *
- * Takes `nodes`, BYTES: those of the tree alone, (const uint8_t *)nodes and LIGHT_TREE_BYTES(k),
- * without the zeros that light_build leaves behind them; a point p; a normal n there, of any length,
- * (0, 0, 0) for none; and u from 0 to 1, -0 as 0. The lamps are drawn in the order of their leaves as
- * u rises.
+ * Takes `nodes`, BYTES: those of the tree alone, (const uint8_t *)nodes and light_tree_bytes(k),
+ * without the zeros that light_build leaves behind them (for k = 0 and m above 0 the whole tray is
+ * refused with 12); a point p; a normal n there, of any length, (0, 0, 0) for none; and u from 0 to
+ * 1, -0 as 0. The lamps are drawn in the order of their leaves as u rises.
  *
  * Answers a number to be taken apart by the functions below:
  *
@@ -243,8 +298,13 @@ uint32_t light_build(size_t lights,
  *                       5 to 8 by a record that is weighed, 5 or 7 by the point or the normal
  *
  * A tree of one lamp weighs nothing: it draws the lamp with chance 1, even for a NaN point. Else the
- * chance is the product of the shares taken at the forks; it is NaN, 7fc00000, where a sum of weights
- * overflows.
+ * chance is the product of the shares taken at the forks. Of weights x at the left child and y at the
+ * right the left share is x / (x + y), and the right one 1 less that. Where x + y overflows the right
+ * child is taken, with share 1, or with NaN, 7fc00000, where x itself is infinite. So it is with the
+ * two lamps of examples/pair.c under other powers, here as floats' bits, by any u:
+ *
+ *     powers 7f61b1e6, 3f800000   point (0, 0, 0.001)   lamp 1, chance 7fc00000
+ *     powers 7f61b1e6, 7f61b1e6   point (1, 0, 0)       lamp 1, chance 3f800000
  *
  * Writes nothing.
  */
@@ -291,9 +351,13 @@ static inline float light_chance(uint64_t answer)
  * Answers the chance's bits (light_chance), below 2^32: 0 for a handle past the table, for a lamp
  * that is not powered, and where at a fork on the way neither side shines on the point; or 2^32 and the
  * refusal's number (light_pmf_refusal): 2, 1, then, on the way up, 12 by a node, 5 to 8 by a record
- * that is weighed, 5 or 7 by the point or the normal. Both chances multiply rounded shares, in
- * opposite orders, so their last digits can differ; they differ grossly where a sum of weights
- * overflows.
+ * that is weighed, 5 or 7 by the point or the normal.
+ *
+ * Both chances multiply rounded shares, in opposite orders, and by name the right share is
+ * y / (x + y). So they part: most of them in the last digits, but by more where a right share is tiny
+ * (powers 1 and 6e-8, point (1, 0, 1), u 1: lamp 1 with chance 1.2e-7, and 6e-8 by name). Where
+ * x + y overflows the share by name is 0, or NaN for a child whose own weight is infinite: in both
+ * examples of light_sample lamp 1 has chance 0 by name.
  *
  * Writes nothing.
  */
@@ -314,15 +378,15 @@ static inline uint32_t light_pmf_refusal(uint64_t answer)
  * Packs a tree for a graphics card.
  *
  * Takes `nodes`, BYTES, as light_sample does, n nodes; `k` and the box as light_build answered them:
- * answer[0]; `present`, 0 where there is no box (k is 0), else any other number; and `all`, WORDS,
- * six of them, answer + 1, which must be there even where `present` is 0 and are not read then.
+ * answer[0]; `present`, 0 where there is no box (k is 0), else any other number; and its corners,
+ * answer[1] to answer[6] as floats (light_float), which do not count where `present` is 0.
  *
- * Answers how many words were packed, LIGHT_PACKED_WORDS(n) (light_pack_words); 2^32 where there is
+ * Answers how many words were packed, light_packed_words(n) (light_pack_words); 2^32 where there is
  * no tree: no nodes, k 0 and no box (light_pack_is_none); or 2^33 and the refusal's number
- * (light_pack_refusal): 1 where `all` has less than six words; 2, 1, 3; 12 where nodes, k and box do
- * not agree; 5 or 6 of the box; then by the first node that is refused 12, 5 to 8, 13 or 12.
+ * (light_pack_refusal): 2, 1, 3; 12 where nodes, k and box do not agree; 5 or 6 of the box; then by
+ * the first node that is refused 12, 5 to 8, 13 or 12.
  *
- * Writes `out`, BYTES, reserve LIGHT_PACKED_BYTES(n): words, the lowest byte first. Eight of header,
+ * Writes `out`, BYTES, reserve light_packed_bytes(n): words, the lowest byte first. Eight of header,
  * box min 3, 0, box max 3, 0; then eight a node, the first of a pair in the lower bits:
  *
  *     0   min x, min y, 16 bits each, from 0 to 65535 within the box, rounded down
@@ -337,7 +401,9 @@ static inline uint32_t light_pmf_refusal(uint64_t answer)
  * Leaves `out` as it was on refusals 1 to 4; zeroes the reserve on later ones.
  */
 uint64_t light_pack(const uint8_t *nodes, size_t nodes_len,
-                    size_t k, uint32_t present, const uint32_t *all, size_t all_len,
+                    size_t k, uint32_t present,
+                    float min_x, float min_y, float min_z,
+                    float max_x, float max_y, float max_z,
                     uint8_t *out, size_t out_len);
 
 /* How many words were packed, 0 where there is no tree or it is refused. */
@@ -367,12 +433,13 @@ static inline uint32_t light_pack_refusal(uint64_t answer)
  *
  * Answers 0, or the refusal's number: 2, 3, 8.
  *
- * Writes `bins`, words, reserve LIGHT_BINS_RESERVE(m): for each weight LIGHT_BIN_WORDS words, q and
- * p, floats' bits, and alias. p is the weight's share of the sum. To draw, pick a bin, each alike, and
- * a number from 0 to below 1: below q the bin's own place is drawn, else the place `alias`, which is
- * LIGHT_NO_INDEX where q is 1.
+ * Writes `bins`, words, reserve light_bins_reserve(m): for each weight LIGHT_BIN_WORDS words, q and
+ * p, floats' bits, and alias. p is the weight's share of the sum; where that overflows f32 each p is
+ * 0 and each q 1 (of the weights 7f7fffff, 7f7fffff both p are 00000000). To draw, pick a bin, each
+ * alike, and a number from 0 to below 1: below q the bin's own place is drawn, else the place `alias`,
+ * which is LIGHT_NO_INDEX where q is 1.
  *
- * Uses `work`, words, reserve LIGHT_ALIAS_WORK_RESERVE(m), and zeroes it.
+ * Uses `work`, words, reserve light_alias_work_reserve(m), and zeroes it.
  *
  * Leaves `bins` and `work` as they were on refusals 2 and 3; zeroes both reserves on 8.
  */

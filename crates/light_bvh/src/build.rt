@@ -65,7 +65,7 @@ fn check_reserves(m: usize, nodes: usize, table: usize, work: usize) -> Counted
 }
 
 // How many rows a tree is to be built of.
-fn check_build(lights: usize, block: &[u32], nodes: usize, table: usize, work: usize) -> Counted
+pub fn check_build(lights: usize, block: &[u32], nodes: usize, table: usize, work: usize) -> Counted
     ensures { λ r. ⌜ counted r ≡ buildCheck lights (now (block .entry)) nodes table work ⌝ }
 {
     match check_layout(block) {

@@ -1,37 +1,39 @@
 -- Answers as numbers, for C and Rust. Definitions only. Assumes nothing.
-use Prim.Native.Nat.{ℕ, _+_, _*_, _%_}
+use Prim.Native.Nat.{ℕ, _+_, _*_}
 use mathlib.Core.Bool.{cond}
 use mathlib.Core.List.{List, _∷_, _++_}
 use mathlib.Core.Option.{Option, none, some}
-use lib.Dec.{leb, eqb}
+use lib.Dec.{eqb, ltb}
 use lib.Ieee.{Float, binary32, toBits}
-use lib.ListN.{length}
-use lib.Seq.{sets}
-use Rattle.ieee.specs.Single.{zerof}
-use Rattle.words.specs.Answers.{Answer, given, refused}
-use Rattle.light_bounds.specs.RecordWords.{boxAt, vecWords}
+use lib.ListN.{replicate}
+use Rattle.words.specs.Answers.{Answer, given, refused, _then_}
+use Rattle.light_bounds.specs.RecordWords.{vecWords}
 use Rattle.light_bounds.specs.Vecmath.{vec}
 use Rattle.light_bounds.specs.declared.bounds.Bounds3.{Bounds3}
 use Rattle.light_bounds.specs.declared.importance.Query.{Query}
+use Rattle.light_bvh.specs.Build.{LightBVH, validated, builtBvh, buildCheck}
 use Rattle.light_sampler.specs.Walks.{Draw}
-use Rattle.packed_bvh.specs.Packed.{packLightBvh}
 
--- ---- the tree's k and box, seven words; zeros for a box that is absent
+-- ---- the tree
 
-abbrev pub zeroBox : Bounds3
-zeroBox = record { min = vec zerof zerof zerof; max = vec zerof zerof zerof }
+-- the words of build's answer
+abbrev pub answerReserve : ℕ
+answerReserve = 7
 
-abbrev pub summaryList : ℕ → Bounds3 → List ℕ
-summaryList k b = k % 0x1_0000_0000 ∷ vecWords (b .min) ++ vecWords (b .max)
+-- zeros for a box that is absent
+abbrev pub boxWords : Option Bounds3 → List ℕ
+boxWords (some b) = vecWords (b .min) ++ vecWords (b .max)
+boxWords none = replicate 6 0
 
--- where there are too few words nothing is written
-unfoldable pub summaryWords : List ℕ → List ℕ → List ℕ
-summaryWords before ws = cond (leb 7 (length before)) (sets before 0 ws) before
+-- k and the box
+abbrev pub summaryList : LightBVH → List ℕ
+summaryList b = b .k ∷ boxWords (b .all-bounds)
 
-abbrev pub summarised : Answer (ℕ × Option Bounds3) → List ℕ → List ℕ
-summarised (given (k, some b)) before = summaryWords before (summaryList k b)
-summarised (given (k, none)) before = summaryWords before (summaryList k zeroBox)
-summarised (refused n) before = before
+-- `buildLightBvh`, which gives 3 also where the answer's slice is short
+unfoldable pub buildAnswered : ℕ → List ℕ → ℕ → ℕ → ℕ → ℕ → Answer LightBVH
+buildAnswered lights ws nodes table work answer =
+    buildCheck lights ws nodes table work then λ (m : ℕ).
+    cond (ltb answer answerReserve) (refused 3) (given m) then λ (m : ℕ). validated ws m then λ _. builtBvh ws m
 
 -- ---- draws and chances
 
@@ -58,10 +60,12 @@ packedCode (given (some n)) = n
 packedCode (given none) = 0x1_0000_0000
 packedCode (refused n) = 0x2_0000_0000 + n
 
--- the box of six words; `present` is 0 where there is none
-unfoldable pub boxOf : ℕ → List ℕ → Option Bounds3
-boxOf present ws = cond (eqb present 0) none (some (boxAt ws 0))
+-- the box of two corners; `present` is 0 where there is none
+unfoldable pub boxOf : ℕ → Float → Float → Float → Float → Float → Float → Option Bounds3
+boxOf present ax ay az bx by bz = cond (eqb present 0) none (some (record { min = vec ax ay az; max = vec bx by bz }))
 
--- too few words for a box are refusal 1
-unfoldable pub packWords : List ℕ → ℕ → ℕ → List ℕ → ℕ → Answer (Option (List ℕ))
-packWords nodes k present all room = cond (leb 6 (length all)) (packLightBvh nodes k (boxOf present all) room) (refused 1)
+-- ---- as the code has it
+
+-- `buildAnswered` where the answer's slice is short
+unfoldable pub shortAnswer : ℕ → List ℕ → ℕ → ℕ → ℕ → Answer LightBVH
+shortAnswer lights ws nodes table work = buildCheck lights ws nodes table work then λ (_ : ℕ). refused 3

@@ -2,27 +2,30 @@
 // Each is its function with numbers and slices for arguments and a number for its answer, and promises what that promises. Draw, chance and packing read and
 // write a tree as bytes, little-endian; the others take words.
 ghost use mathlib.Core.Path.{_≡_};
-ghost use mathlib.Core.List.{List, []};
-ghost use Prim.Native.Nat.{ℕ, _*_, _≤_};
+ghost use mathlib.Core.List.{List, [], _∷_};
+ghost use mathlib.Core.Option.{some};
+ghost use Prim.Native.Nat.{ℕ, _*_, _^_, _≤_, _<_};
 ghost use lib.ListN.{getD, length};
 ghost use lib.Seq.{sets};
-ghost use Rattle.words.specs.Answers.{code};
+ghost use Rattle.words.specs.Answers.{code, refused};
+ghost use Rattle.words.specs.Refusals.{number};
 ghost use Rattle.words.specs.Tray.{tray};
 ghost use Rattle.lamps.specs.Block.{blockWords, packExhaustiveBounds};
 ghost use Rattle.lamps.specs.Build.{buildLightBounds};
-ghost use Rattle.light_bvh.specs.Build.{buildLightBvh, nodesWritten, tableWritten, workWritten, nodesReserve, workReserve, summary};
+ghost use Rattle.light_bvh.specs.Build.{nodesWritten, tableWritten, workWritten, nodesReserve, workReserve};
 ghost use Rattle.light_sampler.specs.Sampler.{sample, pmf, drawn, chance};
-ghost use Rattle.packed_bvh.specs.Packed.{allBoundsOf, packed, packedBytes, bytesReserve, wordsPacked};
+ghost use Rattle.packed_bvh.specs.Packed.{allBoundsOf, packLightBvh, packed, packedBytes, bytesReserve, wordsPacked};
 ghost use Rattle.alias_table.specs.AliasTable.{Bin, buildPowerAliasTable, binWords};
-ghost use Rattle.light_c.specs.Codes.{summaryList, summaryWords, summarised, queryAt, drawCode, valueCode, packedCode, boxOf, packWords};
+ghost use Rattle.light_c.specs.Codes.{answerReserve, boxWords, summaryList, buildAnswered, shortAnswer};
+ghost use Rattle.light_c.specs.Codes.{queryAt, drawCode, valueCode, packedCode, boxOf};
 use alias_table::build_power_alias_table;
 use lamps::build::build_light_bounds;
 use light_bounds::bounds::Bounds3;
 use light_bounds::importance::Query;
-use light_bounds::record_words::vec_at;
 use light_bounds::vecmath::Vec3;
 use light_bvh::build::Built;
 use light_bvh::build::build_light_bvh;
+use light_bvh::build::check_build;
 use light_sampler::pmf::Chance;
 use light_sampler::pmf::bvh_light_sampler_pmf;
 use light_sampler::sample::Drawn;
@@ -30,8 +33,11 @@ use light_sampler::sample::bvh_light_sampler_sample;
 use packed_bvh::pack::AllBounds;
 use packed_bvh::pack::Packed;
 use packed_bvh::pack::pack_light_bvh;
+use words::answers::Counted;
 use words::answers::counted_code;
+use words::fill::zero_words;
 use words::floats::word_of_f32;
+use words::refusals::Refusal;
 use words::refusals::refusal_number;
 
 // ---- the lamp list to the bounds block
@@ -48,11 +54,15 @@ pub extern "C" fn light_bounds_block(list: &[u32], block: &mut [u32]) -> u32
 
 // ---- the tree
 
-fn put_summary(answer: &mut [u32], k: usize, bounds: Bounds3)
-    requires { ⌜ 7 ≤ length (now answer) ⌝ }
-    ensures { λ _. ⌜ now (answer .exit) ≡ sets (now (answer .entry)) 0 (summaryList k bounds) ⌝ }
+// The words of build's answer: k and the box's two corners.
+pub const ANSWER_WORDS: usize = 7;
+
+fn write_summary(answer: &mut [u32], k: usize, bounds: Bounds3)
+    requires { ⌜ k < 2 ^ 32 ⌝ }
+    requires { ⌜ answerReserve ≤ length (now answer) ⌝ }
+    ensures { λ _. ⌜ now (answer .exit) ≡ sets (now (answer .entry)) 0 (k ∷ boxWords (some bounds)) ⌝ }
 {
-    answer[0] = (k % 0x1_0000_0000) as u32;
+    answer[0] = k as u32;
     answer[1] = word_of_f32(bounds.min.x);
     answer[2] = word_of_f32(bounds.min.y);
     answer[3] = word_of_f32(bounds.min.z);
@@ -61,16 +71,30 @@ fn put_summary(answer: &mut [u32], k: usize, bounds: Bounds3)
     answer[6] = word_of_f32(bounds.max.z);
 }
 
-// Writes k and the box to the first seven words, where there are as many.
-fn write_summary(answer: &mut [u32], k: usize, bounds: Bounds3)
-    ensures { λ _. ⌜ now (answer .exit) ≡ summaryWords (now (answer .entry)) (summaryList k bounds) ⌝ }
+// The refusal's number; one after 4 zeroes the answer.
+fn refuse_build(answer: &mut [u32], why: Refusal) -> u32
+    requires { ⌜ answerReserve ≤ length (now answer) ⌝ }
+    ensures { λ r. ⌜ r ≡ number why ⌝ }
+    ensures { λ _. ⌜ now (answer .exit) ≡ tray summaryList answerReserve (refused (number why)) (now (answer .entry)) ⌝ }
 {
-    if answer.len() >= 7 {
-        put_summary(answer, k, bounds);
+    let n = refusal_number(why);
+    if n > 4 {
+        zero_words(answer, 0, ANSWER_WORDS);
+    }
+    n
+}
+
+// The number where the answer is short: the refusals before it come first.
+fn refuse_short(lights: usize, block: &[u32], nodes: usize, table: usize, work: usize) -> u32
+    ensures { λ r. ⌜ refused r ≡ shortAnswer lights (now (block .entry)) nodes table work ⌝ }
+{
+    match check_build(lights, block, nodes, table, work) {
+        Counted::Count(_) => refusal_number(Refusal::ShortTray),
+        Counted::Refused(why) => refusal_number(why),
     }
 }
 
-// 0, with k and the box in the answer's words, or the refusal's number.
+// 0, with k and the box in the answer's seven words, zeros for an absent box; or the refusal's number.
 #[no_mangle]
 pub extern "C" fn light_build(
     lights: usize,
@@ -81,42 +105,34 @@ pub extern "C" fn light_build(
     answer: &mut [u32],
 ) -> u32
     ensures { λ r. ⌜ r ≡ code
-        (buildLightBvh lights (now (block .entry)) (length (now (nodes .entry))) (length (now (table .entry))) (length (now (work .entry)))) ⌝ }
+        (buildAnswered lights (now (block .entry)) (length (now (nodes .entry))) (length (now (table .entry)))
+        (length (now (work .entry))) (length (now (answer .entry)))) ⌝ }
     ensures { λ _. ⌜ now (nodes .exit) ≡ tray nodesWritten (nodesReserve (getD (now (block .entry)) 0 0))
-        (buildLightBvh lights (now (block .entry)) (length (now (nodes .entry))) (length (now (table .entry))) (length (now (work .entry))))
-        (now (nodes .entry)) ⌝ }
+        (buildAnswered lights (now (block .entry)) (length (now (nodes .entry))) (length (now (table .entry)))
+        (length (now (work .entry))) (length (now (answer .entry)))) (now (nodes .entry)) ⌝ }
     ensures { λ _. ⌜ now (table .exit) ≡ tray tableWritten (getD (now (block .entry)) 0 0)
-        (buildLightBvh lights (now (block .entry)) (length (now (nodes .entry))) (length (now (table .entry))) (length (now (work .entry))))
-        (now (table .entry)) ⌝ }
+        (buildAnswered lights (now (block .entry)) (length (now (nodes .entry))) (length (now (table .entry)))
+        (length (now (work .entry))) (length (now (answer .entry)))) (now (table .entry)) ⌝ }
     ensures { λ _. ⌜ now (work .exit) ≡ tray workWritten (workReserve (getD (now (block .entry)) 0 0))
-        (buildLightBvh lights (now (block .entry)) (length (now (nodes .entry))) (length (now (table .entry))) (length (now (work .entry))))
-        (now (work .entry)) ⌝ }
-    ensures { λ _. ⌜ now (answer .exit) ≡ summarised (summary
-        (buildLightBvh lights (now (block .entry)) (length (now (nodes .entry))) (length (now (table .entry))) (length (now (work .entry)))))
-        (now (answer .entry)) ⌝ }
+        (buildAnswered lights (now (block .entry)) (length (now (nodes .entry))) (length (now (table .entry)))
+        (length (now (work .entry))) (length (now (answer .entry)))) (now (work .entry)) ⌝ }
+    ensures { λ _. ⌜ now (answer .exit) ≡ tray summaryList answerReserve
+        (buildAnswered lights (now (block .entry)) (length (now (nodes .entry))) (length (now (table .entry)))
+        (length (now (work .entry))) (length (now (answer .entry)))) (now (answer .entry)) ⌝ }
 {
+    if answer.len() < ANSWER_WORDS {
+        return refuse_short(lights, block, nodes.len(), table.len(), work.len());
+    }
     match build_light_bvh(lights, block, nodes, table, work) {
         Built::Tree(k, bounds) => {
             write_summary(answer, k, bounds);
             0
         }
         Built::Nothing => {
-            let zero = Vec3 {
-                x: 0.0,
-                y: 0.0,
-                z: 0.0,
-            };
-            write_summary(
-                answer,
-                0,
-                Bounds3 {
-                    min: zero,
-                    max: zero,
-                },
-            );
+            zero_words(answer, 0, ANSWER_WORDS);
             0
         }
-        Built::Refused(why) => refusal_number(why),
+        Built::Refused(why) => refuse_build(answer, why),
     }
 }
 
@@ -195,15 +211,31 @@ pub extern "C" fn light_pmf(
 
 // ---- the packed tree
 
-// The box of six words, or its absence.
-fn box_of(present: u32, words: &[u32]) -> AllBounds
-    ensures { λ r. ⌜ allBoundsOf r ≡ boxOf present (now (words .entry)) ⌝ }
+// The box of two corners, or its absence.
+fn box_of(
+    present: u32,
+    min_x: f32,
+    min_y: f32,
+    min_z: f32,
+    max_x: f32,
+    max_y: f32,
+    max_z: f32,
+) -> AllBounds
+    ensures { λ r. ⌜ allBoundsOf r ≡ boxOf present «min_x» «min_y» «min_z» «max_x» «max_y» «max_z» ⌝ }
 {
     if present == 0 {
         return AllBounds::Absent;
     }
-    let min = vec_at(words, 0);
-    let max = vec_at(words, 3);
+    let min = Vec3 {
+        x: min_x,
+        y: min_y,
+        z: min_z,
+    };
+    let max = Vec3 {
+        x: max_x,
+        y: max_y,
+        z: max_z,
+    };
     AllBounds::Bounds(Bounds3 { min, max })
 }
 
@@ -217,24 +249,30 @@ fn packed_code(answer: Packed) -> u64
     }
 }
 
-// How many words were packed, 2^32 where there is no tree, or 2^33 and the refusal's number: 1 where the box has less than six words, whether it is present
-// (other than 0) or not.
+// How many words were packed, 2^32 where there is no tree, or 2^33 and the refusal's number. There is no overall box
+// where `present` is 0.
 #[no_mangle]
 pub extern "C" fn light_pack(
     nodes: &[u8],
     k: usize,
     present: u32,
-    all: &[u32],
+    min_x: f32,
+    min_y: f32,
+    min_z: f32,
+    max_x: f32,
+    max_y: f32,
+    max_z: f32,
     out: &mut [u8],
 ) -> u64
-    ensures { λ r. ⌜ r ≡ packedCode (wordsPacked (packWords (now (nodes .entry)) k present (now (all .entry)) (length (now (out .entry))))) ⌝ }
+    ensures { λ r. ⌜ r ≡ packedCode (wordsPacked
+        (packLightBvh (now (nodes .entry)) k (boxOf present «min_x» «min_y» «min_z» «max_x» «max_y» «max_z»)
+        (length (now (out .entry))))) ⌝ }
     ensures { λ _. ⌜ now (out .exit) ≡ tray packedBytes (bytesReserve (now (nodes .entry)))
-        (packWords (now (nodes .entry)) k present (now (all .entry)) (length (now (out .entry)))) (now (out .entry)) ⌝ }
+        (packLightBvh (now (nodes .entry)) k (boxOf present «min_x» «min_y» «min_z» «max_x» «max_y» «max_z»)
+        (length (now (out .entry)))) (now (out .entry)) ⌝ }
 {
-    if all.len() < 6 {
-        return 0x2_0000_0001;
-    }
-    packed_code(pack_light_bvh(nodes, k, box_of(present, all), out))
+    let all = box_of(present, min_x, min_y, min_z, max_x, max_y, max_z);
+    packed_code(pack_light_bvh(nodes, k, all, out))
 }
 
 // ---- the power alias table

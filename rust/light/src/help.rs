@@ -19,7 +19,7 @@ A group is a luminous surface of triangles, each behind a `|`: three corners, th
 `one` or `two` says how many of its sides shine.
 
 It exits with 0 where it did what was asked, with 1 where a text is wrong or a room is refused, and
-with 2 where something else failed; one line on standard error says why.
+with 2 where something else failed; one line on standard error says why, but where nobody reads on.
 ";
 
 pub const BLOCK: &str = "\
@@ -34,16 +34,20 @@ light report ROOM BENCHES
 
 Draws a lamp for each bench and prints, a bench a line:
     bench   its line in BENCHES
-    lamp    the handle of the lamp that is drawn, or none where nothing shines there
+    lamp    the handle of the lamp that is drawn; none where there is none with power, or where the
+            draw comes to a fork neither branch of which shines there
     line    the lamp's line in ROOM
     drawn   the chance with which it is drawn, multiplied on the way down the tree
     named   the same chance by the lamp's name, multiplied on the way up
     bits    the bits of both, in the same order
-    apart   how many last digits they part by: by how many floats one is from the other
-    sum of named   all lamps' chances by name together; below 1 where a branch shines there by its
-            bounds but none of its lamps does: those draws end with none
-or `refused N` and why. Both chances multiply roundings, so that their last digits can part; they
-part grossly where weights overflow. The report goes on behind a bench that is refused.
+    apart   how many floats one is from the other; or wholly: one is NaN or infinite, or 0 beside
+            one that is not
+    sum of named   all lamps' chances by name together: about 1; less where a branch shines there by
+            its bounds but none of its lamps does, and a draw may end with none
+or `refused N` and why; the report goes on behind it. The last lines count the rows and say how far
+the chances part at the most. Both multiply rounded shares, and the draw's share of a right branch
+is 1 less the left one's: most part by a few floats, by more where a right branch has a tiny share.
+Where weights overflow they can part wholly, and the sum is not about 1.
 
 BENCHES has a bench a line: a point, a normal there, a number u from 0 to 1; `-` in place of the
 normal is none. `#` starts a comment; numbers are as in ROOM, of which `light --help` tells.

@@ -28,7 +28,7 @@ fn report(path: &str, benches: &str, output: &mut Output) -> Result<(), Stop> {
     let mut tally = Tally::default();
     while lines.next()? {
         if let Some((bench, u)) = lines.bench()? {
-            let row = match tally.row(&room, &tree, bench, u) {
+            let row = match tally.row(&format!("bench {}", lines.number), &room, &tree, bench, u) {
                 Ok(row) => format!("{row}  {}", sum_text(sum(&tree, bench))),
                 Err(refused) => refused,
             };
@@ -70,7 +70,7 @@ fn draw(path: &str, bench: &str, numbers: &[&str], output: &mut Output) -> Resul
     output.line(&head("u"));
     let mut tally = Tally::default();
     for (text, u) in numbers {
-        let row = tally.row(&room, &tree, bench, u).unwrap_or_else(|refused| refused);
+        let row = tally.row(&format!("u {text}"), &room, &tree, bench, u).unwrap_or_else(|refused| refused);
         output.line(&format!("{text:>7} {row}"));
         output.pause(|| format!("{} draws", tally.rows()))?;
     }

@@ -2,9 +2,8 @@
 
 use crate::bench::Bench;
 use crate::room::{Room, refused};
-use crate::text::decimal;
+use crate::text::{decimal, rounded};
 use light_tree::{LightTree, Refusal};
-use std::fmt::Write;
 
 /// Counts over the rows of a report.
 #[derive(Default)]
@@ -12,12 +11,16 @@ pub struct Tally {
     pub drawn: usize,
     pub none: usize,
     pub refused: usize,
-    /// Over the rows that have both chances.
-    most_apart: u32,
+    /// The rows whose chances part wholly, and the first of them.
+    wholly: usize,
+    first_wholly: String,
+    /// Over the other rows: the greatest distance in floats, the greatest relative difference, and where each is.
+    floats: (u32, String),
+    relative: (f64, String),
 }
 
 pub fn head(first: &str) -> String {
-    format!("#{first:>6} {:>5} {:>5}  {:<14} {:<14} {:8} {:8} {:>5}", "lamp", "line", "drawn", "named", "bits", "bits", "apart")
+    format!("#{first:>6} {:>5} {:>5}  {:<14} {:<14} {:8} {:8} {:>6}", "lamp", "line", "drawn", "named", "bits", "bits", "apart")
 }
 
 /// "1 bench", "2 benches".
@@ -25,13 +28,18 @@ pub fn counted(count: usize, one: &str, more: &str) -> String {
     format!("{count} {}", if count == 1 { one } else { more })
 }
 
-/// How many floats one is from the other, none where either is NaN.
-fn apart(a: f32, b: f32) -> Option<u32> {
-    let place = |x: f32| {
-        let size = (x.to_bits() & 0x7fff_ffff) as i32;
-        if x.is_sign_negative() { -size } else { size }
-    };
-    (!a.is_nan() && !b.is_nan()).then(|| place(a).abs_diff(place(b)))
+/// How many floats one chance is from the other, and their difference by the greater. None where they part wholly: one is NaN or
+/// infinite, or 0 beside one that is not.
+fn apart(a: f32, b: f32) -> Option<(u32, f64)> {
+    if !a.is_finite() || !b.is_finite() || (a == 0.0) != (b == 0.0) {
+        return None;
+    }
+    if a == b {
+        return Some((0, 0.0));
+    }
+    // chances are not below 0, and the words of such floats are in their order
+    let [x, y] = [a, b].map(f64::from);
+    Some((a.to_bits().abs_diff(b.to_bits()), (x - y).abs() / x.max(y)))
 }
 
 impl Tally {
@@ -39,8 +47,27 @@ impl Tally {
         self.drawn + self.none + self.refused
     }
 
-    /// A row after its first column, or what is said of a bench that is refused; counted.
-    pub fn row(&mut self, room: &Room, tree: &LightTree, bench: Bench, u: f32) -> Result<String, String> {
+    /// Counts the two chances of a row, and tells their distance.
+    fn count(&mut self, place: &str, drawn: f32, named: f32) -> String {
+        self.drawn += 1;
+        let Some((floats, relative)) = apart(drawn, named) else {
+            self.wholly += 1;
+            if self.wholly == 1 {
+                self.first_wholly = place.into();
+            }
+            return "wholly".into();
+        };
+        if floats > self.floats.0 {
+            self.floats = (floats, place.into());
+        }
+        if relative > self.relative.0 {
+            self.relative = (relative, place.into());
+        }
+        floats.to_string()
+    }
+
+    /// A row after its first column, or what is said of a bench that is refused; counted. `place` is what the summary calls it.
+    pub fn row(&mut self, place: &str, room: &Room, tree: &LightTree, bench: Bench, u: f32) -> Result<String, String> {
         let Bench { p, n } = bench;
         let answer = tree.sample(p, n, u).and_then(|drawn| match drawn {
             Some((lamp, chance)) => Ok(Some((lamp, chance, tree.pmf(p, n, lamp)?))),
@@ -48,17 +75,14 @@ impl Tally {
         });
         match answer {
             Ok(Some((lamp, drawn, named))) => {
-                self.drawn += 1;
-                let apart = apart(drawn, named);
-                self.most_apart = self.most_apart.max(apart.unwrap_or(0));
-                let apart = apart.map_or_else(|| "NaN".into(), |apart| apart.to_string());
+                let apart = self.count(place, drawn, named);
                 let [a, b] = [drawn, named].map(decimal);
                 let [c, d] = [drawn, named].map(f32::to_bits);
-                Ok(format!("{lamp:>5} {:>5}  {a:<14} {b:<14} {c:08x} {d:08x} {apart:>5}", room.line(lamp)))
+                Ok(format!("{lamp:>5} {:>5}  {a:<14} {b:<14} {c:08x} {d:08x} {apart:>6}", room.line(lamp)))
             }
             Ok(None) => {
                 self.none += 1;
-                Ok(format!("{:>5} {:>5}  {:<14} {:<14} {:<8} {:<8} {:>5}", "none", "-", "-", "-", "-", "-", "-"))
+                Ok(format!("{:>5} {:>5}  {:<14} {:<14} {:<8} {:<8} {:>6}", "none", "-", "-", "-", "-", "-", "-"))
             }
             Err(refusal) => {
                 self.refused += 1;
@@ -67,15 +91,34 @@ impl Tally {
         }
     }
 
-    /// The last line of a report.
+    /// The last lines of a report: how the rows ended and, where some have both chances, how far these part.
     pub fn summary(&self, one: &str, more: &str) -> String {
         let rows = counted(self.rows(), one, more);
-        let mut line = format!("# {rows}: {} drawn, {} none, {} refused", self.drawn, self.none, self.refused);
-        if self.drawn > 0 {
-            let digits = counted(self.most_apart as usize, "last digit", "last digits");
-            let _ = write!(line, "; the chances part by at most {digits}");
+        let ended = format!("# {rows}: {} drawn, {} none, {} refused", self.drawn, self.none, self.refused);
+        if self.drawn > 0 { format!("{ended}\n# {}", self.parted()) } else { ended }
+    }
+
+    fn parted(&self) -> String {
+        let wholly = match self.wholly {
+            0 => "no row parts wholly".into(),
+            1 => format!("1 row parts wholly, {}", self.first_wholly),
+            rows => format!("{rows} rows part wholly, first {}", self.first_wholly),
+        };
+        let ((floats, farthest), (relative, widest)) = (&self.floats, &self.relative);
+        if *floats > 0 {
+            let floats = counted(*floats as usize, "float", "floats");
+            let others = if self.wholly > 0 { "of the others " } else { "" };
+            let relative = rounded(*relative);
+            format!(
+                "{wholly}; {others}the greatest distance is {floats} ({farthest}), the greatest relative difference {relative} ({widest})"
+            )
+        } else if self.wholly == 0 {
+            "both chances are the same in every row".into()
+        } else if self.wholly < self.drawn {
+            format!("{wholly}; in the others both chances are the same")
+        } else {
+            wholly
         }
-        line
     }
 }
 

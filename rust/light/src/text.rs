@@ -119,7 +119,12 @@ pub fn decimal(figure: f32) -> String {
     }
 }
 
-/// The same; a NaN or an infinity as its word.
+/// About a number, in two digits.
+pub fn rounded(figure: f64) -> String {
+    format!("{figure:.1e}").parse().map_or_else(|_| figure.to_string(), decimal)
+}
+
+/// The shortest decimal; a NaN or an infinity as its word.
 pub fn decimal_or_word(figure: f32) -> String {
     if figure.is_finite() { decimal(figure) } else { format!("0x{:08x}", figure.to_bits()) }
 }

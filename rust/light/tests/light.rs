@@ -113,9 +113,13 @@ fn report() {
 
 const PAIR: &str = "point 0 0 0 1 1\npoint 2 0 0 1 1\n";
 
+fn temporary(name: &str) -> std::path::PathBuf {
+    std::env::temp_dir().join(format!("light-{}-{name}", std::process::id()))
+}
+
 /// A room of two bulbs, on standard input, with benches in a file.
 fn pair(name: &str, benches: &[u8]) -> Output {
-    let path = std::env::temp_dir().join(format!("light-{}-{name}", std::process::id()));
+    let path = temporary(name);
     std::fs::write(&path, benches).unwrap();
     let output = light(&["report", "-", path.to_str().unwrap()], PAIR);
     std::fs::remove_file(path).unwrap();
@@ -137,15 +141,16 @@ fn refused_benches() {
     let output = pair("refused", benches.as_bytes());
     let expected = "\
 # standard input: 2 lamps, 2 of them with power
-# bench  lamp  line  drawn          named          bits     bits     apart  sum of named
-      1     0     1  0.5            0.5            3f000000 3f000000     0  1.0000000
-      2     1     2  0.5            0.5            3f000000 3f000000     0  1.0000000
+# bench  lamp  line  drawn          named          bits     bits      apart  sum of named
+      1     0     1  0.5            0.5            3f000000 3f000000      0  1.0000000
+      2     1     2  0.5            0.5            3f000000 3f000000      0  1.0000000
       3 refused 11: u is not a number from 0 to 1
-      5     1     2  0.5            0.5            3f000000 3f000000     0  1.0000000
+      5     1     2  0.5            0.5            3f000000 3f000000      0  1.0000000
       6 refused 5: a coordinate or another figure is not finite, or a power overflows
       7 refused 7: a direction or a normal has no length, or one that is not finite, or the point is the centre of a box
-      8     0     1  0.5            0.5            3f000000 3f000000     0  1.0000000
-# 7 benches: 4 drawn, 0 none, 3 refused; the chances part by at most 0 last digits
+      8     0     1  0.5            0.5            3f000000 3f000000      0  1.0000000
+# 7 benches: 4 drawn, 0 none, 3 refused
+# both chances are the same in every row
 ";
     assert_eq!((output.status.code(), text(&output.stdout).as_str()), (Some(0), expected));
 }
@@ -155,21 +160,59 @@ fn refused_benches() {
 fn none() {
     let spots = "spot 0 0 2  0 0 1  9 1  0.9 0.8\nspot 3 0 2  0 0 1  9 1  0.9 0.8\n";
     let report = good(&["draw", "-", "1 0 0 -", "0", "1"], spots);
-    let row = "   none     -  -              -              -        -            -";
+    let row = "   none     -  -              -              -        -             -";
     assert_eq!(report.lines().nth(1), Some(format!("      0 {}", &row[2..]).as_str()));
     assert!(report.contains("# 2 draws: 0 drawn, 2 none, 0 refused\n# sum of all named chances: 0.0000000\n"), "{report}");
     assert!(good(&["draw", "-", "1 0 0 -", "0"], "").contains("# 1 draw: 0 drawn, 1 none, 0 refused\n"));
 }
 
-/// Where a total of weights is infinite the chances part grossly.
+/// The rows of draws for a bench, with single spaces, and the line that says how far their chances part.
+fn rows(room: &str, bench: &str, us: &[&str]) -> (Vec<String>, String) {
+    let report = good(&[&["draw", "-", bench][..], us].concat(), room);
+    let one_space = |line: &str| line.split_whitespace().collect::<Vec<_>>().join(" ");
+    let (rows, said): (Vec<&str>, Vec<&str>) = report.lines().skip(1).partition(|line| !line.starts_with('#'));
+    assert_eq!(said.len(), 3, "{report}");
+    (rows.into_iter().map(one_space).collect(), said[1].into())
+}
+
+/// Where a total of weights is infinite the chances can part wholly: one is NaN, or 0 beside 1.
 #[test]
-fn grossly() {
-    let report = good(&["draw", "-", "0 0 0x3a83126f -", "0.5"], "point 0 0 0 2.387e37 1\npoint 2 0 0 1 1\n");
-    let row: Vec<&str> = report.lines().nth(1).unwrap().split_whitespace().collect();
-    assert_eq!(row, ["0.5", "1", "2", "NaN", "0", "7fc00000", "00000000", "NaN"]);
-    let report = good(&["draw", "-", "1 0 0 -", "0.5"], "point 0 0 0 2.387e37 1\npoint 2 0 0 2.387e37 1\n");
-    let row: Vec<&str> = report.lines().nth(1).unwrap().split_whitespace().collect();
-    assert_eq!(row, ["0.5", "1", "2", "1", "0", "3f800000", "00000000", "1065353216"]);
+fn wholly() {
+    let (near, between) = ("0 0 0x3a83126f -", "1 0 0 -");
+    let (huge, one) = ("2.387e37", "1");
+    let room = |a: &str, b: &str, x: u32| format!("point 0 0 0 {a} 1\npoint {x} 0 0 {b} 1\n");
+    for (room, bench, figures) in [
+        (room(huge, one, 2), near, "NaN 0 7fc00000 00000000"),
+        (room(huge, huge, 2), between, "1 0 3f800000 00000000"),
+        // an infinite weight at the right, and at both
+        (room(one, huge, 0), near, "1 NaN 3f800000 7fc00000"),
+        (room(huge, huge, 0), near, "NaN NaN 7fc00000 7fc00000"),
+    ] {
+        let expected = (vec![format!("0.5 1 2 {figures} wholly")], "# 1 row parts wholly, u 0.5".into());
+        assert_eq!(rows(&room, bench, &["0.5"]), expected, "{room}");
+    }
+    let twice = rows(&room(huge, one, 2), near, &["0.25", "1"]);
+    assert_eq!(twice.1, "# 2 rows part wholly, first u 0.25");
+
+    // among other benches, by their lines
+    let path = temporary("wholly");
+    std::fs::write(&path, format!("\n{near} 0.5\n1 0 1 - 0.5\n{near} 1\n")).unwrap();
+    let report = good(&["report", "-", path.to_str().unwrap()], &room(huge, one, 2));
+    let last: Vec<&str> = report.lines().skip(5).collect();
+    let others = "# 2 rows part wholly, first bench 2; in the others both chances are the same";
+    assert_eq!(last, ["# 3 benches: 3 drawn, 0 none, 0 refused", others]);
+    std::fs::remove_file(path).unwrap();
+}
+
+/// A right branch whose share is tiny: the draw's is 1 less the left one's, and by name it is a third less.
+#[test]
+fn tiny_share() {
+    let (rows, parted) = rows("point 0 0 0 1 1\npoint 2 0 0 1.2e-7 1\n", "1 0 1 -", &["0.5", "1"]);
+    assert_eq!(rows[0], "0.5 0 1 0.9999998 0.9999998 3f7ffffd 3f7ffffd 0");
+    assert_eq!(rows[1], "1 1 2 1.7881393e-07 1.1999998e-07 34400000 3400d958 4138664");
+    let expected =
+        "# no row parts wholly; the greatest distance is 4138664 floats (u 1), the greatest relative difference 0.33 (u 1)";
+    assert_eq!(parted, expected);
 }
 
 /// A bench at the centre of a box of two lamps: some u are refused, others draw, and not every lamp has a chance by name.
@@ -186,11 +229,12 @@ fn centre_of_a_box() {
 #[test]
 fn draw() {
     let expected = "\
-#     u  lamp  line  drawn          named          bits     bits     apart
-   0.25     0     1  0.5            0.5            3f000000 3f000000     0
-      1     1     2  0.5            0.5            3f000000 3f000000     0
+#     u  lamp  line  drawn          named          bits     bits      apart
+   0.25     0     1  0.5            0.5            3f000000 3f000000      0
+      1     1     2  0.5            0.5            3f000000 3f000000      0
 0x3f800001 refused 11: u is not a number from 0 to 1
-# 3 draws: 2 drawn, 0 none, 1 refused; the chances part by at most 0 last digits
+# 3 draws: 2 drawn, 0 none, 1 refused
+# both chances are the same in every row
 # sum of all named chances: 1.0000000
 ";
     assert_eq!(good(&["draw", "-", "1 0 1  -", "0.25", "1", "0x3f800001"], PAIR), expected);

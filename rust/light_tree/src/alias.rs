@@ -13,7 +13,7 @@ use crate::{MAX_LAMPS, Refusal, sys};
 pub struct PowerAliasBin {
     /// Below this the bin's own place is drawn, from it on its alias.
     pub q: f32,
-    /// The weight's share of the sum.
+    /// The weight's share of the sum, 0 where that overflows.
     pub p: f32,
     /// The other place, [`INVALID_INDEX`](crate::INVALID_INDEX) where q is 1.
     pub alias: u32,
@@ -21,7 +21,8 @@ pub struct PowerAliasBin {
 
 /// An alias table: draws by weight alone, as of lamps by their power, with one look.
 ///
-/// To draw, pick a bin, each alike, and a number from 0 to below 1: below q the bin's own place is drawn, else its alias.
+/// To draw, pick a bin, each alike, and a number from 0 to below 1: below q the bin's own place is drawn, else its alias. Weights whose
+/// sum overflows f32 are drawn alike: each bin has p 0 and q 1, as in pbrt-r4.
 ///
 /// ```
 /// use light_tree::{AliasTable, INVALID_INDEX};
@@ -29,6 +30,8 @@ pub struct PowerAliasBin {
 /// let table = AliasTable::build(&[1.0, 3.0])?;
 /// assert_eq!(table.bins().iter().map(|bin| bin.p).collect::<Vec<_>>(), [0.25, 0.75]);
 /// assert_eq!((table.bins()[1].q, table.bins()[1].alias), (1.0, INVALID_INDEX));
+/// let past_the_largest = AliasTable::build(&[f32::MAX, f32::MAX])?;
+/// assert!(past_the_largest.bins().iter().all(|bin| (bin.q, bin.p, bin.alias) == (1.0, 0.0, INVALID_INDEX)));
 /// # Ok::<(), light_tree::Refusal>(())
 /// ```
 #[derive(Clone, Debug, PartialEq)]

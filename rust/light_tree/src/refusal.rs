@@ -17,7 +17,7 @@ use std::fmt;
 #[derive(Clone, Copy, Debug, Eq, Hash, PartialEq)]
 #[repr(u32)]
 pub enum Refusal {
-    /// 1: a length or a layout is wrong, a kind or a side is unknown, or the lights are not as many as the bounds.
+    /// 1: a length or a layout is wrong, a side is unknown in a block, or the lights are not as many as the bounds.
     Ragged = 1,
     /// 2: over 4,096 lamps or weights, over 8,191 nodes, or over 2^20 words.
     Crowded = 2,
@@ -29,7 +29,8 @@ pub enum Refusal {
     NotFinite = 5,
     /// 6: a box has a min above its max.
     Inverted = 6,
-    /// 7: a direction or a normal has no length, or one that cannot be divided by; or the point is the centre of a lamp's box.
+    /// 7: a direction or a normal has no length, or one that cannot be divided by; or the point is the centre of a box, a lamp's or a
+    /// fork's, that is more than a point.
     NoDirection = 7,
     /// 8: an emission, intensity, scale, weight, power or cosine is out of its range.
     OutOfRange = 8,

@@ -9,8 +9,8 @@
 
 #![allow(unsafe_code)]
 
-use crate::PowerAliasBin;
 use crate::refusal::Refusal;
+use crate::{Bounds3, PowerAliasBin};
 
 #[cfg(not(target_endian = "little"))]
 compile_error!("the light tree's words are little-endian, and the library is for x86-64");
@@ -49,8 +49,12 @@ unsafe extern "C" {
         nodes_len: usize,
         k: usize,
         present: u32,
-        all: *const u32,
-        all_len: usize,
+        min_x: f32,
+        min_y: f32,
+        min_z: f32,
+        max_x: f32,
+        max_y: f32,
+        max_z: f32,
         out: *mut u8,
         out_len: usize,
     ) -> u64;
@@ -144,12 +148,13 @@ pub(crate) fn pmf(nodes: &[u32], table: &[u32], p: [f32; 3], n: [f32; 3], handle
 }
 
 /// Nodes to packed rows of eight words, the header first: how many words, or none where there is no tree.
-pub(crate) fn pack(nodes: &[u32], k: usize, all: Option<[u32; 6]>, out: &mut [[u32; 8]]) -> Result<Option<usize>, Refusal> {
+pub(crate) fn pack(nodes: &[u32], k: usize, all: Option<Bounds3>, out: &mut [[u32; 8]]) -> Result<Option<usize>, Refusal> {
     let nodes = bytes(nodes);
-    let (present, all) = (all.is_some().into(), all.unwrap_or_default());
+    let present = all.is_some().into();
+    let Bounds3 { min: [a, b, c], max: [d, e, f] } = all.unwrap_or(Bounds3 { min: [0.0; 3], max: [0.0; 3] });
     let (out, out_len) = (out.as_mut_ptr().cast(), 32 * out.len());
     // SAFETY: as said above.
-    let answer = unsafe { light_pack(nodes.as_ptr(), nodes.len(), k, present, all.as_ptr(), all.len(), out, out_len) };
+    let answer = unsafe { light_pack(nodes.as_ptr(), nodes.len(), k, present, a, b, c, d, e, f, out, out_len) };
     match answer >> 32 {
         0 => Ok(Some(answer as usize)),
         1 => Ok(None),

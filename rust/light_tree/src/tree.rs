@@ -262,9 +262,12 @@ impl LightTree {
     }
 
     /// Draws a lamp for a point p and a normal n there, (0, 0, 0) for none, by a number u from 0 to 1: its handle and the chance with
-    /// which it is drawn. None where nothing shines there. Nothing is allocated.
+    /// which it is drawn. None where there is no lamp with power, or where the draw comes to a fork neither side of which shines
+    /// there. Nothing is allocated.
     ///
-    /// A lone lamp is drawn with chance 1, whatever the point. The chance is NaN where weights overflow.
+    /// A lone lamp is drawn with chance 1, whatever the point. Else the chance is the product of the shares taken at the forks, rounded:
+    /// x / (x + y) at the left of weights x and y, 1 less that at the right. Where x + y overflows the right is taken, with share 1, or
+    /// with NaN where x itself is infinite.
     ///
     /// ```
     /// # use light_tree::{Lamp, LightTree, Refusal};
@@ -278,10 +281,12 @@ impl LightTree {
         sys::sample(&self.nodes, p, n, u)
     }
 
-    /// The chance with which [`sample`](LightTree::sample) draws a lamp, from its leaf up to the root. It is 0 for a lamp without power
-    /// and for a handle past the last. Nothing is allocated.
+    /// The chance with which [`sample`](LightTree::sample) draws a lamp, from its leaf up to the root. It is 0 for a lamp without power,
+    /// for a handle past the last, and where at a fork on the way neither side shines there. Nothing is allocated.
     ///
-    /// Both chances multiply roundings, in opposite order, so their last digits can part.
+    /// Both chances multiply rounded shares, in opposite order, and by name the right one's is y / (x + y). So they part: most in their
+    /// last digits, by more where a right share is tiny. Where x + y overflows the share by name is 0, or NaN for a side whose own weight
+    /// is infinite.
     ///
     /// ```
     /// # use light_tree::{Lamp, LightTree};
@@ -311,7 +316,7 @@ impl LightTree {
     pub fn pack(&self) -> Result<Option<PackedLightBVH>, Refusal> {
         let nodes = self.len();
         let mut rows = vec![[0; LIGHT_BVH_NODE_WORDS]; if nodes == 0 { 0 } else { 1 + nodes }];
-        let packed = sys::pack(&self.nodes, self.k, self.all_bounds.map(Bounds3::to_words), &mut rows)?;
+        let packed = sys::pack(&self.nodes, self.k, self.all_bounds, &mut rows)?;
         Ok(packed.map(|_| {
             let header_words = rows.remove(0);
             PackedLightBVH { header_words, node_words: rows, handle_to_leaf: self.table.clone() }

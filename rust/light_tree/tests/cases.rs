@@ -89,7 +89,7 @@ fn lone_lamp() {
     assert_eq!(tree.pmf(BETWEEN, NO_NORMAL, 0), Ok(0.0));
 }
 
-/// Where a total of weights is infinite the two chances part grossly, as in pbrt-r4.
+/// Where a total of weights is infinite the two chances can part grossly, as in pbrt-r4.
 #[test]
 fn infinite_totals() {
     let tree = LightTree::build(&[bulb([0.0; 3], HUGE), bulb([2.0, 0.0, 0.0], 1.0)]).unwrap();

@@ -1,4 +1,4 @@
-//! The declarations of `src/sys.rs` are those of the header.
+//! The declarations in Rust are those of the header: of the crate, of its tests and of the trials.
 
 /// Name, types of the arguments, type of the answer.
 type Function = (String, Vec<String>, String);
@@ -42,23 +42,25 @@ fn header() -> Vec<Function> {
     declarations.map(function).collect()
 }
 
-fn sys() -> Vec<Function> {
-    let text = include_str!("../src/sys.rs");
+/// The functions that a text of Rust declares.
+fn declared(text: &str) -> Vec<Function> {
     let start = text.find("unsafe extern \"C\" {").unwrap();
     let block = one_line(&text[start..start + text[start..].find("\n}").unwrap()]);
     let declarations = block.split("fn ").skip(1);
     let function = |declaration: &str| {
         let (name, rest) = declaration.split_once('(').unwrap();
-        let (arguments, answer) = rest.split_once(") -> ").unwrap();
+        let (arguments, answer) = rest.split_once(';').unwrap().0.split_once(") -> ").unwrap();
         let arguments = arguments.split(',').map(str::trim).filter(|argument| !argument.is_empty());
         let types = arguments.map(|argument| argument.split_once(": ").unwrap().1.into()).collect();
-        (name.into(), types, answer.trim().trim_end_matches(';').into())
+        (name.into(), types, answer.into())
     };
     declarations.map(function).collect()
 }
 
 #[test]
 fn declarations() {
-    assert_eq!(sys(), header());
-    assert_eq!(sys().len(), 6);
+    for text in [include_str!("../src/sys.rs"), include_str!("library.rs"), include_str!("../../trials/src/light_c.rs")] {
+        assert_eq!(declared(text), header());
+    }
+    assert_eq!(header().len(), 6);
 }

@@ -38,8 +38,12 @@ unsafe extern "C" {
         nodes_len: usize,
         k: usize,
         present: u32,
-        all: *const u32,
-        all_len: usize,
+        min_x: f32,
+        min_y: f32,
+        min_z: f32,
+        max_x: f32,
+        max_y: f32,
+        max_z: f32,
         out: *mut u8,
         out_len: usize,
     ) -> u64;
@@ -236,7 +240,8 @@ fn compare(random: &mut Random, tree: &LightTree, bvh: &pbrt::LightBVH, built: &
     let mut out = vec![0xab; if nodes.is_empty() { 0 } else { 32 + nodes.len() / 2 }];
     let present = u32::from(*k > 0);
     let (len, out_len) = (nodes.len(), out.len());
-    let answer = unsafe { light_pack(nodes.as_ptr(), len, *k, present, all.as_ptr(), 6, out.as_mut_ptr(), out_len) };
+    let [a, b, c, d, e, f] = all.map(f32::from_bits);
+    let answer = unsafe { light_pack(nodes.as_ptr(), len, *k, present, a, b, c, d, e, f, out.as_mut_ptr(), out_len) };
     let packed = tree.pack();
     assert_eq!(packed, pbrt::pack_light_bvh(bvh));
     match answer >> 32 {

@@ -3,9 +3,11 @@
 
 pub mod absent;
 pub mod blocks;
+pub mod both;
 pub mod cases;
 pub mod functions;
 pub mod lent;
+pub mod light_c;
 pub mod light_runs;
 pub mod lists;
 #[cfg(reference)]

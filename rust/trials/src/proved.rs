@@ -1,9 +1,11 @@
-//! The proved functions: the one place that declares what the archives export, `light_c` for whoever links it and `parts_c` for the
-//! tests alone.
+//! The proved functions behind safe names: those of `light_c`, which whoever links it calls, and those of `parts_c`, for the tests alone,
+//! which are declared here.
 
+use crate::light_c::{light_alias_table, light_bounds_block, light_build, light_pack, light_pmf, light_sample};
 use crate::packing::{Corners, Packed};
 use crate::records::Query;
 use crate::stored::PATTERN;
+use crate::trees::Trays;
 use crate::walks::{Chance, Drawn};
 
 // SAFETY: nothing checks these lines against the Rattle source. There each function is proved for every input, so those on
@@ -70,60 +72,8 @@ unsafe extern "C" {
     #[link_name = "bounds_importance"]
     fn importance(record: *const u32, len: usize, query: *const u32, query_len: usize) -> u64;
 
-    #[link_name = "light_bounds_block"]
-    fn build_light_bounds(list: *const u32, len: usize, block: *mut u32, block_len: usize) -> u32;
     #[link_name = "lamps_check_block"]
     fn check_block(block: *const u32, len: usize) -> u32;
-    #[link_name = "light_alias_table"]
-    fn build_power_alias_table(
-        weights: *const u32,
-        len: usize,
-        bins: *mut u32,
-        bins_len: usize,
-        work: *mut u32,
-        work_len: usize,
-    ) -> u32;
-    #[link_name = "light_build"]
-    fn build_light_bvh(
-        lights: usize,
-        block: *const u32,
-        len: usize,
-        nodes: *mut u32,
-        nodes_len: usize,
-        table: *mut u32,
-        table_len: usize,
-        work: *mut u32,
-        work_len: usize,
-        answer: *mut u32,
-        answer_len: usize,
-    ) -> u32;
-    #[link_name = "light_sample"]
-    fn sample(nodes: *const u8, len: usize, px: f32, py: f32, pz: f32, nx: f32, ny: f32, nz: f32, u: f32) -> u64;
-    #[link_name = "light_pmf"]
-    fn pmf(
-        nodes: *const u8,
-        len: usize,
-        table: *const u8,
-        table_len: usize,
-        px: f32,
-        py: f32,
-        pz: f32,
-        nx: f32,
-        ny: f32,
-        nz: f32,
-        handle: u32,
-    ) -> u64;
-    #[link_name = "light_pack"]
-    fn pack_light_bvh(
-        nodes: *const u8,
-        len: usize,
-        k: usize,
-        present: u32,
-        all: *const u32,
-        all_len: usize,
-        out: *mut u8,
-        out_len: usize,
-    ) -> u64;
 }
 
 /// The word at a place, 0 past the last whole word.
@@ -178,7 +128,7 @@ pub fn bounds_importance(record: &[u32], query: &[u32]) -> Result<u32, u32> {
 
 /// The records of a lamp list, written to the front of `block`.
 pub fn lamps_build_light_bounds(list: &[u32], block: &mut [u32]) -> Result<(), u32> {
-    answer(unsafe { build_light_bounds(list.as_ptr(), list.len(), block.as_mut_ptr(), block.len()) })
+    answer(unsafe { light_bounds_block(list.as_ptr(), list.len(), block.as_mut_ptr(), block.len()) })
 }
 
 /// The check of a bounds block's layout.
@@ -190,7 +140,7 @@ pub fn lamps_check_block(block: &[u32]) -> Result<(), u32> {
 pub fn alias_build_power_alias_table(weights: &[u32], bins: &mut [u32], work: &mut [u32]) -> Result<(), u32> {
     let (bins_len, work_len) = (bins.len(), work.len());
     answer(unsafe {
-        build_power_alias_table(weights.as_ptr(), weights.len(), bins.as_mut_ptr(), bins_len, work.as_mut_ptr(), work_len)
+        light_alias_table(weights.as_ptr(), weights.len(), bins.as_mut_ptr(), bins_len, work.as_mut_ptr(), work_len)
     })
 }
 
@@ -203,38 +153,18 @@ fn answer(number: u32) -> Result<(), u32> {
     }
 }
 
-/// k and the powered lamps' box, or the refusal's number.
-pub fn tree_build_light_bvh(
-    light_count: u32,
-    block: &[u32],
-    nodes: &mut [u32],
-    table: &mut [u32],
-    work: &mut [u32],
-) -> Result<(u32, Option<[u32; 6]>), u32> {
-    let mut summary = [0; 7];
-    let number = unsafe {
-        build_light_bvh(
-            light_count as usize,
-            block.as_ptr(),
-            block.len(),
-            nodes.as_mut_ptr(),
-            nodes.len(),
-            table.as_mut_ptr(),
-            table.len(),
-            work.as_mut_ptr(),
-            work.len(),
-            summary.as_mut_ptr(),
-            summary.len(),
-        )
-    };
-    let [k, around @ ..] = summary;
-    answer(number).map(|()| (k, (k > 0).then_some(around)))
+/// The tree of a block, written to the front of each tray.
+pub fn tree_build_light_bvh(light_count: u32, block: &[u32], trays: Trays) -> Result<(), u32> {
+    let (lights, len) = (light_count as usize, block.len());
+    let lens = trays.each_ref().map(|tray| tray.len());
+    let [a, b, c, d] = trays.map(|tray| tray.as_mut_ptr());
+    answer(unsafe { light_build(lights, block.as_ptr(), len, a, lens[0], b, lens[1], c, lens[2], d, lens[3]) })
 }
 
 /// A draw over a tree's nodes as bytes.
 pub fn sampler_sample(nodes: &[u8], query: &Query, u: f32) -> Drawn {
     let [px, py, pz, nx, ny, nz] = query.map(f32::from_bits);
-    let answer = unsafe { sample(nodes.as_ptr(), nodes.len(), px, py, pz, nx, ny, nz, u) };
+    let answer = unsafe { light_sample(nodes.as_ptr(), nodes.len(), px, py, pz, nx, ny, nz, u) };
     let (high, low) = ((answer >> 32) as u32, answer as u32);
     match high >> 30 {
         0 => Ok(Some((high, low))),
@@ -247,7 +177,7 @@ pub fn sampler_sample(nodes: &[u8], query: &Query, u: f32) -> Drawn {
 /// The chance of a lamp by its handle, over a tree's nodes and table as bytes.
 pub fn sampler_pmf(nodes: &[u8], table: &[u8], query: &Query, handle: u32) -> Chance {
     let [px, py, pz, nx, ny, nz] = query.map(f32::from_bits);
-    let answer = unsafe { pmf(nodes.as_ptr(), nodes.len(), table.as_ptr(), table.len(), px, py, pz, nx, ny, nz, handle) };
+    let answer = unsafe { light_pmf(nodes.as_ptr(), nodes.len(), table.as_ptr(), table.len(), px, py, pz, nx, ny, nz, handle) };
     match answer >> 32 {
         0 => Ok(answer as u32),
         1 => Err(answer as u32),
@@ -255,12 +185,12 @@ pub fn sampler_pmf(nodes: &[u8], table: &[u8], query: &Query, handle: u32) -> Ch
     }
 }
 
-/// The packed words of a tree's nodes as bytes, written to the front of `out`: how many they are. The box is six words, and there where
-/// `present` is not 0; less than six words are refusal 1.
-pub fn packed_by_words(nodes: &[u8], k: usize, present: u32, all: &[u32], out: &mut [u8]) -> Packed {
-    let (nodes_len, out_len) = (nodes.len(), out.len());
-    let answer =
-        unsafe { pack_light_bvh(nodes.as_ptr(), nodes_len, k, present, all.as_ptr(), all.len(), out.as_mut_ptr(), out_len) };
+/// The packed words of a tree's nodes as bytes, written to the front of `out`: how many they are. The box is there where `present` is
+/// not 0.
+pub fn packed_by_value(nodes: &[u8], k: usize, present: u32, all: Corners, out: &mut [u8]) -> Packed {
+    let (len, out_len) = (nodes.len(), out.len());
+    let [a, b, c, d, e, f] = all.map(f32::from_bits);
+    let answer = unsafe { light_pack(nodes.as_ptr(), len, k, present, a, b, c, d, e, f, out.as_mut_ptr(), out_len) };
     let (high, low) = ((answer >> 32) as u32, answer as u32);
     match high {
         0 => Ok(Some(low as usize)),
@@ -270,7 +200,7 @@ pub fn packed_by_words(nodes: &[u8], k: usize, present: u32, all: &[u32], out: &
     }
 }
 
-/// The same of a box or its absence, where its words, which make a box too, are not to be read.
+/// The same of a box or its absence, where the corners, which make a box too, are not to be read.
 pub fn packed_pack_light_bvh(nodes: &[u8], k: usize, all: Option<Corners>, out: &mut [u8]) -> Packed {
-    packed_by_words(nodes, k, all.is_some().into(), &all.unwrap_or([PATTERN; 6]), out)
+    packed_by_value(nodes, k, all.is_some().into(), all.unwrap_or([PATTERN; 6]), out)
 }

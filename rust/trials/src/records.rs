@@ -7,7 +7,7 @@ pub type Record = [u32; 13];
 /// Point 3, normal 3.
 pub type Query = [u32; 6];
 
-pub(crate) type Vector = [f32; 3];
+pub type Vector = [f32; 3];
 
 pub(crate) const SMALLEST: f32 = f32::from_bits(1);
 const BELOW_1: f32 = f32::from_bits(0x3f7f_ffff);
@@ -17,6 +17,13 @@ pub(crate) const UNFIT: [u32; 5] = [0x7fc0_0000, 0xffc0_0001, 0x7f80_0001, 0x7f8
 
 pub(crate) fn bits(v: Vector) -> [u32; 3] {
     v.map(f32::to_bits)
+}
+
+pub fn query_at(p: Vector, n: Vector) -> Query {
+    let mut query = [0; 6];
+    query[..3].copy_from_slice(&bits(p));
+    query[3..].copy_from_slice(&bits(n));
+    query
 }
 
 fn scaled(v: Vector, k: f32) -> Vector {
@@ -156,10 +163,7 @@ impl Random {
 
     /// A point among such records, and a normal of length 1.
     pub fn usual_query(&mut self) -> Query {
-        let mut query = [0; 6];
-        query[..3].copy_from_slice(&bits(self.vector(8.0)));
-        query[3..].copy_from_slice(&bits(self.unit()));
-        query
+        query_at(self.vector(8.0), self.unit())
     }
 
     /// One in forty of any bits but for the side, one in twelve damaged.

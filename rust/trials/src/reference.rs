@@ -5,7 +5,7 @@
 use crate::lists::{self, Kind, Lamp, BLOCK_RECORD};
 use crate::records::{Query, Record};
 use crate::stored::padded;
-use crate::trees::{self, Built, INTERIOR, LEAF, NODE, PAYLOAD};
+use crate::trees::{self, Trays, INTERIOR, LEAF, NODE, PAYLOAD};
 use crate::{blocks, standins, trig};
 use std::cell::Cell;
 
@@ -584,19 +584,15 @@ macro_rules! on_blocks {
             }
         }
 
-        /// The tree of a block, written to the lent nodes, with each lamp's leaf in the lent table; the lent work is left zero.
-        pub fn $build(
-            light_count: u32,
-            block: &[u32],
-            nodes: &mut [u32],
-            table: &mut [u32],
-            work: &mut [u32],
-        ) -> Result<Built, u32> {
+        /// The tree of a block, written to the lent nodes, with each lamp's leaf in the lent table, k and the box in the lent answer; the
+        /// lent work is left zero.
+        pub fn $build(light_count: u32, block: &[u32], trays: Trays) -> Result<(), u32> {
             blocks::check_counted(light_count, block)?;
             let reserves = trees::reserves(light_count as usize);
-            if [nodes.len(), table.len(), work.len()].iter().zip(reserves).any(|(lent, reserve)| *lent < reserve) {
+            if trays.iter().zip(reserves).any(|(lent, reserve)| lent.len() < reserve) {
                 return Err(SHORT_TRAY);
             }
+            let [nodes, table, work, answer] = trays;
             let bvh = $tree(block).map_err(number);
             let words = bvh.as_ref().map(|bvh| -> Vec<u32> {
                 bvh.nodes.iter().flat_map($node).chain(std::iter::repeat(0)).take(reserves[0]).collect()
@@ -604,8 +600,12 @@ macro_rules! on_blocks {
             lend(nodes, words.as_deref().map_err(|_| reserves[0]));
             lend(table, bvh.as_ref().map(|bvh| &bvh.handle_to_leaf[..]).map_err(|_| reserves[1]));
             lend(work, Err(reserves[2]));
-            let corners = |min: [f32; 3], max| std::array::from_fn(|i| standins::word([min, max][i / 3][i % 3]));
-            bvh.map(|bvh| (bvh.bounded_handles.len() as u32, bvh.all_bounds.map(|all| corners(all.min, all.max))))
+            let summary = bvh.as_ref().map(|bvh| {
+                let corners = bvh.all_bounds.map_or([0.0; 6], |all| std::array::from_fn(|i| [all.min, all.max][i / 3][i % 3]));
+                [&[bvh.bounded_handles.len() as u32], &corners.map(standins::word)[..]].concat()
+            });
+            lend(answer, summary.as_deref().map_err(|_| reserves[3]));
+            bvh.map(|_| ())
         }
     };
 }

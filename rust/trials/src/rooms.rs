@@ -2,7 +2,7 @@
 
 use crate::cases::Random;
 use crate::lists::{head, list_of, Kind};
-use crate::records::{bits, Query, Vector};
+use crate::records::{bits, query_at, Query, Vector};
 #[cfg(reference)]
 use crate::reference::native::light_bvh::LightBVH;
 use std::f32::consts::PI;
@@ -49,10 +49,7 @@ impl Room {
         } else {
             (point[2], normal[2]) = (BENCH, random.of(&[0.0, 1.0]));
         }
-        let mut query = [0; 6];
-        query[..3].copy_from_slice(&bits(point));
-        query[3..].copy_from_slice(&bits(normal));
-        query
+        query_at(point, normal)
     }
 }
 

@@ -49,12 +49,16 @@ impl Tally {
         }
     }
 
-    /// Ends the test where a case differs, or where an answer or a branch named is without a case.
+    /// Ends the test where a case differs, where an answer named or a label with a prefix named is without a case, or where no label
+    /// has the prefix.
     pub fn check(&self, answers: &[usize], prefixes: &[&str]) {
         assert!(self.differences == 0, "{} of {} differ: {:#?}", self.differences, self.cases, self.shown);
         answers.iter().for_each(|&n| assert!(self.answers[n] > 0, "no case ended in {}", ending(n)));
-        let chosen = self.labels.iter().filter(|(label, _)| prefixes.iter().any(|prefix| label.starts_with(prefix)));
-        chosen.for_each(|(label, count)| assert!(*count > 0, "no case of: {label}"));
+        for prefix in prefixes {
+            let mut chosen = self.labels.iter().filter(|(label, _)| label.starts_with(prefix)).peekable();
+            assert!(chosen.peek().is_some(), "no label begins with: {prefix}");
+            chosen.for_each(|(label, count)| assert!(*count > 0, "no case of: {label}"));
+        }
     }
 }
 

@@ -5,7 +5,7 @@
 use crate::cases::Random;
 use crate::proved;
 use crate::stored::{filled, padded, Answer, Case, PATTERN};
-use crate::trees::{self, Build, Built};
+use crate::trees::{self, built, Build, Built, ANSWER};
 use std::ops::RangeInclusive;
 
 /// Five lamps, and three words behind each reserve.
@@ -20,7 +20,8 @@ const TRAYS_AT: usize = BLOCK_AT + BLOCK;
 pub struct Stored {
     light_count: u32,
     block: Vec<u32>,
-    rooms: [usize; 3],
+    /// The last is the answer's, always whole.
+    rooms: [usize; 4],
     number: u32,
     built: Built,
     trays: [Vec<u32>; 3],
@@ -30,10 +31,11 @@ impl Stored {
     /// A case with what a function answers and writes.
     pub fn new(trees::Case { light_count, block, rooms }: trees::Case, build: Build) -> Stored {
         let mut trays = TRAYS.map(|words| vec![PATTERN; words]);
+        let mut answer = [0; ANSWER];
         let [nodes, table, work] = &mut trays;
-        let answer = build(light_count, &block, &mut nodes[..rooms[0]], &mut table[..rooms[1]], &mut work[..rooms[2]]);
-        let (number, built) = answer.map_or_else(|number| (number, (0, None)), |built| (0, built));
-        Stored { light_count, block, rooms, number, built, trays }
+        let lent = [&mut nodes[..rooms[0]], &mut table[..rooms[1]], &mut work[..rooms[2]], &mut answer];
+        let number = build(light_count, &block, lent).err().unwrap_or(0);
+        Stored { light_count, block, rooms, number, built: built(&answer), trays }
     }
 
     /// Its refusal's number, or 100 and k.
@@ -57,7 +59,7 @@ impl Answer for Stored {
         Stored {
             light_count: w[0],
             block: w[BLOCK_AT..BLOCK_AT + w[1] as usize].to_vec(),
-            rooms: [2, 3, 4].map(|at| w[at] as usize),
+            rooms: [w[2], w[3], w[4], ANSWER as u32].map(|room| room as usize),
             number: w[5],
             built: (w[6], (w[7] == 1).then(|| padded(&w[8..14]))),
             trays: [tray(0, nodes), tray(nodes, table), tray(nodes + table, work)],
@@ -65,7 +67,7 @@ impl Answer for Stored {
     }
 
     fn case(&self) -> Case {
-        let [nodes, table, work] = self.rooms.map(|room| room as u32);
+        let [nodes, table, work, _] = self.rooms.map(|room| room as u32);
         let (k, around) = self.built;
         let head = [self.light_count, self.block.len() as u32, nodes, table, work, self.number, k, around.is_some().into()];
         let block: [u32; BLOCK] = padded(&self.block);

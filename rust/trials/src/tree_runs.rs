@@ -9,19 +9,19 @@ use crate::proved;
 use crate::records::Record;
 use crate::reference::{self, marked, Branch, Branches, INVALID_INDEX, LOST_UNION};
 use crate::runs::{Tally, OWN};
-use crate::trees::{reserves, Build, Built, Case, INTERIOR, LEAF, NODE};
+use crate::trees::{built, depth, reserves, Build, Built, Case, ANSWER, INTERIOR, LEAF, NODE};
 
-/// Nodes, table and work.
-type Trays = [Lent<u32>; 3];
+/// Nodes, table, work and answer.
+type Trays = [Lent<u32>; 4];
 
-fn built(build: Build, case: &Case, [nodes, table, work]: &mut Trays) -> Result<Built, u32> {
-    build(case.light_count, &case.block, nodes.slice(), table.slice(), work.slice())
+fn call(build: Build, case: &Case, trays: &mut Trays) -> Result<(), u32> {
+    build(case.light_count, &case.block, trays.each_mut().map(Lent::slice))
 }
 
 /// What document 01 says of lent words that is not so after a call, if anything.
-fn flaw(case: &Case, before: &Trays, after: &Trays, answer: &Result<Built, u32>) -> Option<&'static str> {
-    let written = match answer {
-        Err(1..=4) => [0; 3],
+fn flaw(case: &Case, before: &Trays, after: &Trays, given: Result<(), u32>) -> Option<&'static str> {
+    let written = match given {
+        Err(1..=4) => [0; 4],
         _ => reserves(case.light_count as usize),
     };
     for ((before, after), written) in before.iter().zip(after).zip(written) {
@@ -31,13 +31,14 @@ fn flaw(case: &Case, before: &Trays, after: &Trays, answer: &Result<Built, u32>)
             return Some("a word changed that is not to be written");
         }
     }
-    let [nodes, table, work] = [0, 1, 2].map(|i| &after[i].words()[..written[i]]);
-    match answer {
+    let [nodes, table, work, answer] = [0, 1, 2, 3].map(|i| &after[i].words()[..written[i]]);
+    match given {
         Err(1..=4) => None,
         _ if work.iter().any(|word| *word != 0) => Some("the work is not zero"),
-        Ok(built) => tree_flaw(&case.block, built, nodes, table),
-        Err(_) if nodes.iter().chain(table).any(|word| *word != 0) => Some("a refusal left words"),
-        Err(number) if *number != first_refusal(&case.block).unwrap_or(LOST_UNION) => Some("another refusal comes first"),
+        Ok(()) if answer[0] == 0 && answer.iter().any(|word| *word != 0) => Some("a box without lamps"),
+        Ok(()) => tree_flaw(&case.block, &built(answer), nodes, table),
+        Err(_) if [nodes, table, answer].concat().iter().any(|word| *word != 0) => Some("a refusal left words"),
+        Err(number) if number != first_refusal(&case.block).unwrap_or(LOST_UNION) => Some("another refusal comes first"),
         Err(_) => None,
     }
 }
@@ -110,14 +111,6 @@ fn box_around<'a>(records: impl Iterator<Item = &'a &'a Record>) -> Option<[u32;
     boxes.reduce(|a, b: [u32; 6]| std::array::from_fn(|i| if passes(i, a[i], b[i]) { b[i] } else { a[i] }))
 }
 
-/// How many forks lie above the deepest node.
-pub fn depth(nodes: &[u32]) -> usize {
-    let nodes: &[[u32; NODE]] = nodes.as_chunks().0;
-    let mut depths: Vec<usize> = Vec::new();
-    nodes.iter().for_each(|node| depths.push(depths.get(node[2] as usize).map_or(0, |above| above + 1)));
-    depths.into_iter().max().unwrap_or(0)
-}
-
 /// Runs on a stack that the deepest tree fits on; a test's own of 2 MiB is too small for the reference.
 pub fn on_deep_stack<A: Send>(run: impl FnOnce() -> A + Send) -> A {
     std::thread::scope(|scope| {
@@ -145,26 +138,33 @@ const TREES: &[&str] = &[
     "order: 4 before a short room",
     "order: 3 before what a record is refused for",
     "room: more than is needed",
-    "room: nodes alone short",
-    "room: table alone short",
-    "room: nodes and table short",
-    "room: work alone short",
-    "room: nodes and work short",
-    "room: table and work short",
-    "room: all short",
-    OWN,
 ];
 
-/// All of `TREES` but the last.
-fn ways(case: &Case, after: &Trays, answer: &Result<Built, u32>, branches: Branches) -> Vec<bool> {
+/// What a short room is called, by its place.
+const ROOMS: [&str; 4] = ["nodes", "table", "work", "answer"];
+
+/// `TREES`, then which rooms are short, by a mask from 1 up, then how long the answer is, from 0 to 8.
+fn labels() -> Vec<String> {
+    let short = |mask: usize| {
+        let rooms: Vec<&str> = (0..4).filter(|i| mask >> i & 1 == 1).map(|i| ROOMS[i]).collect();
+        format!("room: short of {}", rooms.join(" and "))
+    };
+    let lengths = (0..9).map(|length| format!("answer: {length} words, {}", if length < ANSWER { "3" } else { "given" }));
+    TREES.iter().map(|label| label.to_string()).chain((1..16).map(short)).chain(lengths).collect()
+}
+
+/// Which of `labels` hold.
+fn ways(case: &Case, after: &Trays, answer: Result<(), u32>, branches: Branches) -> Vec<bool> {
     let (m, count) = (case.light_count as usize, case.block.first().map_or(0, |count| *count as usize));
     let layout = check_block(&case.block);
-    let (given, k) = (answer.is_ok(), answer.map_or(0, |(k, _)| k as usize));
-    let needed = if layout.is_ok() { reserves(count) } else { [0; 3] };
+    let given = answer.is_ok();
+    let needed = if layout.is_ok() { reserves(count) } else { [0; 4] };
     let [nodes, table] = [0, 1].map(|i| if given { &after[i].words()[..needed[i]] } else { &[] });
+    let (k, around) = if given { built(after[3].words()) } else { (0, None) };
+    let k = k as usize;
     let leaves: Vec<u32> = table.iter().copied().filter(|place| *place != INVALID_INDEX).collect();
     let refused = || records(&case.block).find(|record| reference::validate(record).is_err());
-    let short = (0..3).filter(|i| case.rooms[*i] < needed[*i]).map(|i| 1 << i).sum::<usize>();
+    let short = (0..4).filter(|i| case.rooms[*i] < needed[*i]).map(|i| 1 << i).sum::<usize>();
     let mut ways = vec![
         given && m == 0,
         given && m == 512,
@@ -176,16 +176,17 @@ fn ways(case: &Case, after: &Trays, answer: &Result<Built, u32>, branches: Branc
         k >= 16 && depth(&nodes[..NODE * (2 * k - 1)]) == k - 1,
         k > 0 && nodes[12] == 0x7f80_0000,
         k > 0 && nodes[9] == 0x7fc0_0000,
-        k > 0 && answer.is_ok_and(|(_, around)| around.is_some_and(|around| around != nodes[3..9])),
+        around.is_some_and(|around| around != nodes[3..9]),
         branches.has(Branch::DefaultSplit) && !branches.has(Branch::MiddleCut),
         matches!(answer, Err(5..=8)) && refused().is_some_and(|record| record[9] & !(1 << 31) == 0),
-        *answer == Err(2) && case.block.len() != 1 + BLOCK_RECORD * count,
-        *answer == Err(1) && layout == Err(4),
-        *answer == Err(4) && case.rooms.iter().zip(reserves(m)).any(|(room, reserve)| *room < reserve),
-        *answer == Err(3) && refused().is_some(),
-        given && (0..3).any(|i| case.rooms[i] > needed[i]),
+        answer == Err(2) && case.block.len() != 1 + BLOCK_RECORD * count,
+        answer == Err(1) && layout == Err(4),
+        answer == Err(4) && case.rooms.iter().zip(reserves(m)).any(|(room, reserve)| *room < reserve),
+        answer == Err(3) && refused().is_some(),
+        given && (0..4).any(|i| case.rooms[i] > needed[i]),
     ];
-    ways.extend((1..8).map(|which| *answer == Err(3) && short == which));
+    ways.extend((1..16).map(|which| answer == Err(3) && short == which));
+    ways.extend((0..9).map(|length| case.rooms[3] == length && answer == if length < ANSWER { Err(3) } else { Ok(()) }));
     ways
 }
 
@@ -196,17 +197,19 @@ pub fn trees(seed: u64, cases: u64) -> Tally {
 
 fn run(seed: u64, cases: u64) -> Tally {
     let mut random = Random::new(seed);
-    let mut tally = Tally::new(TREES);
+    let labels = labels();
+    let mut tally = Tally::new(&labels.iter().map(String::as_str).chain([OWN]).collect::<Vec<&str>>());
     for _ in 0..cases {
-        let case = random.tree_case();
+        let mut case = random.tree_case();
+        case.rooms[3] = random.answer_room();
         let before = case.rooms.map(|room| Lent::new(&mut random, room, word));
         let [mut after, mut own, mut ours] = [(); 3].map(|()| before.clone());
-        let (answer, branches) = marked(|| built(reference::build_light_bvh, &case, &mut after));
-        let own_answer = built(reference::native_build_light_bvh, &case, &mut own);
-        let proved = built(proved::tree_build_light_bvh, &case, &mut ours);
-        let flaw = flaw(&case, &before, &after, &answer);
+        let (answer, branches) = marked(|| call(reference::build_light_bvh, &case, &mut after));
+        let own_answer = call(reference::native_build_light_bvh, &case, &mut own);
+        let proved = call(proved::tree_build_light_bvh, &case, &mut ours);
+        let flaw = flaw(&case, &before, &after, answer);
         let same = flaw.is_none() && proved == answer && ours == after;
-        let mut more = ways(&case, &after, &answer, branches);
+        let mut more = ways(&case, &after, answer, branches);
         more.push(own_answer != answer || own != after);
         tally.case(&answer, branches, &more, same, || format!("build_light_bvh({case:08x?}): {answer:?}, {proved:?}, {flaw:?}"));
     }

@@ -12,22 +12,39 @@ pub const LEAF: u32 = 1 << 30;
 pub const INTERIOR: u32 = 2 << 30;
 pub const PAYLOAD: u32 = LEAF - 1;
 
-/// The words that build must be lent for so many lamps: nodes, table, work.
-pub fn reserves(lamps: usize) -> [usize; 3] {
-    [NODE * (2 * lamps).saturating_sub(1), lamps, 2 * lamps]
+/// The words of build's answer: k, how many lamps have power, and the box around them; zeros where k is 0.
+pub const ANSWER: usize = 7;
+
+/// The words that build must be lent for so many lamps: nodes, table, work, answer.
+pub fn reserves(lamps: usize) -> [usize; 4] {
+    [NODE * (2 * lamps).saturating_sub(1), lamps, 2 * lamps, ANSWER]
 }
 
-/// What build answers beside the words lent: k, how many lamps have power, and the box around them.
-pub type Built = (u32, Option<[u32; 6]>);
-/// A build: of the light records' count and a block, to nodes, table and work.
-pub type Build = fn(u32, &[u32], &mut [u32], &mut [u32], &mut [u32]) -> Result<Built, u32>;
+/// Nodes, table, work and answer, lent.
+pub type Trays<'a> = [&'a mut [u32]; 4];
+/// A build: of the light records' count and a block, to the trays.
+pub type Build = fn(u32, &[u32], Trays) -> Result<(), u32>;
 
-/// How many light records there are, a block, and how many words are lent for nodes, table and work.
+/// k and the box around the lamps that have power.
+pub type Built = (u32, Option<[u32; 6]>);
+
+/// What an answer's words say.
+pub fn built(answer: &[u32]) -> Built {
+    let (k, corners) = (answer[0], std::array::from_fn(|i| answer[1 + i]));
+    (k, (k > 0).then_some(corners))
+}
+
+/// The trays as slices to be lent.
+pub fn lent(trays: &mut [Vec<u32>; 4]) -> Trays<'_> {
+    trays.each_mut().map(Vec::as_mut_slice)
+}
+
+/// How many light records there are, a block, and how many words are lent for each tray.
 #[derive(Clone, Debug)]
 pub struct Case {
     pub light_count: u32,
     pub block: Vec<u32>,
-    pub rooms: [usize; 3],
+    pub rooms: [usize; 4],
 }
 
 /// Places whose sums and differences often overflow.
@@ -57,6 +74,14 @@ pub fn deepest(lamps: usize) -> Vec<Record> {
     };
     let first = all_about([-size; 3], [size; 3], 2f32.powi(-10));
     [first].into_iter().chain((0..lamps).map(lamp)).take(lamps).collect()
+}
+
+/// How many forks lie above the deepest of a tree's nodes.
+pub fn depth(nodes: &[u32]) -> usize {
+    let nodes: &[[u32; NODE]] = nodes.as_chunks().0;
+    let mut depths: Vec<usize> = Vec::new();
+    nodes.iter().for_each(|node| depths.push(depths.get(node[2] as usize).map_or(0, |above| above + 1)));
+    depths.into_iter().max().unwrap_or(0)
 }
 
 fn sorted(a: Vector, b: Vector) -> [Vector; 2] {
@@ -159,18 +184,30 @@ impl Random {
         (0..count).map(record).collect()
     }
 
-    /// How many words are lent for so many lamps: as many as are needed, more, or, for any of the three, fewer.
-    fn tree_rooms(&mut self, lamps: usize) -> [usize; 3] {
+    /// How many words are lent for so many lamps: as many as are needed, more, or, for any of the first three, fewer; of the answer as many
+    /// as are needed.
+    fn tree_rooms(&mut self, lamps: usize) -> [usize; 4] {
         let short = if self.chance(6) { 1 + self.below(7) } else { 0 };
-        let reserves = reserves(lamps);
-        [0, 1, 2].map(|i| {
-            let (reserve, more) = (reserves[i], 1 + self.below(20) as usize);
+        let mut rooms = reserves(lamps);
+        for (i, room) in rooms.iter_mut().enumerate().take(3) {
+            let (reserve, more) = (*room, 1 + self.below(20) as usize);
             let fewer = self.below(reserve.max(1) as u64) as usize;
-            match short >> i & 1 {
+            *room = match short >> i & 1 {
                 1 => self.of(&[0, fewer, reserve.saturating_sub(1)]),
                 _ => reserve + self.of(&[0, 0, 0, more]),
-            }
-        })
+            };
+        }
+        rooms
+    }
+
+    /// How many words are lent for an answer: one in eight from 0 to 8, else as many as are needed or more.
+    pub fn answer_room(&mut self) -> usize {
+        let more = 1 + self.below(20) as usize;
+        if self.chance(8) {
+            self.below(9) as usize
+        } else {
+            ANSWER + self.of(&[0, 0, 0, more])
+        }
     }
 
     /// One in eight has records that fail their check, one in eight a layout made wrong, one in sixteen another count.

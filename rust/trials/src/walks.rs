@@ -5,7 +5,7 @@ use crate::blocks::block_of;
 use crate::cases::Random;
 use crate::lists::MOST_LAMPS;
 use crate::records::{Query, Record, ABOVE_1, SMALLEST, UNFIT};
-use crate::trees::{reserves, Build, Built, INTERIOR, LEAF, NODE, PAYLOAD};
+use crate::trees::{built, lent, reserves, Build, Built, INTERIOR, LEAF, NODE, PAYLOAD};
 
 /// What a draw gives: a lamp's handle and the word of its chance, or none; or a refusal's number.
 pub type Drawn = Result<Option<(u32, u32)>, u32>;
@@ -53,10 +53,17 @@ impl Words {
 
     /// The same with k and the overall box.
     pub fn with_box(build: Build, records: &[Record]) -> Option<(Words, Built)> {
-        let [mut nodes, mut table, mut work] = reserves(records.len()).map(|reserve| vec![0; reserve]);
-        let built = build(records.len() as u32, &block_of(records), &mut nodes, &mut table, &mut work).ok()?;
+        Words::of_block(build, &block_of(records)).ok()
+    }
+
+    /// The same of a block that has a first word.
+    pub fn of_block(build: Build, block: &[u32]) -> Result<(Words, Built), u32> {
+        let mut trays = reserves(block[0] as usize).map(|reserve| vec![0; reserve]);
+        build(block[0], block, lent(&mut trays))?;
+        let [mut nodes, table, _, answer] = trays;
+        let built = built(&answer);
         nodes.truncate(reserves(built.0 as usize)[0]);
-        Some((Words { nodes: nodes.as_chunks().0.to_vec(), table }, built))
+        Ok((Words { nodes: nodes.as_chunks().0.to_vec(), table }, built))
     }
 
     pub fn tree(&self) -> Tree {

@@ -6,8 +6,8 @@ use coltoctober::lists::BLOCK_RECORD;
 use coltoctober::proved::{lamps_build_light_bounds, sampler_pmf, sampler_sample, tree_build_light_bvh};
 use coltoctober::records::{Query, Record};
 use coltoctober::rooms::Room;
-use coltoctober::trees::{all_about, reserves};
-use coltoctober::walks::bytes;
+use coltoctober::trees::all_about;
+use coltoctober::walks::{bytes, Words};
 use std::io::Write;
 use std::process::{Command, Stdio};
 
@@ -36,10 +36,8 @@ struct Tree {
 
 impl Tree {
     fn of(block: &[u32]) -> Tree {
-        let [mut nodes, mut table, mut work] = reserves(block[0] as usize).map(|reserve| vec![0; reserve]);
-        let (k, _) = tree_build_light_bvh(block[0], block, &mut nodes, &mut table, &mut work).unwrap();
-        nodes.truncate(reserves(k as usize)[0]);
-        Tree { nodes: bytes(&nodes), table: bytes(&table) }
+        let (words, _) = Words::of_block(tree_build_light_bvh, block).unwrap();
+        Tree { nodes: bytes(words.nodes.as_flattened()), table: bytes(&words.table) }
     }
 
     fn line(&self, query: &Query, u: u32) -> String {

@@ -1,7 +1,12 @@
 //! The differential runs of the gate: the proved draws and chances by name against the oracle over built trees and damaged words, their
-//! stored answers, cases known by hand; and the search for a violation of demand 3.
+//! stored answers; and the search for a violation of demand 3. What is known by hand is asked of the proved functions, and of the
+//! oracle where it is there.
 
+use coltoctober::both::{build_light_bvh, importance, pmf, sample};
 use coltoctober::light_runs::{Search, Slip, Violation, SLIPS};
+use coltoctober::records::{query_at, Query, Record};
+use coltoctober::trees::all_about;
+use coltoctober::walks::{Chance, Drawn, Tree, Words, MOST_NODES, NODE_BYTES};
 
 /// The oracle's stored answers, with no need of the reference.
 #[test]
@@ -36,8 +41,6 @@ fn demand_3() {
 #[test]
 fn shapes() {
     use coltoctober::light_runs::shape_flaw;
-    use coltoctober::trees::all_about;
-    use coltoctober::walks::Words;
 
     let records = [0.0, 1.0, 3.0, 7.0].map(|x| all_about([x; 3], [x + 1.0; 3], if x == 3.0 { 0.0 } else { 1.0 }));
     let sound = Words::built(coltoctober::proved::tree_build_light_bvh, &records).unwrap();
@@ -68,254 +71,233 @@ fn shapes() {
     );
 }
 
-#[cfg(reference)]
-mod by_hand {
-    use coltoctober::proved::{sampler_pmf, sampler_sample};
-    use coltoctober::records::{Query, Record};
-    use coltoctober::reference::build_light_bvh;
-    use coltoctober::trees::all_about;
-    use coltoctober::walk_oracle::Decoded;
-    use coltoctober::walks::{Chance, Drawn, Tree, Words};
+const HALF: u32 = 0x3f00_0000;
+const NAN: u32 = 0x7fc0_0000;
 
-    pub const HALF: u32 = 0x3f00_0000;
-    pub const NAN: u32 = 0x7fc0_0000;
+fn point(position: [f32; 3], phi: f32) -> Record {
+    all_about(position, position, phi)
+}
 
-    pub fn point(position: [f32; 3], phi: f32) -> Record {
-        all_about(position, position, phi)
+fn words(records: &[Record]) -> Words {
+    Words::built(build_light_bvh, records).unwrap()
+}
+
+/// Document 01's pair.
+fn the_pair() -> Words {
+    words(&[point([0.0; 3], 1.0), point([2.0, 0.0, 0.0], 1.0)])
+}
+
+/// Six lamps of a row, a fork at each even place but the last.
+fn row() -> Words {
+    words(&[0.0, 1.0, 2.0, 4.0, 8.0, 16.0].map(|x| point([x, 0.0, 0.0], 1.0)))
+}
+
+fn changed(words: &Words, changes: &[(usize, usize, u32)]) -> Words {
+    let mut words = words.clone();
+    changes.iter().for_each(|(node, word, to)| words.nodes[*node][*word] = *to);
+    words
+}
+
+#[track_caller]
+fn drawn(tree: &Tree, query: &Query, u: u32, expected: Drawn) {
+    assert_eq!(sample(tree, query, f32::from_bits(u)), expected, "u {u:08x}, {} bytes", tree.nodes.len());
+}
+
+#[track_caller]
+fn named(tree: &Tree, query: &Query, handle: u32, expected: Chance) {
+    assert_eq!(pmf(tree, query, handle), expected, "handle {handle}");
+}
+
+/// The draw's and the chance's answer alike.
+#[track_caller]
+fn refused(words: &Words, query: &Query, u: u32, handle: u32, number: u32) {
+    drawn(&words.tree(), query, u, Err(number));
+    named(&words.tree(), query, handle, Err(number));
+}
+
+/// Document 01's pair, and no nodes.
+#[test]
+fn pair() {
+    let (pair, query) = (the_pair().tree(), query_at([1.0, 0.0, 1.0], [0.0; 3]));
+    for (u, lamp) in [(0.25f32, 0), (0.75, 1), (1.0, 1), (0.0, 0), (-0.0, 0), (0.5, 1)] {
+        drawn(&pair, &query, u.to_bits(), Ok(Some((lamp, HALF))));
     }
-
-    pub fn words(records: &[Record]) -> Words {
-        Words::built(build_light_bvh, records).unwrap()
+    [(0, HALF), (1, HALF), (2, 0), (u32::MAX, 0)].into_iter().for_each(|(lamp, chance)| named(&pair, &query, lamp, Ok(chance)));
+    for u in [0x3f80_0001, NAN, 0xffc0_0001, 0x7f80_0001, 0x8000_0001, 0xbf80_0000, 0x7f80_0000, 0xff80_0000] {
+        drawn(&pair, &query, u, Err(11));
+        drawn(&Tree { nodes: vec![], table: vec![] }, &query, u, Err(11));
     }
-
-    /// Document 01's pair.
-    pub fn pair() -> Words {
-        words(&[point([0.0; 3], 1.0), point([2.0, 0.0, 0.0], 1.0)])
+    drawn(&Tree { nodes: vec![], table: vec![] }, &query, HALF, Ok(None));
+    named(&Tree { nodes: vec![], table: vec![0; 4] }, &query, 0, Err(12));
+    named(&Tree { nodes: vec![], table: vec![0xff; 4] }, &query, 0, Ok(0));
+    named(&Tree { nodes: vec![], table: vec![] }, &query, 0, Ok(0));
+    // a lone leaf is drawn unweighed, whatever its record and the query
+    let lone = words(&[point([5.0; 3], 1.0)]);
+    let (odd, no_point) = (changed(&lone, &[(0, 15, 7), (0, 3, NAN)]), query_at([f32::NAN; 3], [f32::INFINITY; 3]));
+    for tree in [lone.tree(), odd.tree()] {
+        drawn(&tree, &no_point, HALF, Ok(Some((0, 0x3f80_0000))));
+        named(&tree, &no_point, 0, Ok(0x3f80_0000));
     }
+    // trap 26: no lamp has power, and the whole tray is handed on
+    drawn(&Tree { nodes: vec![0; 64], table: vec![] }, &query, HALF, Err(12));
+}
 
-    /// Six lamps of a row, a fork at each even place but the last.
-    pub fn row() -> Words {
-        words(&[0.0, 1.0, 2.0, 4.0, 8.0, 16.0].map(|x| point([x, 0.0, 0.0], 1.0)))
+/// Totals and weights that are infinite, a tiny share, an importance of -0, normals too large and too small.
+#[test]
+fn figures() {
+    let (zero, huge) = ([0.0; 3], f32::from_bits(0x7f61_b1e6));
+    let lamps = |phis: [f32; 2]| words(&[point(zero, phis[0]), point([2.0, 0.0, 0.0], phis[1])]).tree();
+    let near = query_at([0.0, 0.0, f32::from_bits(0x3a83_126f)], zero);
+    for u in [0, HALF, 0x3f80_0000] {
+        drawn(&lamps([huge, 1.0]), &near, u, Ok(Some((1, NAN))));
+        drawn(&lamps([huge; 2]), &query_at([1.0, 0.0, 0.0], zero), u, Ok(Some((1, 0x3f80_0000))));
     }
-
-    pub fn at(p: [f32; 3], n: [f32; 3]) -> Query {
-        let [[a, b, c], [d, e, f]] = [p, n].map(|v| v.map(f32::to_bits));
-        [a, b, c, d, e, f]
+    named(&lamps([huge, 1.0]), &near, 1, Ok(0));
+    named(&lamps([huge; 2]), &query_at([1.0, 0.0, 0.0], zero), 1, Ok(0));
+    // a weight that is infinite, at the right and at both sides
+    for (first, chance) in [(1.0, 0x3f80_0000), (huge, NAN)] {
+        let near_both = words(&[point(zero, first), point(zero, huge)]).tree();
+        drawn(&near_both, &near, HALF, Ok(Some((1, chance))));
+        named(&near_both, &near, 1, Ok(NAN));
     }
-
-    pub fn changed(words: &Words, changes: &[(usize, usize, u32)]) -> Words {
-        let mut words = words.clone();
-        changes.iter().for_each(|(node, word, to)| words.nodes[*node][*word] = *to);
-        words
+    // a right share that is tiny: 1 less the left one's is twice its own
+    drawn(&lamps([1.0, 6e-8]), &query_at([1.0, 0.0, 1.0], zero), 0x3f80_0000, Ok(Some((1, 0x3400_0000))));
+    named(&lamps([1.0, 6e-8]), &query_at([1.0, 0.0, 1.0], zero), 1, Ok(0x3380_d958));
+    // trap 7
+    for (x, refused) in [(0x7149_f2ca, true), (0x0da2_4260, false)] {
+        let query = query_at([1.0, 0.0, 1.0], [f32::from_bits(x), 0.0, 0.0]);
+        let tree = lamps([1.0; 2]);
+        drawn(&tree, &query, 0, if refused { Err(7) } else { Ok(Some((0, HALF))) });
+        named(&tree, &query, 0, if refused { Err(7) } else { Ok(HALF) });
     }
+    // trap 3: both children weigh -0 or 0, so there is no weight
+    let mut lamp = point([-1.0, 1.0, 1.0], 1.0);
+    [(7, 1.0f32), (8, 0.0), (10, 0.5), (11, -0.5)].into_iter().for_each(|(word, figure)| lamp[word] = figure.to_bits());
+    let query = query_at([-1.0, -1.0, 0.0], [1.0, 1.0, -2.0]);
+    assert_eq!(importance(&lamp, &query), Ok(1 << 31));
+    let tree = words(&[lamp, lamp]).tree();
+    drawn(&tree, &query, HALF, Ok(None));
+    named(&tree, &query, 0, Ok(0));
+    // on a lamp: its share is 0, and none where both are there
+    drawn(&lamps([1.0; 2]), &query_at(zero, zero), 0, Ok(Some((1, 0x3f80_0000))));
+    drawn(&words(&[point(zero, 1.0); 2]).tree(), &query_at(zero, zero), 0, Ok(None));
+}
 
-    /// Both answer so.
-    pub fn draws(tree: &Tree, query: &Query, u: u32, expected: Drawn) {
-        let u = f32::from_bits(u);
-        let answers = [Decoded::new(tree).sample(query, u), sampler_sample(&tree.nodes, query, u)];
-        assert_eq!(answers, [expected; 2], "oracle and proved, u {u}, {} bytes", tree.nodes.len());
+/// Which refusal comes first, and the limits.
+#[test]
+fn order_of_refusals() {
+    let query = query_at([1.0, 0.0, 1.0], [0.0; 3]);
+    let Tree { nodes, table } = the_pair().tree();
+    let sized = |nodes_len: usize, table_len: usize| {
+        let mut tree = Tree { nodes: nodes.clone(), table: table.clone() };
+        tree.nodes.resize(nodes_len, 0);
+        tree.table.resize(table_len, 0xff);
+        tree
+    };
+    let limit = NODE_BYTES * MOST_NODES;
+    assert_eq!(limit, 524_224);
+    drawn(&sized(limit, 0), &query, 0, Ok(Some((0, HALF))));
+    named(&sized(limit, 4 * 4096), &query, 0, Ok(HALF));
+    named(&sized(limit, 4 * 4096), &query, 4095, Ok(0));
+    // 2, then 1, then 11: a part node beyond 8,191 is still no node
+    for over in [64, 65, 128, 127] {
+        drawn(&sized(limit + over, 0), &query, NAN, Err(2));
+        named(&sized(limit + over, 3), &query, 0, Err(2));
     }
-
-    pub fn names(tree: &Tree, query: &Query, handle: u32, expected: Chance) {
-        let answers = [Decoded::new(tree).pmf(query, handle), sampler_pmf(&tree.nodes, &tree.table, query, handle)];
-        assert_eq!(answers, [expected; 2], "oracle and proved, handle {handle}");
+    for part in [1, 4, 32, 63] {
+        drawn(&sized(limit + part, 0), &query, NAN, Err(1));
+        named(&sized(limit + part, 8), &query, 0, Err(1));
+        drawn(&sized(part, 0), &query, NAN, Err(1));
+        drawn(&sized(192 + part, 0), &query, HALF, Err(1));
+        named(&sized(64 + part, 4 * 4097), &query, 0, Err(2));
     }
+    for part in 1..4 {
+        named(&sized(192, 8 + part), &query, 9, Err(1));
+        named(&sized(192, 4 * 4096 + part), &query, 0, Err(1));
+        named(&sized(192, 4 * 4097 + part), &query, 0, Err(2));
+    }
+    // the table is no part of a draw
+    drawn(&sized(192, 4 * 4097 + 1), &query, 0, Ok(Some((0, HALF))));
+}
 
-    /// The draw's and the chance's answer alike.
-    pub fn both(words: &Words, query: &Query, u: u32, handle: u32, number: u32) {
-        draws(&words.tree(), query, u, Err(number));
-        names(&words.tree(), query, handle, Err(number));
+/// What a walk judges, and when.
+#[test]
+fn judged() {
+    let (pair, query) = (the_pair(), query_at([1.0, 0.0, 1.0], [0.0; 3]));
+    let (last, nan) = (0x3f80_0000, f32::NAN.to_bits());
+    let change = |changes: &[(usize, usize, u32)]| changed(&pair, changes);
+    // trap 18: the left one in full, then the right one's index; the side before the record's check
+    refused(&change(&[(0, 1, 9), (1, 3, nan)]), &query, 0, 0, 5);
+    refused(&change(&[(0, 1, 9), (1, 15, 2)]), &query, 0, 0, 12);
+    refused(&change(&[(0, 1, u32::MAX)]), &query, last, 0, 12);
+    refused(&change(&[(1, 15, 2), (1, 3, nan)]), &query, 0, 0, 12);
+    refused(&change(&[(1, 3, 5f32.to_bits()), (2, 15, 2)]), &query, 0, 0, 6);
+    refused(&change(&[(2, 9, 0), (2, 10, 0), (2, 11, 0)]), &query, 0, 0, 7);
+    refused(&change(&[(1, 12, (-1f32).to_bits())]), &query, 0, 0, 8);
+    refused(&change(&[(2, 15, u32::MAX)]), &query, 0, 0, 12);
+    // trap 20: the left child word is not read; a leaf's right child word neither
+    let odd = change(&[(0, 0, 2 << 30 | 77), (1, 1, 0), (2, 1, 1)]).tree();
+    drawn(&odd, &query, 0, Ok(Some((0, HALF))));
+    named(&odd, &query, 1, Ok(HALF));
+    // trap 22: a kind is judged on entry, a root's record never
+    let unknown = change(&[(2, 0, 3 << 30), (0, 3, nan), (0, 15, 9)]).tree();
+    drawn(&unknown, &query, 0, Ok(Some((0, HALF))));
+    drawn(&unknown, &query, last, Err(12));
+    named(&unknown, &query, 0, Ok(HALF));
+    named(&unknown, &query, 1, Err(12));
+    refused(&change(&[(0, 0, 0), (1, 15, 9)]), &query, 0, 0, 12);
+    // a root that is a leaf: drawn; as a parent it is refused
+    let leaf = change(&[(0, 0, 1 << 30 | 5)]).tree();
+    drawn(&leaf, &query, last, Ok(Some((5, 0x3f80_0000))));
+    named(&leaf, &query, 0, Err(12));
+    // trap 19: ownership comes behind the weights and behind no weight
+    let mut owned = change(&[(0, 1, 1)]);
+    named(&owned.tree(), &query, 1, Err(12));
+    named(&changed(&owned, &[(1, 3, nan)]).tree(), &query, 1, Err(5));
+    (1..3).for_each(|node| owned.nodes[node][12] = 0);
+    named(&owned.tree(), &query, 1, Ok(0));
+    // parents: past the end, a leaf, itself, none
+    for parent in [3, 2, 1, u32::MAX - 1] {
+        named(&change(&[(1, 2, parent)]).tree(), &query, 0, Err(12));
+    }
+    named(&change(&[(1, 2, u32::MAX)]).tree(), &query, 0, Ok(0x3f80_0000));
+    // table words: past the end, a fork, none
+    let table = |word: u32| {
+        let mut words = pair.clone();
+        words.table[0] = word;
+        words.tree()
+    };
+    for (word, chance) in [(3, Err(12)), (u32::MAX - 1, Err(12)), (0, Ok(0x3f80_0000)), (2, Ok(HALF)), (u32::MAX, Ok(0))] {
+        named(&table(word), &query, 0, chance);
     }
 }
 
+/// Cycles: as many nodes are entered as there are, then 12.
+#[test]
+fn cycles() {
+    let (row, query) = (row(), query_at([3.0, 5.0, 1.0], [0.0; 3]));
+    let last = 0x3f80_0000;
+    let fork = (1..row.nodes.len()).find(|place| row.children(*place).is_some()).unwrap();
+    drawn(&changed(&row, &[(0, 1, 0)]).tree(), &query, last, Err(12));
+    let down = changed(&row, &[(fork, 1, fork as u32), (0, 1, fork as u32)]);
+    drawn(&down.tree(), &query, last, Err(12));
+    // a fork and the root, each the other's child
+    let up = changed(&row, &[(fork, 1, 0), (0, 2, fork as u32), (0, 1, fork as u32)]);
+    (0..6).for_each(|handle| named(&up.tree(), &query, handle, Err(12)));
+    // both children of each fork are the node behind it: every node is entered, and the chance, halved each time, ends at 0
+    let mut chain = the_pair();
+    chain.nodes.resize(MOST_NODES, chain.nodes[1]);
+    (0..MOST_NODES - 1).for_each(|place| chain.nodes[place] = chain.nodes[0]);
+    (0..MOST_NODES - 1).for_each(|place| chain.nodes[place][1] = place as u32 + 1);
+    let chain = chain.tree();
+    drawn(&chain, &query, last, Ok(Some((0, 0))));
+    // a root that is its own right child: a u near 1 passes it too often, a lower one ends at the leaf in time
+    let own = changed(&the_pair(), &[(0, 1, 0)]).tree();
+    let answers: Vec<bool> = (0..=256).map(|i| sample(&own, &query, i as f32 / 256.0).is_ok()).collect();
+    assert!(answers[0] && !answers[256] && answers.iter().filter(|given| **given).count() > 128);
+}
+
 coltoctober::differential! {
-    /// Document 01's pair, and no nodes.
-    fn pair() {
-        use by_hand::*;
-        use coltoctober::walks::Tree;
-
-        let (pair, query) = (pair().tree(), at([1.0, 0.0, 1.0], [0.0; 3]));
-        for (u, lamp) in [(0.25f32, 0), (0.75, 1), (1.0, 1), (0.0, 0), (-0.0, 0), (0.5, 1)] {
-            draws(&pair, &query, u.to_bits(), Ok(Some((lamp, HALF))));
-        }
-        [(0, HALF), (1, HALF), (2, 0), (u32::MAX, 0)].into_iter().for_each(|(lamp, chance)| names(&pair, &query, lamp, Ok(chance)));
-        for u in [0x3f80_0001, NAN, 0xffc0_0001, 0x7f80_0001, 0x8000_0001, 0xbf80_0000, 0x7f80_0000, 0xff80_0000] {
-            draws(&pair, &query, u, Err(11));
-            draws(&Tree { nodes: vec![], table: vec![] }, &query, u, Err(11));
-        }
-        draws(&Tree { nodes: vec![], table: vec![] }, &query, HALF, Ok(None));
-        names(&Tree { nodes: vec![], table: vec![0; 4] }, &query, 0, Err(12));
-        names(&Tree { nodes: vec![], table: vec![0xff; 4] }, &query, 0, Ok(0));
-        names(&Tree { nodes: vec![], table: vec![] }, &query, 0, Ok(0));
-        // a lone leaf is drawn unweighed, whatever its record and the query
-        let lone = words(&[point([5.0; 3], 1.0)]);
-        let (odd, no_point) = (changed(&lone, &[(0, 15, 7), (0, 3, NAN)]), at([f32::NAN; 3], [f32::INFINITY; 3]));
-        for tree in [lone.tree(), odd.tree()] {
-            draws(&tree, &no_point, HALF, Ok(Some((0, 0x3f80_0000))));
-            names(&tree, &no_point, 0, Ok(0x3f80_0000));
-        }
-        // trap 26: no lamp has power, and the whole tray is handed on
-        draws(&Tree { nodes: vec![0; 64], table: vec![] }, &query, HALF, Err(12));
-    }
-
-    /// Totals that are infinite, an importance of -0, normals too large and too small.
-    fn figures() {
-        use by_hand::*;
-
-        let (zero, huge) = ([0.0; 3], f32::from_bits(0x7f61_b1e6));
-        let lamps = |phis: [f32; 2]| words(&[point(zero, phis[0]), point([2.0, 0.0, 0.0], phis[1])]).tree();
-        let near = at([0.0, 0.0, f32::from_bits(0x3a83_126f)], zero);
-        for u in [0, HALF, 0x3f80_0000] {
-            draws(&lamps([huge, 1.0]), &near, u, Ok(Some((1, NAN))));
-            draws(&lamps([huge; 2]), &at([1.0, 0.0, 0.0], zero), u, Ok(Some((1, 0x3f80_0000))));
-        }
-        names(&lamps([huge, 1.0]), &near, 1, Ok(0));
-        names(&lamps([huge; 2]), &at([1.0, 0.0, 0.0], zero), 1, Ok(0));
-        // trap 7
-        for (x, refused) in [(0x7149_f2ca, true), (0x0da2_4260, false)] {
-            let query = at([1.0, 0.0, 1.0], [f32::from_bits(x), 0.0, 0.0]);
-            let tree = lamps([1.0; 2]);
-            draws(&tree, &query, 0, if refused { Err(7) } else { Ok(Some((0, HALF))) });
-            names(&tree, &query, 0, if refused { Err(7) } else { Ok(HALF) });
-        }
-        // trap 3: both children weigh -0 or 0, so there is no weight
-        let mut lamp = point([-1.0, 1.0, 1.0], 1.0);
-        [(7, 1.0f32), (8, 0.0), (10, 0.5), (11, -0.5)].into_iter().for_each(|(word, figure)| lamp[word] = figure.to_bits());
-        let query = at([-1.0, -1.0, 0.0], [1.0, 1.0, -2.0]);
-        assert_eq!(coltoctober::reference::importance(&lamp, &query), Ok(1 << 31));
-        let tree = words(&[lamp, lamp]).tree();
-        draws(&tree, &query, HALF, Ok(None));
-        names(&tree, &query, 0, Ok(0));
-        // on a lamp: its share is 0, and none where both are there
-        draws(&lamps([1.0; 2]), &at(zero, zero), 0, Ok(Some((1, 0x3f80_0000))));
-        draws(&words(&[point(zero, 1.0); 2]).tree(), &at(zero, zero), 0, Ok(None));
-    }
-
-    /// Which refusal comes first, and the limits.
-    fn order_of_refusals() {
-        use by_hand::*;
-        use coltoctober::walks::{Tree, MOST_NODES, NODE_BYTES};
-
-        let query = at([1.0, 0.0, 1.0], [0.0; 3]);
-        let Tree { nodes, table } = pair().tree();
-        let sized = |nodes_len: usize, table_len: usize| {
-            let mut tree = Tree { nodes: nodes.clone(), table: table.clone() };
-            tree.nodes.resize(nodes_len, 0);
-            tree.table.resize(table_len, 0xff);
-            tree
-        };
-        let limit = NODE_BYTES * MOST_NODES;
-        assert_eq!(limit, 524_224);
-        draws(&sized(limit, 0), &query, 0, Ok(Some((0, HALF))));
-        names(&sized(limit, 4 * 4096), &query, 0, Ok(HALF));
-        names(&sized(limit, 4 * 4096), &query, 4095, Ok(0));
-        // 2, then 1, then 11: a part node beyond 8,191 is still no node
-        for over in [64, 65, 128, 127] {
-            draws(&sized(limit + over, 0), &query, NAN, Err(2));
-            names(&sized(limit + over, 3), &query, 0, Err(2));
-        }
-        for part in [1, 4, 32, 63] {
-            draws(&sized(limit + part, 0), &query, NAN, Err(1));
-            names(&sized(limit + part, 8), &query, 0, Err(1));
-            draws(&sized(part, 0), &query, NAN, Err(1));
-            draws(&sized(192 + part, 0), &query, HALF, Err(1));
-            names(&sized(64 + part, 4 * 4097), &query, 0, Err(2));
-        }
-        for part in 1..4 {
-            names(&sized(192, 8 + part), &query, 9, Err(1));
-            names(&sized(192, 4 * 4096 + part), &query, 0, Err(1));
-            names(&sized(192, 4 * 4097 + part), &query, 0, Err(2));
-        }
-        // the table is no part of a draw
-        draws(&sized(192, 4 * 4097 + 1), &query, 0, Ok(Some((0, HALF))));
-    }
-
-    /// What a walk judges, and when.
-    fn judged() {
-        use by_hand::*;
-
-        let (pair, query) = (pair(), at([1.0, 0.0, 1.0], [0.0; 3]));
-        let (last, nan) = (0x3f80_0000, f32::NAN.to_bits());
-        let change = |changes: &[(usize, usize, u32)]| changed(&pair, changes);
-        // trap 18: the left one in full, then the right one's index; the side before the record's check
-        both(&change(&[(0, 1, 9), (1, 3, nan)]), &query, 0, 0, 5);
-        both(&change(&[(0, 1, 9), (1, 15, 2)]), &query, 0, 0, 12);
-        both(&change(&[(0, 1, u32::MAX)]), &query, last, 0, 12);
-        both(&change(&[(1, 15, 2), (1, 3, nan)]), &query, 0, 0, 12);
-        both(&change(&[(1, 3, 5f32.to_bits()), (2, 15, 2)]), &query, 0, 0, 6);
-        both(&change(&[(2, 9, 0), (2, 10, 0), (2, 11, 0)]), &query, 0, 0, 7);
-        both(&change(&[(1, 12, (-1f32).to_bits())]), &query, 0, 0, 8);
-        both(&change(&[(2, 15, u32::MAX)]), &query, 0, 0, 12);
-        // trap 20: the left child word is not read; a leaf's right child word neither
-        let odd = change(&[(0, 0, 2 << 30 | 77), (1, 1, 0), (2, 1, 1)]).tree();
-        draws(&odd, &query, 0, Ok(Some((0, HALF))));
-        names(&odd, &query, 1, Ok(HALF));
-        // trap 22: a kind is judged on entry, a root's record never
-        let unknown = change(&[(2, 0, 3 << 30), (0, 3, nan), (0, 15, 9)]).tree();
-        draws(&unknown, &query, 0, Ok(Some((0, HALF))));
-        draws(&unknown, &query, last, Err(12));
-        names(&unknown, &query, 0, Ok(HALF));
-        names(&unknown, &query, 1, Err(12));
-        both(&change(&[(0, 0, 0), (1, 15, 9)]), &query, 0, 0, 12);
-        // a root that is a leaf: drawn; as a parent it is refused
-        let leaf = change(&[(0, 0, 1 << 30 | 5)]).tree();
-        draws(&leaf, &query, last, Ok(Some((5, 0x3f80_0000))));
-        names(&leaf, &query, 0, Err(12));
-        // trap 19: ownership comes behind the weights and behind no weight
-        let mut owned = change(&[(0, 1, 1)]);
-        names(&owned.tree(), &query, 1, Err(12));
-        names(&changed(&owned, &[(1, 3, nan)]).tree(), &query, 1, Err(5));
-        (1..3).for_each(|node| owned.nodes[node][12] = 0);
-        names(&owned.tree(), &query, 1, Ok(0));
-        // parents: past the end, a leaf, itself, none
-        for parent in [3, 2, 1, u32::MAX - 1] {
-            names(&change(&[(1, 2, parent)]).tree(), &query, 0, Err(12));
-        }
-        names(&change(&[(1, 2, u32::MAX)]).tree(), &query, 0, Ok(0x3f80_0000));
-        // table words: past the end, a fork, none
-        let table = |word: u32| {
-            let mut words = pair.clone();
-            words.table[0] = word;
-            words.tree()
-        };
-        for (word, chance) in [(3, Err(12)), (u32::MAX - 1, Err(12)), (0, Ok(0x3f80_0000)), (2, Ok(HALF)), (u32::MAX, Ok(0))] {
-            names(&table(word), &query, 0, chance);
-        }
-    }
-
-    /// Cycles: as many nodes are entered as there are, then 12.
-    fn cycles() {
-        use by_hand::*;
-        use coltoctober::walk_oracle::Decoded;
-        use coltoctober::walks::MOST_NODES;
-
-        let (row, query) = (row(), at([3.0, 5.0, 1.0], [0.0; 3]));
-        let last = 0x3f80_0000;
-        let fork = (1..row.nodes.len()).find(|place| row.children(*place).is_some()).unwrap();
-        draws(&changed(&row, &[(0, 1, 0)]).tree(), &query, last, Err(12));
-        let down = changed(&row, &[(fork, 1, fork as u32), (0, 1, fork as u32)]);
-        draws(&down.tree(), &query, last, Err(12));
-        // a fork and the root, each the other's child
-        let up = changed(&row, &[(fork, 1, 0), (0, 2, fork as u32), (0, 1, fork as u32)]);
-        (0..6).for_each(|handle| names(&up.tree(), &query, handle, Err(12)));
-        // both children of each fork are the node behind it: every node is entered, and the chance, halved each time, ends at 0
-        let mut chain = pair();
-        chain.nodes.resize(MOST_NODES, chain.nodes[1]);
-        (0..MOST_NODES - 1).for_each(|place| chain.nodes[place] = chain.nodes[0]);
-        (0..MOST_NODES - 1).for_each(|place| chain.nodes[place][1] = place as u32 + 1);
-        let chain = chain.tree();
-        draws(&chain, &query, last, Ok(Some((0, 0))));
-        // a root that is its own right child: a u near 1 passes it too often, a lower one ends at the leaf in time
-        let own = changed(&pair(), &[(0, 1, 0)]).tree();
-        let answers = (0..=256).map(|i| i as f32 / 256.0).map(|u| {
-            let answer = Decoded::new(&own).sample(&query, u);
-            draws(&own, &query, u.to_bits(), answer);
-            answer.is_ok()
-        });
-        let answers: Vec<bool> = answers.collect();
-        assert!(answers[0] && !answers[256] && answers.iter().filter(|given| **given).count() > 128);
-    }
-
     /// Random trees, sound and damaged: every refusal, every branch and every damage is met.
     fn draws() {
         let tally = coltoctober::walk_runs::draws(0, 200_000);

@@ -1,5 +1,4 @@
--- `light_c::box_of` meets its contract: its two corners, where it is present. Assumes nothing.
-use borrow.Author.Needs.{needs}
+-- The two corners, where the box is present. Assumes nothing.
 use borrow.Author.Tests.{eq-eqb, ne-eqb}
 use Rattle.light_c.specs.Codes.{boxOf}
 use Rattle.light_c.proofs.box_of.Statement.{statement}
@@ -11,7 +10,7 @@ returns c = rw (eq-eqb _ _ (c .if1 .taken))
 
 returns-2 : tie.Need-returns-2
 unfolding boxOf
-returns-2 c = rw (ne-eqb _ _ (c .before .before .if1 .left), ← c .before .vec-at .ensures, ← c .vec-at2 .ensures)
+returns-2 c = rw (ne-eqb _ _ (c .if1 .left))
 
 pub box-of-spec : {M : Type 1} → statement M
-box-of-spec = tie.close (tie.spec returns (λ c κs. search needs) (λ c κs. search needs) returns-2)
+box-of-spec = tie.close (tie.spec returns returns-2)

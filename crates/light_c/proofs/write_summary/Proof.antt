@@ -1,22 +1,19 @@
--- `light_c::write_summary` meets its contract: whether there are words enough is settled first. Assumes nothing.
-use mathlib.Core.Path.{refl}
-use denote.Ref.{now}
-use lib.ListN.{length}
+-- k fits a word, and the seven stores are those of `sets`. Assumes nothing.
+use native.Mathlib.Omega.{arith}
+use lib.ListN.{length-set}
 use borrow.Author.Needs.{needs}
-use borrow.Author.Tests.{le-leb, lt-leb}
-use Rattle.light_c.specs.Codes.{summaryWords}
 use Rattle.light_c.proofs.write_summary.Statement.{statement}
 use Rattle.light_c.proofs.write_summary.Tie as tie
 
 returns : tie.Need-returns
-unfolding summaryWords
 returns c =
-    let test = c .before .before .before .before in
-    rw (le-leb 7 (length (now (test .before .before .args .answer))) (test .if1 .taken)) (c .before .before .put-summary .ensures)
-
-returns-2 : tie.Need-returns-2
-unfolding summaryWords
-returns-2 c = rw (lt-leb 7 (length (now (c .before .before .args .answer))) (c .if1 .left)) refl
+    rw (← c .before .before .before .before .before .word-of-f32 .ensures, ← c .before .before .before .before .word-of-f322 .ensures)
+    (rw (← c .before .before .before .word-of-f323 .ensures, ← c .before .before .word-of-f324 .ensures, ← c .before .word-of-f325 .ensures)
+    (rw (← c .word-of-f326 .ensures)))
 
 pub write-summary-spec : {M : Type 1} → statement M
-write-summary-spec = tie.close (tie.spec (λ c κs. search needs) (λ c. search needs) returns returns-2)
+write-summary-spec =
+    tie.close (tie.spec (λ c. search needs) (λ c. search needs) (λ c κs. search needs) (λ c. simp length-set (omega arith)) (λ c κs. search needs)
+    (λ c. simp length-set (omega arith)) (λ c κs. search needs) (λ c. simp length-set (omega arith)) (λ c κs. search needs)
+    (λ c. simp length-set (omega arith)) (λ c κs. search needs) (λ c. simp length-set (omega arith)) (λ c κs. search needs)
+    (λ c. simp length-set (omega arith)) (λ c. search needs) returns)

@@ -13,7 +13,7 @@ fn main() {
     use coltoctober::reference::native_build_light_bounds;
     use coltoctober::rooms::Room;
     use coltoctober::timing::{builds, SAMPLES};
-    use coltoctober::trees::reserves;
+    use coltoctober::trees::{lent, reserves};
 
     println!("Rooms of points, spots and panels; microseconds a build, medians of {SAMPLES} samples.");
     println!("Proved: the whole call by C, block words to node words. Rust: build_light_bvh with its own library functions, its records ready.");
@@ -23,12 +23,15 @@ fn main() {
         let room = Room::new(&mut random, lamps);
         let mut block = vec![0; 1 + BLOCK_RECORD * lamps];
         native_build_light_bounds(&room.list, &mut block).unwrap();
-        let [mut nodes, mut table, mut work] = reserves(lamps).map(|reserve| vec![0; reserve]);
+        let mut trays = reserves(lamps).map(|reserve| vec![0; reserve]);
         let records = own::records(&block);
         builds(
             &lamps.to_string(),
             [
-                &mut || u64::from(tree_build_light_bvh(lamps as u32, &block, &mut nodes, &mut table, &mut work).unwrap().0),
+                &mut || {
+                    tree_build_light_bvh(lamps as u32, &block, lent(&mut trays)).unwrap();
+                    trays[3][0].into()
+                },
                 &mut || own::build(&records) as u64,
             ],
         );

@@ -3,60 +3,14 @@
 //! program. At its end it prints how often each function was called and how often it answered what.
 
 use coltoctober::cases::Random;
+use coltoctober::light_c::{light_alias_table, light_bounds_block, light_build, light_pack, light_pmf, light_sample};
 use std::collections::BTreeMap;
 use std::ffi::c_void;
 
-// SAFETY: the C functions are proved for every slice; the two of the system are called as their manual says.
+// SAFETY: the two of the system are called as their manual says; the others are proved for every slice.
 unsafe extern "C" {
     fn mmap(at: *mut c_void, len: usize, protection: i32, flags: i32, file: i32, offset: i64) -> *mut c_void;
     fn mprotect(at: *mut c_void, len: usize, protection: i32) -> i32;
-
-    fn light_bounds_block(list: *const u32, len: usize, block: *mut u32, block_len: usize) -> u32;
-    fn light_build(
-        lights: usize,
-        block: *const u32,
-        len: usize,
-        nodes: *mut u32,
-        nodes_len: usize,
-        table: *mut u32,
-        table_len: usize,
-        work: *mut u32,
-        work_len: usize,
-        answer: *mut u32,
-        answer_len: usize,
-    ) -> u32;
-    fn light_sample(nodes: *const u8, len: usize, px: f32, py: f32, pz: f32, nx: f32, ny: f32, nz: f32, u: f32) -> u64;
-    fn light_pmf(
-        nodes: *const u8,
-        len: usize,
-        table: *const u8,
-        table_len: usize,
-        px: f32,
-        py: f32,
-        pz: f32,
-        nx: f32,
-        ny: f32,
-        nz: f32,
-        handle: u32,
-    ) -> u64;
-    fn light_pack(
-        nodes: *const u8,
-        len: usize,
-        k: usize,
-        present: u32,
-        all: *const u32,
-        all_len: usize,
-        out: *mut u8,
-        out_len: usize,
-    ) -> u64;
-    fn light_alias_table(
-        weights: *const u32,
-        len: usize,
-        bins: *mut u32,
-        bins_len: usize,
-        work: *mut u32,
-        work_len: usize,
-    ) -> u32;
 }
 
 const PAGE: usize = 4096;
@@ -214,7 +168,7 @@ impl Zones {
         let answer = unsafe {
             light_build(lights, from, len, lent[0].0, lent[0].1, lent[1].0, lent[1].1, lent[2].0, lent[2].1, lent[3].0, lent[3].1)
         };
-        if answer != 0 || lent[3].1 < 7 {
+        if answer != 0 {
             return (answer, None);
         }
         let words = |i: usize, n: usize| (0..n).map(|j| unsafe { *lent[i].0.add(j) }).collect::<Vec<u32>>();
@@ -322,15 +276,15 @@ fn main() {
                 let (from, len) = zones.inputs[0].lend(&mut random, &nodes);
                 let k = if random.below(8) == 0 { random.below(3) as usize } else { tree.k };
                 let present = (random.below(8) > 0) as u32;
-                let cut = if random.below(32) == 0 { random.below(7) as usize } else { 6 };
-                let (all, all_len) = zones.inputs[1].lend_words(&mut random, &tree.corners[..cut]);
+                let odd = random.below(32) == 0;
+                let [a, b, c, d, e, f] = tree.corners.map(|word| f32::from_bits(if odd { float(&mut random) } else { word }));
                 let reserve = if nodes.len() < 64 { 0 } else { 32 + 32 * (nodes.len() / 64) };
                 let size = match random.below(16) {
                     0 => random.below(reserve as u64 + 1) as usize,
                     _ => reserve + random.below(6) as usize,
                 };
                 let (out, room) = zones.outputs[0].lend(&mut random, &vec![7; size.min(64 * 300)]);
-                let answer = unsafe { light_pack(from, len, k, present, all, all_len, out, room) };
+                let answer = unsafe { light_pack(from, len, k, present, a, b, c, d, e, f, out, room) };
                 let said = match answer {
                     0x1_0000_0000 => "none".into(),
                     0x2_0000_0000.. => format!("refused {}", answer - 0x2_0000_0000),
