@@ -1,5 +1,6 @@
 -- Boxes, as `Bounds3` of `light_bounds.rs` has them. Definitions only. Assumes nothing.
 use mathlib.Core.Bool.{Bool, cond, _&&_, _||_}
+use mathlib.Core.Option.{Option, none, some}
 use lib.Ieee.{Float, lt}
 use Rattle.ieee.specs.Choose.{fmin, fmax}
 use Rattle.ieee.specs.Single.{_⊕_, _⊖_, _⊗_, half, twof}
@@ -7,9 +8,16 @@ use Rattle.words.specs.Answers.{Answer, given, refused}
 use Rattle.words.specs.Refusals.{number}
 use Rattle.light_bounds.specs.Vecmath.{vec, finiteVec}
 use Rattle.light_bounds.specs.declared.vecmath.Vec3.{Vec3}
+use Rattle.light_bounds.specs.declared.bounds.AllBounds.{AllBounds}
+use Rattle.light_bounds.specs.declared.bounds.AllBounds.the-variants.{Bounds, Absent}
 use Rattle.light_bounds.specs.declared.bounds.Bounds3.{Bounds3}
 use Rattle.light_bounds.specs.declared.bounds.Validity.{Validity}
 use Rattle.light_bounds.specs.declared.bounds.Validity.the-variants.{Valid, Refused}
+
+-- what the enum `AllBounds` holds: `Option<Bounds3>`
+abbrev pub allBoundsOf : AllBounds → Option Bounds3
+allBoundsOf (Bounds b) = some b
+allBoundsOf Absent = none
 
 abbrev pub validity : Validity → Answer (Unit {0})
 validity Valid = given tt

@@ -1,4 +1,4 @@
-// Boxes (specs/Boxes.antt).
+// Boxes (specs/Bounds.antt).
 ghost use mathlib.Core.Path.{_≡_};
 ghost use Rattle.light_bounds.specs.Bounds.{boxCheck, finiteBox, inverted, boxUnion, diagonal as diagonalOf, centroid as centroidOf};
 ghost use Rattle.light_bounds.specs.Bounds.{surfaceArea, leastOf, greatestOf, validity};
@@ -11,6 +11,12 @@ use words::refusals::Refusal;
 pub struct Bounds3 {
     pub min: Vec3,
     pub max: Vec3,
+}
+
+// The box around the powered lamps, or its absence.
+pub enum AllBounds {
+    Bounds(Bounds3),
+    Absent,
 }
 
 // Whether a box or a record passes its check.

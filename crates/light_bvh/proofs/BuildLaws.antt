@@ -6,7 +6,7 @@ use mathlib.Core.List.{List, [], _∷_, _++_, append-nil}
 use mathlib.Core.Option.{Option}
 use native.Mathlib.Numerals.{add-one}
 use native.Mathlib.Omega.{arith}
-use borrow.Author.Tests.{lt-ltb, le-ltb, ltb-false, eq-eqb, ne-eqb}
+use borrow.Author.Tests.{lt-ltb, le-ltb, ltb-false, eq-eqb, ne-eqb, eqb-true}
 use lib.Dec.{T, eqb, ltb}
 use lib.ListN.{length, getD, set, length-append, length-set}
 use lib.Seq.{set-out}
@@ -73,17 +73,24 @@ cond-kept : (b : Bool) (m n k : ℕ) → cond b (refused n) (given m) ≡ given 
 cond-kept true m n k e = absurd (not-both e refl)
 cond-kept false m n k e = (refl, given-injective e)
 
-pub layout-count : (ws : List ℕ) (m : ℕ) → blockLayout ws ≡ given m → (m ≡ getD ws 0 0) × (m ≤ maxLamps)
+and-left : (a b : Bool) → a && b ≡ true → a ≡ true
+and-left true b e = refl
+and-left false b e = e
+
+pub layout-count : (ws : List ℕ) (m : ℕ) → blockLayout ws ≡ given m
+    → (m ≡ getD ws 0 0) × (m ≤ maxLamps) × (length ws ≡ blockWords m)
 unfolding blockLayout
 layout-count ws m e = uncrowded (crowded ws) refl e
   where
     uncrowded : (b : Bool) → crowded ws ≡ b
         → cond b (refused 2) (cond (eqb (length ws) (blockWords (getD ws 0 0)) && below (sideAt ws) (getD ws 0 0)) (given (getD ws 0 0)) (refused 1)) ≡ given m
-        → (m ≡ getD ws 0 0) × (m ≤ maxLamps)
+        → (m ≡ getD ws 0 0) × (m ≤ maxLamps) × (length ws ≡ blockWords m)
     uncrowded true c e = absurd (not-both e refl)
     uncrowded false c e =
-        let (_, is) = cond-given (eqb (length ws) (blockWords (getD ws 0 0)) && below (sideAt ws) (getD ws 0 0)) (getD ws 0 0) 1 m e in
-        (sym is, omega (arith, few-lamps ws c, is))
+        let long = eqb (length ws) (blockWords (getD ws 0 0)) in
+        let (both, is) = cond-given (long && below (sideAt ws) (getD ws 0 0)) (getD ws 0 0) 1 m e in
+        let size = eqb-true (length ws) (blockWords (getD ws 0 0)) (and-left long (below (sideAt ws) (getD ws 0 0)) both) in
+        (sym is, omega (arith, few-lamps ws c, is), size ∙ ap (λ (k : ℕ). blockWords k) is)
 
 pub handles-count : (ws : List ℕ) (m : ℕ) → blockHandles ws ≡ given m → m ≡ getD ws 0 0
 unfolding blockHandles
@@ -109,7 +116,8 @@ module _ (lights : ℕ) (ws : List ℕ) (nodes table work : ℕ) where
       (λ _. only-then (early-handles ws) (λ m. only-cond (isShort m nodes table work) (only-refused (omega arith)) only-given)))
 
   pub build-checked : (m : ℕ) → buildCheck lights ws nodes table work ≡ given m
-      → (m ≡ getD ws 0 0) × (m ≤ maxLamps) × (blockHandles ws ≡ given m) × (isShort m nodes table work ≡ false)
+      → (m ≡ getD ws 0 0) × (m ≤ maxLamps) × (length ws ≡ blockWords m) × (blockHandles ws ≡ given m)
+      × (isShort m nodes table work ≡ false)
   unfolding buildCheck
   build-checked m e =
       let reserves : ℕ → Answer ℕ = λ m. cond (isShort m nodes table work) (refused 3) (given m) in
@@ -119,9 +127,11 @@ module _ (lights : ℕ) (ws : List ℕ) (nodes table work : ℕ) where
       let (b, _, e₂) = then-given (cond (eqb lights a) (given a) (refused 1)) rows m e₁ in
       let (k, handles, e₃) = then-given (blockHandles ws) reserves m e₂ in
       let (short, is) = cond-kept (isShort k nodes table work) k 3 m e₃ in
-      let (first, few) = layout-count ws a layout in
+      let (first, few, long) = layout-count ws a layout in
       let same = handles-count ws k handles in
-      (sym is ∙ same, omega arith, handles ∙ ap given is, subst (λ (j : ℕ). isShort j nodes table work ≡ false) is short)
+      let count : a ≡ m = omega arith in
+      let room = subst (λ (j : ℕ). isShort j nodes table work ≡ false) is short in
+      (sym is ∙ same, omega arith, rw count at long, handles ∙ ap given is, room)
 
 -- ---- each record's check
 
@@ -248,7 +258,7 @@ module _ (lights : ℕ) (ws nodes table work : List ℕ) where
         → work′ ≡ filled work 0 (workReserve m) 0 → Outcome (refused n) nodes′ table′ work′
     unfolding buildLightBvh _then_
     outcome-late n e en et ew =
-        let (is, few, handles, short) = build-checked lights ws (length nodes) (length table) (length work) m checked in
+        let (is, few, long, handles, short) = build-checked lights ws (length nodes) (length table) (length work) m checked in
         let (a, b, c) = reserves-fit m (length nodes) (length table) (length work) short in
         let h = only-number (late-validated ws m) e in
         rw (checked, e, ← is) (
@@ -265,5 +275,5 @@ module _ (lights : ℕ) (ws nodes table work : List ℕ) where
         → work′ ≡ tray workWritten (workReserve m) (builtBvh ws m) work → Outcome r nodes′ table′ work′
     unfolding buildLightBvh _then_
     outcome-rows e er en et ew =
-        let (is, few, handles, short) = build-checked lights ws (length nodes) (length table) (length work) m checked in
+        let (is, few, long, handles, short) = build-checked lights ws (length nodes) (length table) (length work) m checked in
         rw (checked, e, ← is) (er, (en, (et, ew)))

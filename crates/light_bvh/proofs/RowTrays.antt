@@ -2,7 +2,7 @@
 -- What the code lends is the front of each slice, so what is behind the reserves stays whatever the call leaves in front (`behind`). Assumes nothing.
 use Prim.Native.Nat.{ℕ, _+_, _*_, _-_, _^_, _≤_, _<_}
 use mathlib.Core.Path.{_≡_, refl, ap, sym, _∙_}
-use mathlib.Core.Bool.{Bool, true, false}
+use mathlib.Core.Bool.{false}
 use mathlib.Core.List.{List, [], _∷_, _++_, append-assoc}
 use mathlib.Core.Option.{Option, none, some}
 use native.Mathlib.Omega.{arith}
@@ -15,18 +15,19 @@ use Rattle.words.specs.TrayLaws.{tray-full}
 use Rattle.words.proofs.FillLaws.{filled-within}
 use Rattle.words.proofs.Reserves.{zeroed, tray-zeroed}
 use Rattle.light_bounds.specs.declared.bounds.Bounds3.{Bounds3}
-use Rattle.lamps.specs.Block.{blockHandles}
+use Rattle.lamps.specs.Block.{blockWords, blockHandles}
 use Rattle.light_nodes.specs.Nodes.{nodeWords, invalidIndex}
 use Rattle.light_nodes.specs.Tree.{Tree, leaves, treeWords}
 use Rattle.light_nodes.specs.TreeLaws.{length-flatten}
 use Rattle.light_split.specs.Partition.{laid}
-use Rattle.light_bvh.specs.Subtree.{buildSubtree, isGiven, subtreeWords}
+use Rattle.light_bvh.specs.Subtree.{labelOf, buildSubtree, subtree, done, subtreeWords}
 use Rattle.light_bvh.specs.Build.{boundedHandles, allBounds, LightBVH, treeOf, builtBvh, nodesReserve, workReserve, nodesWritten, tableWritten}
-use Rattle.light_bvh.specs.Build.{isShort, workWritten, tabledBelow, summary, overall}
-use Rattle.light_bvh.specs.declared.build.Overall.{Overall}
+use Rattle.light_bvh.specs.Build.{isShort, workWritten, tabledBelow, summary}
+use Rattle.light_bvh.specs.declared.subtree.Subtree.{Subtree}
+use Rattle.light_bvh.specs.declared.subtree.Subtree.the-variants.{Built, Lost}
 use Rattle.light_bvh.proofs.BuildLaws.{reserves-fit}
-use Rattle.light_bvh.proofs.RowsLaws.{bounds-none, bounds-some, bounded-few, bounded-below, labels-below, tree-refused}
-use Rattle.light_bvh.proofs.SubtreeLaws.{build-size, given-of, refused-of, given-moved, words-moved}
+use Rattle.light_bvh.proofs.RowsLaws.{bounds-none, bounds-there, bounded-few, bounded-below, labels-fit, labels-below}
+use Rattle.light_bvh.proofs.SubtreeLaws.{build-size, given-of, refused-of, done-moved, words-moved}
 use Rattle.light_bvh.proofs.TableLaws.{Labels, labels-map, Thirty, tabled-front-tree, tabled-front, length-tabled}
 
 -- ---- the front of a slice is another's
@@ -126,6 +127,7 @@ module _ (ws : List ℕ) (m : ℕ) (t : Tree) where
 -- the rows are checked, there is room, and the powered rows' handles stand in front of the table
 pub record Gathered (ws : List ℕ) (m : ℕ) (nodes table work table′ : List ℕ) (k : ℕ) : Type 0 where
   pub few : m ≤ 4096
+  pub long : length ws ≡ blockWords m
   pub checked : blockHandles ws ≡ given m
   pub room-nodes : nodesReserve m ≤ length nodes
   pub room-table : m ≤ length table
@@ -135,14 +137,16 @@ pub record Gathered (ws : List ℕ) (m : ℕ) (nodes table work table′ : List 
   pub same : length table′ ≡ length table
   pub is : table′ ≡ laid (boundedHandles ws m) table
 
-pub gathered : (ws : List ℕ) (m : ℕ) (nodes table work table′ : List ℕ) (k : ℕ) → m ≤ 4096 → blockHandles ws ≡ given m
-    → isShort m (length nodes) (length table) (length work) ≡ false → k ≡ length (boundedHandles ws m) → table′ ≡ laid (boundedHandles ws m) table
+pub gathered : (ws : List ℕ) (m : ℕ) (nodes table work table′ : List ℕ) (k : ℕ) → m ≤ 4096 → length ws ≡ blockWords m
+    → blockHandles ws ≡ given m → isShort m (length nodes) (length table) (length work) ≡ false
+    → k ≡ length (boundedHandles ws m) → table′ ≡ laid (boundedHandles ws m) table
     → Gathered ws m nodes table work table′ k
-gathered ws m nodes table work table′ k few checked room count is =
+gathered ws m nodes table work table′ k few long checked room count is =
     let (n, t, w) = reserves-fit m (length nodes) (length table) (length work) room in
     let small = bounded-few ws m in
     record {
       few = few;
+      long = long;
       checked = checked;
       room-nodes = n;
       room-table = t;
@@ -208,8 +212,12 @@ module _ {ws : List ℕ} {m : ℕ} {nodes table work table′ : List ℕ} {k : �
   -- what the tree asks
   pub asks : 0 < k → (1 ≤ length (take (k - 0) table′)) × ((length (take (k - 0) table′) ≤ length (take (k - 0) work))
       × ((length (take (endOf k - 0) nodes) + nodeWords ≡ nodeWords * (2 * length (take (k - 0) table′)))
-      × (0 + 2 * length (take (k - 0) table′) < 2 ^ 30)))
-  asks powered = rw (table-front, work-front, nodes-front) (omega arith, (omega arith, (omega arith, omega (arith, g .within, g .few))))
+      × ((0 + 2 * length (take (k - 0) table′) < 2 ^ 30) × ((h : ℕ) → labelOf ws h < 2 ^ 30))))
+  asks powered =
+      rw (table-front, work-front, nodes-front) (
+        omega arith,
+        (omega arith, (omega arith, (omega (arith, g .within, g .few), labels-fit ws m (g .checked) (g .few) (g .long)))),
+      )
 
 -- ---- behind the tree
 
@@ -237,7 +245,7 @@ module _ {ws : List ℕ} {m : ℕ} {nodes table work table′ : List ℕ} {k : �
   work-here : length wx ≡ k - 0
   work-here = l .same-work ∙ work-front (l .gathered) ∙ omega arith
 
-  work-size : length (wx ++ drop (k - 0) work) ≡ length work
+  pub work-size : length (wx ++ drop (k - 0) work) ≡ length work
   work-size = let g = l .gathered in front-length wx work (k - 0) work-here (omega (arith, g .within, g .room-work))
 
   work-rest : drop (workReserve m) (wx ++ drop (k - 0) work) ≡ drop (workReserve m) work
@@ -256,16 +264,16 @@ module _ {ws : List ℕ} {m : ℕ} {nodes table work table′ : List ℕ} {k : �
   any = omega (arith, l .gathered .count, l .some)
 
   -- a union is lost
-  pub rows-lost : {r : Bool} → r ≡ isGiven (buildSubtree ws (length (take (k - 0) table′)) (take (k - 0) table′)) → r ≡ false
-      → {nodes″ table″ work″ : List ℕ} → nodes″ ≡ filled (nx ++ drop (endOf k - 0) nodes) 0 (nodesReserve m) 0
+  pub rows-lost : {r : Subtree} → subtree r ≡ done (buildSubtree ws (length (take (k - 0) table′)) (take (k - 0) table′))
+      → r ≡ Lost → {nodes″ table″ work″ : List ℕ} → nodes″ ≡ filled (nx ++ drop (endOf k - 0) nodes) 0 (nodesReserve m) 0
       → table″ ≡ filled (hx ++ drop (k - 0) table′) 0 m 0 → work″ ≡ filled (wx ++ drop (k - 0) work) 0 (workReserve m) 0
       → Done ws m nodes table work (refused 10) nodes″ table″ work″
   rows-lost told lost en et ew =
       let g = l .gathered in
       let hs = boundedHandles ws m in
-      let (n, e) = refused-of (buildSubtree ws (length hs) hs) (given-moved ws (take (k - 0) table′) hs _ false (front-is g) told lost) in
-      let ten = tree-refused ws (length hs) hs n any (omega arith) e in
-      rw (built-lost ws m any 10 (e ∙ ap refused ten)) (
+      let told′ = done-moved ws (take (k - 0) table′) hs _ Lost (front-is g) told lost in
+      let e = refused-of (buildSubtree ws (length hs) hs) 10 told′ in
+      rw (built-lost ws m any 10 e) (
         refl,
         (
           en ∙ tray-zeroed nodesWritten (nodesReserve m) nodes _ 10 (omega (arith, nodes-size, g .room-nodes)) nodes-rest (omega arith),
@@ -308,21 +316,27 @@ module _ {ws : List ℕ} {m : ℕ} {nodes table work table′ : List ℕ} {k : �
     tree-left : {nodes″ table″ table‴ work″ : List ℕ} → nx ≡ treeWords t
         → nodes″ ≡ filled (nx ++ drop (endOf k - 0) nodes) (endOf k) (nodesReserve m) 0 → table″ ≡ filled (hx ++ drop (k - 0) table′) 0 m invalidIndex
         → table‴ ≡ tabledBelow nodes″ (2 * k - 1) table″ → work″ ≡ filled (wx ++ drop (k - 0) work) 0 (workReserve m) 0
-        → (o : Overall) → overall o ≡ allBounds ws m → Done ws m nodes table work (given (k, some (o .bounds))) nodes″ table‴ work″
-    tree-left whole en et el ew o box =
+        → (box : Bounds3) → some box ≡ allBounds ws m → Done ws m nodes table work (given (k, some box)) nodes″ table‴ work″
+    tree-left whole en et el ew box is =
         let g = l .gathered in
         let tree = nodes-left whole en in
         let clean = tray-empty workWritten (workReserve m) work (treeFor ws m t) _ refl (omega (arith, work-size, g .room-work)) work-rest in
-        rw (built-tree ws m any t e) (rw (← g .count, bounds-some ws m o any box) refl, (tree, (table-left tree et el, ew ∙ clean)))
+        rw (built-tree ws m any t e) (rw (← g .count, ← is) refl, (tree, (table-left tree et el, ew ∙ clean)))
 
-  pub rows-tree : {r : Bool} → r ≡ isGiven (buildSubtree ws (length (take (k - 0) table′)) (take (k - 0) table′)) → r ≡ true
+  pub rows-tree : {r : Subtree} → subtree r ≡ done (buildSubtree ws (length (take (k - 0) table′)) (take (k - 0) table′))
+      → r ≡ Built
       → nx ≡ subtreeWords 0 invalidIndex (buildSubtree ws (length (take (k - 0) table′)) (take (k - 0) table′)) nx → {nodes″ table″ table‴ work″ : List ℕ}
       → nodes″ ≡ filled (nx ++ drop (endOf k - 0) nodes) (endOf k) (nodesReserve m) 0 → table″ ≡ filled (hx ++ drop (k - 0) table′) 0 m invalidIndex
       → table‴ ≡ tabledBelow nodes″ (2 * k - 1) table″ → work″ ≡ filled (wx ++ drop (k - 0) work) 0 (workReserve m) 0
-      → (o : Overall) → overall o ≡ allBounds ws m → Done ws m nodes table work (given (k, some (o .bounds))) nodes″ table‴ work″
-  rows-tree told there words en et el ew o box =
+      → (box : Bounds3) → some box ≡ allBounds ws m → Done ws m nodes table work (given (k, some box)) nodes″ table‴ work″
+  rows-tree told there words en et el ew box is =
       let hs = boundedHandles ws m in
       let front = front-is (l .gathered) in
-      let (t, e) = given-of (buildSubtree ws (length hs) hs) (given-moved ws (take (k - 0) table′) hs _ true front told there) in
+      let told′ = done-moved ws (take (k - 0) table′) hs _ Built front told there in
+      let (t, e) = given-of (buildSubtree ws (length hs) hs) told′ in
       let whole = words-moved ws (take (k - 0) table′) hs 0 invalidIndex nx front words ∙ ap (λ (x : Answer Tree). subtreeWords 0 invalidIndex x nx) e in
-      tree-left t e whole en et el ew o box
+      tree-left t e whole en et el ew box is
+
+  -- where there is a tree there is a box
+  pub rows-boxed : none ≡ allBounds ws m → ⊥
+  rows-boxed e = bounds-there ws m any (sym e)

@@ -1,38 +1,33 @@
--- The tree that `build_rows` comes to. Its labels are the rows' handles, which are their places (`labels-below`); it refuses by 10 alone (`tree-refused`), by
--- induction on the depth, over what a stretch's halves hold; and the box of the powered rows is there where one of them is (`bounds-some`, `bounds-none`).
--- Assumes nothing.
-use Prim.Native.Nat.{ℕ, zero, suc, _/_, _≤_, _<_}
-use mathlib.Core.Path.{_≡_, refl, subst, sym, _∙_}
+-- The tree that `build_rows` comes to. Its labels are the rows' handles, which are their places (`labels-below`), so that
+-- each fits a head (`labels-fit`); and the box of the powered rows is there where one of them is (`bounds-there`,
+-- `bounds-none`). Assumes nothing.
+use Prim.Native.Nat.{ℕ, zero, suc, _/_, _^_, _≤_, _<_}
+use mathlib.Core.Path.{_≡_, refl, sym, _∙_}
 use mathlib.Core.Bool.{Bool, true, false, cond, _||_}
 use mathlib.Core.List.{List, [], _∷_, _++_, append-nil}
-use mathlib.Core.Option.{Option, none, some, IsSome}
+use mathlib.Core.Option.{Option, none, some, Option·none-ne-some}
 use native.Mathlib.Omega.{arith}
-use borrow.Author.Tests.{eqb-true}
-use lib.Dec.{eqb}
-use lib.Ieee.{eq}
-use lib.ListN.{length, getD, set, take, drop, length-append}
-use Rattle.words.specs.Answers.{Answer, given, refused}
+use borrow.Author.Tests.{eqb-true, ltb-true, ltb-false}
+use lib.Dec.{eqb, ltb}
+use lib.ListN.{length, getD, take, drop, length-append, List·getD-eq-default}
+use Rattle.words.specs.Answers.{Answer, given, refused, _then_}
+use Rattle.words.specs.Limits.{maxLamps}
 use Rattle.words.specs.Rows.{below}
-use Rattle.words.proofs.AnswerLaws.{Only, only-given, only-refused, only-cond, only-then, only-number, refused-injective, given-injective, not-both}
-use Rattle.words.proofs.AnswerLaws.{Gives, gives, gives-none, gives-any, gives-then, gives-value}
+use Rattle.words.proofs.AnswerLaws.{Gives, gives, gives-none, gives-any, gives-then, gives-value, then-given, given-injective, not-both}
 use Rattle.words.proofs.RowLaws.{below-at}
 use Rattle.light_bounds.specs.Bounds.{boxUnion}
 use Rattle.light_bounds.specs.LightBounds.{union}
 use Rattle.light_bounds.specs.declared.bounds.Bounds3.{Bounds3}
-use Rattle.light_bounds.specs.declared.light_bounds.LightBounds.{LightBounds}
-use Rattle.lamps.specs.Block.{handleAt, blockHandles}
+use Rattle.lamps.specs.Block.{blockWords, handlePlace, handleAt, blockHandles}
 use Rattle.light_nodes.specs.Tree.{Tree, bounds}
-use Rattle.light_split.specs.Buckets.{Bucket, joinTo, fillBuckets, emptyBuckets, unionRange, unionBucketRange, cutCost}
-use Rattle.light_split.specs.Lights.{lightOf, component, centroidEnds, bucketOf}
+use Rattle.light_split.specs.Lights.{lightOf, centroidEnds}
 use Rattle.light_split.specs.Partition.{kept, goesLeft, goesRight, lefts, rights, partitionHandles}
-use Rattle.light_split.specs.Split.{noBest, combinedBounds, cuts, axis, chooseSplit}
-use Rattle.light_split.specs.declared.split.Best.{Best}
+use Rattle.light_split.specs.Split.{chooseSplit}
 use Rattle.light_split.specs.declared.split.Split.{Split}
-use Rattle.light_split.proofs.BucketLaws.{union-refused}
 use Rattle.light_bvh.specs.Subtree.{labelOf, forked, treeBy, buildSubtree}
-use Rattle.light_bvh.specs.Build.{isPowered, boundedHandles, grown, allBounds, overall}
-use Rattle.light_bvh.specs.declared.build.Overall.{Overall}
-use Rattle.light_bvh.proofs.SubtreeLaws.{halves}
+use Rattle.light_bvh.specs.Build.{isPowered, boundedHandles, grown, allBounds, LightBVH, treeOf, validated, builtBvh}
+use Rattle.light_bvh.specs.Build.{buildCheck, buildLightBvh}
+use Rattle.light_bvh.proofs.BuildLaws.{build-checked}
 use Rattle.light_bvh.proofs.TableLaws.{Labels}
 
 -- ---- every item of a list has the property
@@ -115,6 +110,16 @@ module _ (ws : List ℕ) (m : ℕ) (checked : blockHandles ws ≡ given m) where
       go true e is = eqb-true (labelOf ws h) h (below-at (handleAt ws) (getD ws 0 0) h e (omega (arith, given-injective is)))
       go false e is = absurd (not-both is refl)
 
+  -- of a row past the block's end it reads 0
+  pub labels-fit : m ≤ 4096 → length ws ≡ blockWords m → (h : ℕ) → labelOf ws h < 2 ^ 30
+  labels-fit few long h = go (ltb h m) refl
+    where
+      go : (b : Bool) → ltb h m ≡ b → labelOf ws h < 2 ^ 30
+      go true e = let l = ltb-true h m e in rw (label-is h l) (omega arith)
+      go false e =
+          let past = ltb-false h m e in
+          rw (List·getD-eq-default ws 0 {n = handlePlace h} (omega arith)) (omega arith)
+
   pub labels-below : (n : ℕ) (hs : List ℕ) (t : Tree) → All (λ (h : ℕ). h < m) hs → buildSubtree ws n hs ≡ given t → Labels (λ (h : ℕ). h < m) t
   labels-below n hs t a e =
       gives-value (labels-of ws {P = λ (h : ℕ). h < m} {Q = λ (h : ℕ). h < m} (λ h l. rw (label-is h l) l) n hs a) e
@@ -138,6 +143,21 @@ unfolding boundedHandles
 bounded-few ws zero = omega arith
 bounded-few ws (suc n) =
     rw (length-append (boundedHandles ws n) (cond (isPowered ws n) (n ∷ []) [])) (omega (arith, bounded-few ws n, one-at-most (isPowered ws n) n))
+
+built-few : (ws : List ℕ) (m : ℕ) → Gives (λ (b : LightBVH). b .k ≤ m) (builtBvh ws m)
+unfolding builtBvh
+built-few ws m = gives-then (gives-any (treeOf ws (boundedHandles ws m))) (λ t _. gives (bounded-few ws m))
+
+-- so an accepted build has at most the lamps that a block may have
+pub accepted-few : (lights : ℕ) (ws : List ℕ) (nodes table work : ℕ) (b : LightBVH)
+    → buildLightBvh lights ws nodes table work ≡ given b → b .k ≤ maxLamps
+unfolding buildLightBvh
+accepted-few lights ws nodes table work b e =
+    let (m, checked, e₁) =
+    then-given (buildCheck lights ws nodes table work) (λ (m : ℕ). validated ws m then λ _. builtBvh ws m) b e in
+    let (_, _, e₂) = then-given (validated ws m) (λ _. builtBvh ws m) b e₁ in
+    let few = build-checked lights ws nodes table work m checked .1 in
+    omega (arith, gives-value (built-few ws m) e₂)
 
 -- their box is there where one of them is
 abbrev BoxOf : List ℕ → Option Bounds3 → Type 0
@@ -170,87 +190,7 @@ box-some (h ∷ hs) o l b = b
 pub bounds-none : (ws : List ℕ) (m : ℕ) → length (boundedHandles ws m) ≡ 0 → allBounds ws m ≡ none
 bounds-none ws m e = box-none (boundedHandles ws m) (allBounds ws m) e (box-of ws m)
 
-overall-some : (any : Bool) (box b : Bounds3) → cond any (some box) none ≡ some b → cond any (some box) none ≡ some box
-overall-some true box b e = refl
-overall-some false box b e = absurd (subst IsSome (sym e) tt)
-
--- what the code has of it
-pub bounds-some : (ws : List ℕ) (m : ℕ) (o : Overall) → 0 < length (boundedHandles ws m) → overall o ≡ allBounds ws m → allBounds ws m ≡ some (o .bounds)
-bounds-some ws m o l e =
+pub bounds-there : (ws : List ℕ) (m : ℕ) → 0 < length (boundedHandles ws m) → allBounds ws m ≡ none → ⊥
+bounds-there ws m l e =
     let (b, is) = box-some (boundedHandles ws m) (allBounds ws m) l (box-of ws m) in
-    sym e ∙ overall-some (o .any) (o .bounds) b (e ∙ is)
-
--- ---- 10 alone
-
-abbrev Ten : {A : Type 0} → Answer A → Type 0
-Ten x = Only (λ (n : ℕ). n ≡ 10) x
-
-ten-union : (a b : LightBounds) → Ten (union a b)
-ten-union a b = go (union a b) refl
-  where
-    go : (x : Answer LightBounds) → union a b ≡ x → Ten x
-    go (given r) e = only-given
-    go (refused n) e = only-refused (refused-injective (sym e ∙ union-refused a b n e))
-
-ten-join : (o : Bucket) (b : LightBounds) → Ten (joinTo o b)
-unfolding joinTo
-ten-join none b = only-given
-ten-join (some a) b = only-then (ten-union a b) (λ _. only-given)
-
-ten-fill : (ws : List ℕ) (ends : Bounds3) (d : ℕ) (bs : List Bucket) (hs : List ℕ) → Ten (fillBuckets ws ends d bs hs)
-unfolding fillBuckets
-ten-fill ws ends d bs [] = only-given
-ten-fill ws ends d bs (h ∷ hs) =
-    only-then (ten-join (getD bs (bucketOf ws ends d h) none) (lightOf ws h)) (λ b. ten-fill ws ends d (set bs (bucketOf ws ends d h) b) hs)
-
-ten-range : (o : Bucket) (bs : List Bucket) → Ten (unionRange o bs)
-unfolding unionRange
-ten-range o [] = only-given
-ten-range o (none ∷ bs) = ten-range o bs
-ten-range o (some b ∷ bs) = only-then (ten-join o b) (λ r. ten-range r bs)
-
-ten-cost : (bs : List Bucket) (parent : Bounds3) (d k : ℕ) → Ten (cutCost bs parent d k)
-unfolding cutCost unionBucketRange
-ten-cost bs parent d k =
-    only-then (ten-range none (drop 0 (take (suc k) bs))) (λ l. only-then (ten-range none (drop (suc k) (take 12 bs))) (λ r. only-given))
-
-ten-cuts : (bs : List Bucket) (parent : Bounds3) (d : ℕ) (b : Best) (n : ℕ) → Ten (cuts bs parent d b n)
-unfolding cuts
-ten-cuts bs parent d b zero = only-given
-ten-cuts bs parent d b (suc n) = only-then (ten-cuts bs parent d b n) (λ _. only-then (ten-cost bs parent d n) (λ _. only-given))
-
-ten-axis : (ws hs : List ℕ) (ends parent : Bounds3) (d : ℕ) (b : Best) → Ten (axis ws hs ends parent d b)
-unfolding axis
-ten-axis ws hs ends parent d b =
-    only-cond (eq (component d (ends .min)) (component d (ends .max))) only-given
-    (only-then (ten-fill ws ends d emptyBuckets hs) (λ bs. ten-cuts bs parent d b 11))
-
-ten-split : (ws hs : List ℕ) → Ten (chooseSplit ws hs)
-unfolding chooseSplit
-ten-split ws hs =
-    let ends = centroidEnds ws hs in
-    let parent = combinedBounds ws hs in
-    only-then (ten-axis ws hs ends parent 0 noBest) (λ b. only-then (ten-axis ws hs ends parent 1 b) (λ b. only-then (ten-axis ws hs ends parent 2 b) (λ b.
-    only-given)))
-
-module _ (ws : List ℕ) where
-  ten-by : (n : ℕ) (build : List ℕ → Answer Tree) → ((hs : List ℕ) → 1 ≤ length hs → length hs ≤ n → Ten (build hs))
-      → (hs : List ℕ) → 1 ≤ length hs → length hs ≤ suc n → Ten (treeBy ws hs build)
-  unfolding treeBy forked
-  ten-by n build each [] h k = absurd (omega arith)
-  ten-by n build each (x ∷ []) h k = only-given
-  ten-by n build each (x ∷ y ∷ hs) h k =
-      let all = x ∷ y ∷ hs in
-      only-then (ten-split ws all) (λ s.
-      let w = halves ws all s (omega arith) in
-      only-then (each (partitionHandles ws all s .0) (w .left) (omega arith)) (λ l.
-      only-then (each (partitionHandles ws all s .1) (w .right) (omega arith)) (λ r.
-      only-then (ten-union (bounds l) (bounds r)) (λ b. only-given))))
-
-  ten-tree : (n : ℕ) (hs : List ℕ) → 1 ≤ length hs → length hs ≤ n → Ten (buildSubtree ws n hs)
-  unfolding buildSubtree
-  ten-tree zero hs h k = absurd (omega arith)
-  ten-tree (suc n) hs h k = ten-by n (λ (hs : List ℕ). buildSubtree ws n hs) (λ hs h k. ten-tree n hs h k) hs h k
-
-  pub tree-refused : (n : ℕ) (hs : List ℕ) (k : ℕ) → 1 ≤ length hs → length hs ≤ n → buildSubtree ws n hs ≡ refused k → k ≡ 10
-  tree-refused n hs k h l e = only-number (ten-tree n hs h l) e
+    Option·none-ne-some b (sym e ∙ is)

@@ -3,24 +3,26 @@
 -- format (`build-sized`), so its root is read back from its words as it is (`union-read`, `joined-read`). Assumes nothing.
 use Prim.Native.Nat.{ℕ, zero, suc, _+_, _-_, _*_, _/_, _^_, _≤_, _<_}
 use mathlib.Core.Path.{_≡_, refl, ap, sym, _∙_}
-use mathlib.Core.Bool.{Bool, true, false, cond, _&&_, true≢false}
+use mathlib.Core.Bool.{Bool, true, false, cond, _&&_}
 use mathlib.Core.List.{List, [], _∷_, _++_, append-nil, append-assoc}
 use mathlib.Core.Logic.{_⊎_, inl, inr}
 use native.Mathlib.Omega.{arith}
-use borrow.Author.Tests.{eqb-true, eqb-false, le-ltb}
+use borrow.Author.Tests.{eqb-true, eqb-false, le-ltb, lt-ltb}
 use lib.Dec.{eqb, leb}
 use lib.ListN.{length, getD, take, drop, length-append, length-drop, drop-of-length-le}
 use lib.Seq.{sets-eq, take-at, drop-at, take-all, length-take-le}
 use borrow.Rule.Slice.PartMut.{midOf, putMid, mid-len, same-len-mid}
 use Rattle.words.specs.Answers.{Answer, given, refused, _then_}
 use Rattle.words.proofs.AnswerLaws.{Gives, gives, gives-none, gives-any, gives-then, gives-value, given-injective, refused-injective, then-given, not-both}
+use Rattle.words.proofs.AnswerLaws.{only-number}
 use Rattle.light_bounds.specs.BoundsLaws.{union-given}
 use Rattle.light_bounds.specs.LightBounds.{union}
 use Rattle.light_bounds.specs.RecordLaws.{RecordFits, join-fits, record-fits-read}
 use Rattle.light_bounds.specs.RecordWords.{readRecord, recordAt, recordWords, sidePlace}
 use Rattle.light_bounds.specs.Side.{sideKnown}
 use Rattle.light_bounds.specs.declared.light_bounds.LightBounds.{LightBounds}
-use Rattle.light_nodes.specs.Nodes.{LightBVHNode, leaf as leafNode, interior, nodeWords, nodePlace, boundsPlace, boundsAt, nodeList, nodeWritten}
+use Rattle.light_nodes.specs.Nodes.{LightBVHNode, leaf as leafNode, interior, nodeWords, nodePlace, boundsPlace}
+use Rattle.light_nodes.specs.Nodes.{boundsAt, nodeList, headFits, nodeWritten}
 use Rattle.light_nodes.specs.Tree.{Tree, leaf, fork, bounds, leaves, flatten, rightPlace}
 use Rattle.light_nodes.specs.TreeLaws.{length-nodeList, length-flatten, root-bounds-at}
 use Rattle.light_nodes.proofs.NodePlaces.{nodeWritten-room}
@@ -29,7 +31,11 @@ use Rattle.light_split.specs.Partition.{lefts, rights, partitionHandles, parted
 use Rattle.light_split.specs.Split.{chooseSplit}
 use Rattle.light_split.specs.declared.split.Split.{Split}
 use Rattle.light_split.proofs.PartitionLaws.{both-lengths, partition-joined, partition-half, partition-both}
-use Rattle.light_bvh.specs.Subtree.{labelOf, forked, treeBy, buildSubtree, isGiven, subtreeWords, splitCount, splitHandles, unionAt, joinedWords}
+use Rattle.light_bvh.specs.Subtree.{labelOf, forked, treeBy, buildSubtree, subtree, done, subtreeWords}
+use Rattle.light_bvh.specs.Subtree.{splitCount, splitHandles, unionAt, joinedWords}
+use Rattle.light_bvh.specs.declared.subtree.Subtree.{Subtree}
+use Rattle.light_bvh.specs.declared.subtree.Subtree.the-variants.{Built, Lost}
+use Rattle.light_bvh.proofs.LostLaws.{ten-split}
 
 -- ---- the halves
 
@@ -218,15 +224,17 @@ module _ (root : List ℕ) (at : ℕ) (l r : Tree) (room : length root ≡ nodeW
       ap (λ (b : LightBounds). union b (readRecord (laidOut root at l r) (boundsPlace (2 * leaves l)))) (left-read f)
       ∙ ap (union (bounds l)) (right-read g)
 
-  pub joined-read : (p : ℕ) (b : LightBounds) → nodeWritten (laidOut root at l r) 0 (interior (at + 1) (rightPlace at l) p) b ≡ flatten at p (fork b l r)
+  pub joined-read : at + 1 < 2 ^ 30 → (p : ℕ) (b : LightBounds)
+      → nodeWritten (laidOut root at l r) 0 (interior (at + 1) (rightPlace at l) p) b ≡ flatten at p (fork b l r)
   unfolding flatten
-  joined-read p b =
+  joined-read fits p b =
       let rest = flatten (at + 1) at l ++ flatten (rightPlace at l) at r in
       let node = nodeList (interior (at + 1) (rightPlace at l) p) b in
       let long = length-append root rest in
       let is : laidOut root at l r ≡ root ++ rest = append-assoc root (flatten (at + 1) at l) (flatten (rightPlace at l) at r) in
       let size = length-nodeList (interior (at + 1) (rightPlace at l) p) b in
       rw is (nodeWritten-room (root ++ rest) 0 (interior (at + 1) (rightPlace at l) p) b (omega arith)
+      (lt-ltb (at + 1) 0x4000_0000 fits)
       ∙ sets-eq node (root ++ rest) 0 (omega arith)
       ∙ ap (λ (xs : List ℕ). node ++ xs) (drop-at root rest (0 + length node) (omega arith))
       ∙ sym (append-assoc node (flatten (at + 1) at l) (flatten (rightPlace at l) at r)))
@@ -242,13 +250,13 @@ parted-is ws hs s room e h x l count is =
 
 -- ---- as the code goes
 
-pub refused-of : {A : Type 0} (x : Answer A) → isGiven x ≡ false → (n : ℕ) × (x ≡ refused n)
-refused-of (given a) e = absurd (true≢false e)
-refused-of (refused n) e = (n, refl)
+pub refused-of : {A : Type 0} (x : Answer A) (n : ℕ) → done x ≡ refused n → x ≡ refused n
+refused-of (given a) n e = absurd (not-both refl e)
+refused-of (refused m) n e = ap refused (refused-injective e)
 
-pub given-of : {A : Type 0} (x : Answer A) → isGiven x ≡ true → (a : A) × (x ≡ given a)
+pub given-of : {A : Type 0} (x : Answer A) → done x ≡ given tt → (a : A) × (x ≡ given a)
 given-of (given a) e = (a, refl)
-given-of (refused n) e = absurd (true≢false (sym e))
+given-of (refused n) e = absurd (not-both e refl)
 
 -- a stretch that is parted, hs′ with its halves one behind the other
 pub record Cut (ws hs hs′ : List ℕ) (left : ℕ) : Type 0 where
@@ -282,27 +290,31 @@ cut-of ws hs hs′ left e e′ h =
     }
 
 -- what a build answers and leaves
-abbrev pub Left : ℕ → ℕ → Answer Tree → Bool → List ℕ → Type 0
-Left at p x r nodes = (r ≡ isGiven x) × (nodes ≡ subtreeWords at p x nodes)
+abbrev pub Left : ℕ → ℕ → Answer Tree → Subtree → List ℕ → Type 0
+Left at p x r nodes = (subtree r ≡ done x) × (nodes ≡ subtreeWords at p x nodes)
 
 -- of one list, it is so of a list that is the same
-pub given-moved : (ws l l′ : List ℕ) (r b : Bool) → l ≡ l′ → r ≡ isGiven (whole ws l) → r ≡ b → isGiven (whole ws l′) ≡ b
-given-moved ws l l′ r b e h k = ap (λ (l : List ℕ). isGiven (whole ws l)) (sym e) ∙ sym h ∙ k
+pub done-moved : (ws l l′ : List ℕ) (r s : Subtree) → l ≡ l′ → subtree r ≡ done (whole ws l) → r ≡ s
+    → done (whole ws l′) ≡ subtree s
+done-moved ws l l′ r s e h k = ap (λ (l : List ℕ). done (whole ws l)) (sym e) ∙ sym h ∙ ap subtree k
 
 pub words-moved : (ws l l′ : List ℕ) (at p : ℕ) (n : List ℕ) → l ≡ l′ → n ≡ subtreeWords at p (whole ws l) n → n ≡ subtreeWords at p (whole ws l′) n
 words-moved ws l l′ at p n e h = h ∙ ap (λ (l : List ℕ). subtreeWords at p (whole ws l) n) e
 
-refused-left : (at p : ℕ) (x : Answer Tree) (n : ℕ) (nodes : List ℕ) → x ≡ refused n → Left at p x false nodes
-refused-left at p x n nodes e = rw e (refl, refl)
+lost-tree : (at p : ℕ) (x : Answer Tree) (nodes : List ℕ) → x ≡ refused 10 → Left at p x Lost nodes
+lost-tree at p x nodes e = rw e (refl, refl)
 
-pub lost-left : (ws hs : List ℕ) (at p n : ℕ) (nodes : List ℕ) → splitCount ws hs ≡ refused n → 2 ≤ length hs → Left at p (whole ws hs) false nodes
+pub lost-left : (ws hs : List ℕ) (at p n : ℕ) (nodes : List ℕ) → splitCount ws hs ≡ refused n → 2 ≤ length hs
+    → Left at p (whole ws hs) Lost nodes
 unfolding splitCount forked _then_
-lost-left ws hs at p n nodes e h = refused-left at p (whole ws hs) _ nodes (build-fork ws hs h ∙ lost (chooseSplit ws hs) _ _ n e)
+lost-left ws hs at p n nodes e h =
+    let lost = no-split (chooseSplit ws hs) _ e in
+    let ten = only-number (ten-split ws hs) lost in
+    lost-tree at p (whole ws hs) nodes (build-fork ws hs h ∙ then-refused (chooseSplit ws hs) _ 10 (lost ∙ ap refused ten))
   where
-    lost : {B : Type 0} (x : Answer Split) (f : Split → ℕ) (g : Split → Answer B) (n : ℕ) → x then (λ (s : Split). given (f s)) ≡ refused n
-        → x then g ≡ refused n
-    lost (given s) f g n e = absurd (not-both refl e)
-    lost (refused m) f g n e = ap refused (refused-injective e)
+    no-split : (x : Answer Split) (f : Split → ℕ) → x then (λ (s : Split). given (f s)) ≡ refused n → x ≡ refused n
+    no-split (given s) f e = absurd (not-both refl e)
+    no-split (refused m) f e = ap refused (refused-injective e)
 
 module _ {ws hs hs′ : List ℕ} {left : ℕ} (cut : Cut ws hs hs′ left) where
   -- the forked tree, of halves that are read off the parted stretch
@@ -314,50 +326,55 @@ module _ {ws hs hs′ : List ℕ} {left : ℕ} (cut : Cut ws hs hs′ left) wher
       ∙ ap (λ (x : Answer Split). x then λ (s : Split). whole ws (partitionHandles ws hs s .0) then λ (l : Tree). whole ws (partitionHandles ws hs s .1) then
       λ (r : Tree). union (bounds l) (bounds r) then λ (b : LightBounds). given (fork b l r)) (cut .chosen))
 
-  pub no-left : (at p : ℕ) (nodes : List ℕ) → isGiven (whole ws (take left hs′)) ≡ false → Left at p (whole ws hs) false nodes
+  pub no-left : (at p : ℕ) (nodes : List ℕ) → done (whole ws (take left hs′)) ≡ refused 10
+      → Left at p (whole ws hs) Lost nodes
   no-left at p nodes e =
-      let (n, x) = refused-of (whole ws (take left hs′)) e in
-      refused-left at p (whole ws hs) n nodes (forked-cut ∙ then-refused (whole ws (take left hs′)) _ n x)
+      let x = refused-of (whole ws (take left hs′)) 10 e in
+      lost-tree at p (whole ws hs) nodes (forked-cut ∙ then-refused (whole ws (take left hs′)) _ 10 x)
 
-  pub no-right : (at p : ℕ) (nodes : List ℕ) → isGiven (whole ws (take left hs′)) ≡ true → isGiven (whole ws (drop left hs′)) ≡ false
-      → Left at p (whole ws hs) false nodes
+  pub no-right : (at p : ℕ) (nodes : List ℕ) → done (whole ws (take left hs′)) ≡ given tt
+      → done (whole ws (drop left hs′)) ≡ refused 10 → Left at p (whole ws hs) Lost nodes
   no-right at p nodes e e′ =
       let (l, x) = given-of (whole ws (take left hs′)) e in
-      let (n, y) = refused-of (whole ws (drop left hs′)) e′ in
-      refused-left at p (whole ws hs) n nodes (forked-cut ∙ then-is (whole ws (take left hs′)) _ l x ∙ then-refused (whole ws (drop left hs′)) _ n y)
+      let y = refused-of (whole ws (drop left hs′)) 10 e′ in
+      let lost = then-refused (whole ws (drop left hs′)) _ 10 y in
+      lost-tree at p (whole ws hs) nodes (forked-cut ∙ then-is (whole ws (take left hs′)) _ l x ∙ lost)
 
 -- ---- one handle
 
-node-alone : (nodes : List ℕ) (n : LightBVHNode) (b : LightBounds) → length nodes ≡ nodeWords → nodeWritten nodes 0 n b ≡ nodeList n b
-node-alone nodes n b room =
+node-alone : (nodes : List ℕ) (n : LightBVHNode) (b : LightBounds) → length nodes ≡ nodeWords → headFits n ≡ true
+    → nodeWritten nodes 0 n b ≡ nodeList n b
+node-alone nodes n b room fits =
     let node = nodeList n b in
     let size = length-nodeList n b in
     let past : drop (0 + length node) nodes ≡ [] = drop-of-length-le nodes {i = 0 + length node} (omega arith) in
-    nodeWritten-room nodes 0 n b (omega arith) ∙ sets-eq node nodes 0 (omega arith) ∙ ap (λ (xs : List ℕ). node ++ xs) past ∙ append-nil node
+    nodeWritten-room nodes 0 n b (omega arith) fits ∙ sets-eq node nodes 0 (omega arith)
+    ∙ ap (λ (xs : List ℕ). node ++ xs) past ∙ append-nil node
 
 pub leaf-left : (ws hs nodes nodes′ : List ℕ) (at p label : ℕ) (light : LightBounds) → length hs ≡ 1 → length nodes + nodeWords ≡ nodeWords * (2 * length hs)
-    → label ≡ labelOf ws (getD hs 0 0) → light ≡ lightOf ws (getD hs 0 0) → nodes′ ≡ nodeWritten nodes 0 (leafNode label p) light
-    → Left at p (whole ws hs) true nodes′
+    → ((h : ℕ) → labelOf ws h < 2 ^ 30) → label ≡ labelOf ws (getD hs 0 0) → light ≡ lightOf ws (getD hs 0 0)
+    → nodes′ ≡ nodeWritten nodes 0 (leafNode label p) light → Left at p (whole ws hs) Built nodes′
 unfolding flatten
-leaf-left ws hs nodes nodes′ at p label light one size is-label is-light e =
-    rw (build-leaf ws hs one) (refl, e ∙ rw (is-label, is-light) (node-alone nodes _ _ (omega arith)))
+leaf-left ws hs nodes nodes′ at p label light one size labels is-label is-light e =
+    let fits = lt-ltb (labelOf ws (getD hs 0 0)) 0x4000_0000 (labels (getD hs 0 0)) in
+    rw (build-leaf ws hs one) (refl, e ∙ rw (is-label, is-light) (node-alone nodes _ _ (omega arith) fits))
 
 -- ---- more than one
 
-joined-left : (at p right : ℕ) (nodes nodes′ : List ℕ) (l r : Tree) (x : Answer LightBounds) (res : Bool)
-    → ((b : LightBounds) → nodeWritten nodes 0 (interior (at + 1) (at + right) p) b ≡ flatten at p (fork b l r)) → res ≡ isGiven x
-    → nodes′ ≡ joinedWords at p right nodes x → Left at p (x then λ (b : LightBounds). given (fork b l r)) res nodes′
+joined-left : (at p right : ℕ) (nodes nodes′ : List ℕ) (l r : Tree) (x : Answer LightBounds) (res : Subtree)
+    → ((b : LightBounds) → nodeWritten nodes 0 (interior (at + 1) (at + right) p) b ≡ flatten at p (fork b l r))
+    → subtree res ≡ done x → nodes′ ≡ joinedWords at p right nodes x → Left at p (x then λ (b : LightBounds). given (fork b l r)) res nodes′
 unfolding _then_
 joined-left at p right nodes nodes′ l r (given b) res j e e′ = (e, e′ ∙ j b)
 joined-left at p right nodes nodes′ l r (refused n) res j e e′ = (e, refl)
 
 module _ {ws hs hs′ : List ℕ} {left : ℕ} (cut : Cut ws hs hs′ left) (at p : ℕ) where
-  pub both-left : (root n1 n2 nodes : List ℕ) → length root ≡ nodeWords
-      → isGiven (whole ws (take left hs′)) ≡ true → n1 ≡ subtreeWords (at + 1) at (whole ws (take left hs′)) n1
-      → isGiven (whole ws (drop left hs′)) ≡ true → n2 ≡ subtreeWords (at + 2 * left) at (whole ws (drop left hs′)) n2 → nodes ≡ root ++ n1 ++ n2
-      → (res : Bool) (nodes′ : List ℕ) → res ≡ isGiven (unionAt nodes (2 * left))
+  pub both-left : (root n1 n2 nodes : List ℕ) → at + 1 < 2 ^ 30 → length root ≡ nodeWords
+      → done (whole ws (take left hs′)) ≡ given tt → n1 ≡ subtreeWords (at + 1) at (whole ws (take left hs′)) n1
+      → done (whole ws (drop left hs′)) ≡ given tt → n2 ≡ subtreeWords (at + 2 * left) at (whole ws (drop left hs′)) n2 → nodes ≡ root ++ n1 ++ n2
+      → (res : Subtree) (nodes′ : List ℕ) → subtree res ≡ done (unionAt nodes (2 * left))
       → nodes′ ≡ joinedWords at p (2 * left) nodes (unionAt nodes (2 * left)) → Left at p (whole ws hs) res nodes′
-  both-left root n1 n2 nodes room e w e′ w′ laid res nodes′ told told′ =
+  both-left root n1 n2 nodes fits room e w e′ w′ laid res nodes′ told told′ =
       let (l, x) = given-of (whole ws (take left hs′)) e in
       let (r, y) = given-of (whole ws (drop left hs′)) e′ in
       let size : left ≡ leaves l = cut .count ∙ ap length (sym (cut .front)) ∙ sym (build-size ws (length (take left hs′)) (take left hs′) l x) in
@@ -374,9 +391,9 @@ module _ {ws hs hs′ : List ℕ} {left : ℕ} (cut : Cut ws hs hs′ left) (at 
       ap (λ (a : List ℕ). unionAt a (2 * left)) is ∙ ap (λ (k : ℕ). unionAt out (2 * k)) size ∙ union-read root at l r room fit fit′ in
       let j : (b : LightBounds) → nodeWritten nodes 0 (interior (at + 1) (at + 2 * left) p) b ≡ flatten at p (fork b l r) =
       λ b. ap (λ (a : List ℕ). nodeWritten a 0 (interior (at + 1) (at + 2 * left) p) b) is
-      ∙ ap (λ (k : ℕ). nodeWritten out 0 (interior (at + 1) k p) b) place ∙ joined-read root at l r room p b in
+      ∙ ap (λ (k : ℕ). nodeWritten out 0 (interior (at + 1) k p) b) place ∙ joined-read root at l r room fits p b in
       let whole-is = forked-cut cut ∙ then-is (whole ws (take left hs′)) _ l x ∙ then-is (whole ws (drop left hs′)) _ r y in
-      rw whole-is (joined-left at p (2 * left) nodes nodes′ l r (union (bounds l) (bounds r)) res j (told ∙ ap isGiven u)
+      rw whole-is (joined-left at p (2 * left) nodes nodes′ l r (union (bounds l) (bounds r)) res j (told ∙ ap done u)
       (told′ ∙ ap (joinedWords at p (2 * left) nodes) u))
 
 -- ---- the parts that are lent: where the build of a stretch stands once it is parted
@@ -386,11 +403,13 @@ pub record Stand (ws hs work nodes : List ℕ) (at : ℕ) (hs′ : List ℕ) (le
   pub room : length hs ≤ length work
   pub size : length nodes + nodeWords ≡ nodeWords * (2 * length hs)
   pub fits : at + 2 * length hs < 2 ^ 30
+  pub labels : (h : ℕ) → labelOf ws h < 2 ^ 30
 
 -- what a build asks
-abbrev pub Asks : List ℕ → List ℕ → List ℕ → ℕ → Type 0
-Asks hs work nodes at =
-    (1 ≤ length hs) × ((length hs ≤ length work) × ((length nodes + nodeWords ≡ nodeWords * (2 * length hs)) × (at + 2 * length hs < 2 ^ 30)))
+abbrev pub Asks : List ℕ → List ℕ → List ℕ → List ℕ → ℕ → Type 0
+Asks ws hs work nodes at =
+    (1 ≤ length hs) × ((length hs ≤ length work) × ((length nodes + nodeWords ≡ nodeWords * (2 * length hs))
+    × ((at + 2 * length hs < 2 ^ 30) × ((h : ℕ) → labelOf ws h < 2 ^ 30))))
 
 -- the parted stretch and the nodes, with what the first build leaves of the left parts
 abbrev pub handlesLeft : ℕ → List ℕ → List ℕ → List ℕ
@@ -409,13 +428,14 @@ module _ {ws hs work nodes hs′ : List ℕ} {at left : ℕ} (s : Stand ws hs wo
   pub words-length : length (midOf 16 (32 * left - 16) nodes) ≡ 32 * left - 16
   words-length = mid-len 16 (32 * left) nodes (omega (arith, s .size, s .cut .rest))
 
-  pub left-asks : (work′ : List ℕ) → length work′ ≡ length work → Asks (take (left - 0) hs′) work′ (midOf 16 (32 * left - 16) nodes) (at + 1)
+  pub left-asks : (work′ : List ℕ) → length work′ ≡ length work
+      → Asks ws (take (left - 0) hs′) work′ (midOf 16 (32 * left - 16) nodes) (at + 1)
   left-asks work′ same =
       let some = s .cut .some in
       let rest = s .cut .rest in
       let n = front-length in
       let m = words-length in
-      (omega (arith, n), (omega (arith, n, s .room), (omega (arith, n, m), omega (arith, n, s .fits))))
+      (omega (arith, n), (omega (arith, n, s .room), (omega (arith, n, m), (omega (arith, n, s .fits), s .labels))))
 
   module _ (h1 n1 : List ℕ) (same-h : length h1 ≡ length (take (left - 0) hs′)) (same-n : length n1 ≡ length (midOf 16 (32 * left - 16) nodes)) where
     pub handles-left : length (handlesLeft left hs′ h1) ≡ length hs
@@ -439,7 +459,7 @@ module _ {ws hs work nodes hs′ : List ℕ} {at left : ℕ} (s : Stand ws hs wo
     words-right = mid-len (32 * left) (length (nodesLeft left nodes n1)) (nodesLeft left nodes n1) (omega arith) ∙ ap (λ (k : ℕ). k - 32 * left) nodes-left
 
     pub right-asks : (work′ : List ℕ) → length work′ ≡ length work
-        → Asks (midOf left (length hs - left) (handlesLeft left hs′ h1)) work′
+        → Asks ws (midOf left (length hs - left) (handlesLeft left hs′ h1)) work′
         (midOf (32 * left) (length (nodesLeft left nodes n1) - 32 * left) (nodesLeft left nodes n1)) (at + 2 * left)
     right-asks work′ same =
         let some = s .cut .some in
@@ -447,7 +467,7 @@ module _ {ws hs work nodes hs′ : List ℕ} {at left : ℕ} (s : Stand ws hs wo
         let n = back-length in
         let m = words-right in
         let size = s .size in
-        (omega (arith, n), (omega (arith, n, s .room), (omega (arith, n, m), omega (arith, n, s .fits))))
+        (omega (arith, n), (omega (arith, n, s .room), (omega (arith, n, m), (omega (arith, n, s .fits), s .labels))))
 
     pub root-length : length (take 16 nodes) ≡ nodeWords
     root-length = length-take-le 16 nodes (omega (arith, s .size, s .cut .some, s .cut .rest))

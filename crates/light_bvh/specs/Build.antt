@@ -18,7 +18,6 @@ use Rattle.light_nodes.specs.Nodes.{nodeWords, nodePlace, invalidIndex}
 use Rattle.light_nodes.specs.Tree.{Tree, leaf, fork, rightPlace, treeWords}
 use Rattle.light_split.specs.Lights.{lightOf}
 use Rattle.light_bvh.specs.Subtree.{buildSubtree}
-use Rattle.light_bvh.specs.declared.build.Overall.{Overall}
 use Rattle.light_bvh.specs.declared.build.Built.{Built}
 use Rattle.light_bvh.specs.declared.build.Built.the-variants.{Tree as Built·Tree, Nothing, Refused}
 
@@ -129,7 +128,3 @@ tabledBelow ws (suc n) table =
     let head = getD ws (nodePlace n) 0 in
     let before = tabledBelow ws n table in
     cond (eqb (kindOf head) 1) (set before (handleOf head) n) before
-
--- what the struct `Overall` holds
-abbrev pub overall : Overall → Option Bounds3
-overall o = cond (o .any) (some (o .bounds)) none

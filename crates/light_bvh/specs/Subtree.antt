@@ -1,6 +1,5 @@
 -- `build_subtree` of `light_bvh.rs`: a stretch of handles, rows of a block, to a tree. Definitions only. Assumes nothing.
 use Prim.Native.Nat.{ℕ, zero, suc, _+_}
-use mathlib.Core.Bool.{Bool, true, false}
 use mathlib.Core.List.{List, [], _∷_, _++_}
 use lib.ListN.{length, getD}
 use Rattle.words.specs.Answers.{Answer, given, refused, _then_}
@@ -14,6 +13,8 @@ use Rattle.light_split.specs.Lights.{lightOf}
 use Rattle.light_split.specs.Partition.{partitionHandles}
 use Rattle.light_split.specs.Split.{chooseSplit}
 use Rattle.light_split.specs.declared.split.Split.{Split}
+use Rattle.light_bvh.specs.declared.subtree.Subtree.{Subtree}
+use Rattle.light_bvh.specs.declared.subtree.Subtree.the-variants.{Built, Lost}
 
 -- a leaf's label is the handle word of its row
 abbrev pub labelOf : List ℕ → ℕ → ℕ
@@ -38,10 +39,15 @@ buildSubtree ws (suc n) hs = treeBy ws hs (λ (hs : List ℕ). buildSubtree ws n
 
 -- ---- as the code has it
 
--- whether there is a tree
-abbrev pub isGiven : {A : Type 0} → Answer A → Bool
-isGiven (given a) = true
-isGiven (refused n) = false
+-- what the enum `Subtree` answers: the tree stands in the nodes, or 10
+abbrev pub subtree : Subtree → Answer (Unit {0})
+subtree Built = given tt
+subtree Lost = refused 10
+
+-- that something is given, or why not
+abbrev pub done : {A : Type 0} → Answer A → Answer (Unit {0})
+done (given a) = given tt
+done (refused n) = refused n
 
 -- the words of a tree whose root stands at a place, under a parent; without one, whatever is left
 abbrev pub subtreeWords : ℕ → ℕ → Answer Tree → List ℕ → List ℕ

@@ -7,16 +7,18 @@ ghost use lib.ListN.{length, getD};
 ghost use Rattle.words.specs.Answers.{given, refused, counted};
 ghost use Rattle.words.specs.Fill.{filled};
 ghost use Rattle.words.specs.Tray.{tray};
-ghost use Rattle.light_bounds.specs.Bounds.{validity};
-ghost use Rattle.lamps.specs.Block.{blockHandles};
+ghost use Rattle.light_bounds.specs.Bounds.{validity, allBoundsOf};
+ghost use Rattle.lamps.specs.Block.{blockHandles, blockWords};
 ghost use Rattle.light_nodes.specs.Nodes.{nodeWords};
 ghost use Rattle.light_split.specs.Partition.{laid};
-ghost use Rattle.light_bvh.specs.Build.{isPowered, boundedHandles, grown, allBounds as allBoundsOf, validated, builtBvh, nodesReserve, workReserve};
-ghost use Rattle.light_bvh.specs.Build.{isShort, buildCheck, buildLightBvh, nodesWritten, tableWritten, workWritten, tabledBelow};
-ghost use Rattle.light_bvh.specs.Build.{summary, built, overall};
+ghost use Rattle.light_bvh.specs.Build.{isPowered, boundedHandles, grown, allBounds as poweredBox, validated};
+ghost use Rattle.light_bvh.specs.Build.{builtBvh, nodesReserve, workReserve, isShort, buildCheck, buildLightBvh};
+ghost use Rattle.light_bvh.specs.Build.{nodesWritten, tableWritten, workWritten, tabledBelow, summary, built};
+use super::subtree::Subtree;
 use super::subtree::build_subtree;
 use lamps::block::check_handles;
 use lamps::block::check_layout;
+use light_bounds::bounds::AllBounds;
 use light_bounds::bounds::Bounds3;
 use light_bounds::bounds::Validity;
 use light_bounds::bounds::union;
@@ -38,12 +40,6 @@ pub enum Built {
     Tree(usize, Bounds3),
     Nothing,
     Refused(Refusal),
-}
-
-// The powered lamps' box, where there is one.
-pub struct Overall {
-    pub any: bool,
-    pub bounds: Bounds3,
 }
 
 // ---- the checks that leave the lent words alone: 2, 1, 4, 3
@@ -130,14 +126,11 @@ fn gather_handles(block: &[u32], m: usize, handles: &mut [u32]) -> usize
 }
 
 // Their box.
-fn all_bounds(block: &[u32], m: usize) -> Overall
+fn all_bounds(block: &[u32], m: usize) -> AllBounds
     requires { ⌜ m ≤ 4096 ⌝ }
-    ensures { λ r. ⌜ overall r ≡ allBoundsOf (now (block .entry)) m ⌝ }
+    ensures { λ r. ⌜ allBoundsOf r ≡ poweredBox (now (block .entry)) m ⌝ }
 {
-    let mut all = Overall {
-        any: false,
-        bounds: light_box(block, 0),
-    };
+    let mut all = AllBounds::Absent;
     let mut i: u32 = 0;
     while wide(i) < m {
         if is_powered(block, i) {
@@ -148,16 +141,13 @@ fn all_bounds(block: &[u32], m: usize) -> Overall
     all
 }
 
-fn grow(all: Overall, bounds: Bounds3) -> Overall
-    ensures { λ r. ⌜ overall r ≡ grown (overall all) bounds ⌝ }
+fn grow(all: AllBounds, bounds: Bounds3) -> AllBounds
+    ensures { λ r. ⌜ allBoundsOf r ≡ grown (allBoundsOf all) bounds ⌝ }
 {
-    if all.any {
-        return Overall {
-            any: true,
-            bounds: union(all.bounds, bounds),
-        };
+    match all {
+        AllBounds::Bounds(before) => AllBounds::Bounds(union(before, bounds)),
+        AllBounds::Absent => AllBounds::Bounds(bounds),
     }
-    Overall { any: true, bounds }
 }
 
 // ---- what is left in the lent words
@@ -203,6 +193,7 @@ fn build_rows(
     work: &mut [u32],
 ) -> Built
     requires { ⌜ m ≤ 4096 ⌝ }
+    requires { ⌜ length (now block) ≡ blockWords m ⌝ }
     requires { ⌜ blockHandles (now block) ≡ given m ⌝ }
     requires { ⌜ isShort m (length (now nodes)) (length (now table)) (length (now work)) ≡ false ⌝ }
     ensures { λ r. ⌜ built r ≡ summary (builtBvh (now (block .entry)) m) ⌝ }
@@ -217,7 +208,7 @@ fn build_rows(
         return Built::Nothing;
     }
     let end = NODE_WORDS * (2 * k - 1);
-    if build_subtree(
+    match build_subtree(
         block,
         &mut table[0..k],
         &mut work[0..k],
@@ -225,16 +216,21 @@ fn build_rows(
         0,
         INVALID_INDEX,
     ) {
-        zero_words(nodes, end, NODE_WORDS * (2 * m - 1));
-        fill_words(table, 0, m, INVALID_INDEX);
-        table_leaves(nodes, 2 * k - 1, table);
-        zero_words(work, 0, 2 * m);
-        let all = all_bounds(block, m);
-        let overall = all.bounds;
-        return Built::Tree(k, overall);
+        Subtree::Built => {
+            zero_words(nodes, end, NODE_WORDS * (2 * m - 1));
+            fill_words(table, 0, m, INVALID_INDEX);
+            table_leaves(nodes, 2 * k - 1, table);
+            zero_words(work, 0, 2 * m);
+            match all_bounds(block, m) {
+                AllBounds::Bounds(bounds) => Built::Tree(k, bounds),
+                AllBounds::Absent => Built::Nothing,
+            }
+        }
+        Subtree::Lost => {
+            zero_reserves(m, nodes, table, work);
+            Built::Refused(Refusal::LostUnion)
+        }
     }
-    zero_reserves(m, nodes, table, work);
-    Built::Refused(Refusal::LostUnion)
 }
 
 // The tree of a block of m rows: 16(2m - 1) words of nodes, m of the handle table, 2m of work are lent. Refusals 2, 1, 4, 3 leave the lent words as they are,

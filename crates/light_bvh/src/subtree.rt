@@ -2,12 +2,13 @@
 // handles fills exactly 2n - 1 nodes, so the right tree's place is known before the left is built, and no call touches another's nodes.
 ghost use mathlib.Core.Path.{_≡_};
 ghost use mathlib.Core.List.{List, _++_};
-ghost use Prim.Native.Nat.{_+_, _*_, _^_, _≤_, _<_};
+ghost use Prim.Native.Nat.{ℕ, _+_, _*_, _^_, _≤_, _<_};
 ghost use lib.ListN.{length};
 ghost use Rattle.words.specs.Answers.{counted};
 ghost use Rattle.light_bounds.specs.LightBounds.{bounded};
 ghost use Rattle.light_nodes.specs.Nodes.{nodeWords};
-ghost use Rattle.light_bvh.specs.Subtree.{labelOf, buildSubtree, isGiven, subtreeWords, splitCount, splitHandles, unionAt, joinedWords};
+ghost use Rattle.light_bvh.specs.Subtree.{labelOf, buildSubtree, subtree, done, subtreeWords};
+ghost use Rattle.light_bvh.specs.Subtree.{splitCount, splitHandles, unionAt, joinedWords};
 use lamps::block::EXHAUSTIVE_BOUNDS_WORDS;
 use light_bounds::light_bounds::Bounded;
 use light_bounds::light_bounds::union;
@@ -23,6 +24,12 @@ use words::answers::Counted;
 use words::places::wide;
 use words::places::word_or_zero;
 use words::refusals::Refusal;
+
+// Whether a stretch has its tree: a union's operand can fail its check.
+pub(crate) enum Subtree {
+    Built,
+    Lost,
+}
 
 // The label of a row.
 fn label(block: &[u32], handle: u32) -> u32
@@ -66,21 +73,22 @@ fn union_children(nodes: &[u32], right: usize) -> Bounded
 }
 
 // The node over two trees whose words stand behind it, the right one at node `right`: the record around both records, read back from their nodes.
-fn join_children(nodes: &mut [u32], right: usize, at: u32, parent: u32) -> bool
+fn join_children(nodes: &mut [u32], right: usize, at: u32, parent: u32) -> Subtree
     requires { ⌜ at + right < 2 ^ 30 ⌝ }
-    ensures { λ r. ⌜ r ≡ isGiven (unionAt (now (nodes .entry)) right) ⌝ }
+    ensures { λ r. ⌜ subtree r ≡ done (unionAt (now (nodes .entry)) right) ⌝ }
     ensures { λ _. ⌜ now (nodes .exit) ≡ joinedWords at parent right (now (nodes .entry)) (unionAt (now (nodes .entry)) right) ⌝ }
 {
     match union_children(nodes, right) {
         Bounded::Bounds(bounds) => {
             write_interior(nodes, 0, at + 1, at + right as u32, parent, bounds);
-            true
+            Subtree::Built
         }
-        Bounded::Refused(_) => false,
+        Bounded::Refused(_) => Subtree::Lost,
     }
 }
 
-// Writes the tree of a stretch, its root at node `at` under `parent`, to nodes that are as many as it needs; false where a union's operand fails its check.
+// Writes the tree of a stretch, its root at node `at` under `parent`, to nodes that are as many as it needs. Labels and
+// places fit a head, so every node is written.
 pub(crate) fn build_subtree(
     block: &[u32],
     handles: &mut [u32],
@@ -88,12 +96,14 @@ pub(crate) fn build_subtree(
     nodes: &mut [u32],
     at: u32,
     parent: u32,
-) -> bool
+) -> Subtree
     requires { ⌜ 1 ≤ length (now handles) ⌝ }
     requires { ⌜ length (now handles) ≤ length (now work) ⌝ }
     requires { ⌜ length (now nodes) + nodeWords ≡ nodeWords * (2 * length (now handles)) ⌝ }
     requires { ⌜ at + 2 * length (now handles) < 2 ^ 30 ⌝ }
-    ensures { λ r. ⌜ r ≡ isGiven (buildSubtree (now (block .entry)) (length (now (handles .entry))) (now (handles .entry))) ⌝ }
+    requires { ⌜ ((h : ℕ) → labelOf (now block) h < 2 ^ 30) ⌝ }
+    ensures { λ r. ⌜ subtree r ≡ done
+        (buildSubtree (now (block .entry)) (length (now (handles .entry))) (now (handles .entry))) ⌝ }
     ensures { λ _. ⌜ now (nodes .exit) ≡ subtreeWords at parent
         (buildSubtree (now (block .entry)) (length (now (handles .entry))) (now (handles .entry))) (now (nodes .exit)) ⌝ }
 {
@@ -106,11 +116,11 @@ pub(crate) fn build_subtree(
             parent,
             light(block, handles[0]),
         );
-        return true;
+        return Subtree::Built;
     }
     match split_stretch(block, handles, work) {
         Counted::Count(left) => {
-            if build_subtree(
+            match build_subtree(
                 block,
                 &mut handles[0..left],
                 work,
@@ -118,7 +128,7 @@ pub(crate) fn build_subtree(
                 at + 1,
                 at,
             ) {
-                if build_subtree(
+                Subtree::Built => match build_subtree(
                     block,
                     &mut handles[left..n],
                     work,
@@ -126,14 +136,12 @@ pub(crate) fn build_subtree(
                     at + 2 * left as u32,
                     at,
                 ) {
-                    join_children(nodes, 2 * left, at, parent)
-                } else {
-                    false
-                }
-            } else {
-                false
+                    Subtree::Built => join_children(nodes, 2 * left, at, parent),
+                    Subtree::Lost => Subtree::Lost,
+                },
+                Subtree::Lost => Subtree::Lost,
             }
         }
-        Counted::Refused(_) => false,
+        Counted::Refused(_) => Subtree::Lost,
     }
 }

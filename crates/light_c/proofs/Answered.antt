@@ -13,17 +13,15 @@ use lib.ListN.{length, getD, drop}
 use lib.Seq.{sets, sets-eq}
 use Rattle.words.specs.Answers.{Answer, given, refused, _then_, code}
 use Rattle.words.specs.Fill.{filled}
-use Rattle.words.specs.Limits.{maxLamps}
 use Rattle.words.specs.Tray.{tray}
 use Rattle.words.specs.TrayLaws.{tray-early, tray-full}
-use Rattle.words.proofs.AnswerLaws.{only-refused, only-then, only-number, then-given, given-injective, not-both}
-use Rattle.words.proofs.AnswerLaws.{Gives, gives, gives-any, gives-then, gives-value}
+use Rattle.words.proofs.AnswerLaws.{only-refused, only-then, only-number, given-injective, not-both}
 use Rattle.words.proofs.Reserves.{zeroed}
 use Rattle.light_bounds.specs.declared.bounds.Bounds3.{Bounds3}
-use Rattle.light_bvh.specs.Build.{LightBVH, boundedHandles, treeOf, validated, builtBvh, buildCheck, buildLightBvh}
+use Rattle.light_bvh.specs.Build.{LightBVH, validated, builtBvh, buildCheck, buildLightBvh}
 use Rattle.light_bvh.specs.Build.{summary, nodesWritten, tableWritten, workWritten, nodesReserve, workReserve}
-use Rattle.light_bvh.proofs.BuildLaws.{early-build, build-checked, Outcome}
-use Rattle.light_bvh.proofs.RowsLaws.{bounded-few}
+use Rattle.light_bvh.proofs.BuildLaws.{early-build, Outcome}
+use Rattle.light_bvh.proofs.RowsLaws.{accepted-few}
 use Rattle.light_c.specs.Codes.{answerReserve, boxWords, summaryList, buildAnswered, shortAnswer}
 
 module _ (lights : ℕ) (ws : List ℕ) (nodes table work answer : ℕ) where
@@ -60,20 +58,6 @@ short-early lights ws nodes table work n e =
     (only-then (early-build lights ws nodes table work) (λ m. only-refused (omega arith))) (sym e)
 
 -- ---- what an accepted build answers
-
-built-few : (ws : List ℕ) (m : ℕ) → Gives (λ (b : LightBVH). b .k ≤ m) (builtBvh ws m)
-unfolding builtBvh
-built-few ws m = gives-then (gives-any (treeOf ws (boundedHandles ws m))) (λ t _. gives (bounded-few ws m))
-
-accepted-few : (lights : ℕ) (ws : List ℕ) (nodes table work : ℕ) (b : LightBVH)
-    → buildLightBvh lights ws nodes table work ≡ given b → b .k ≤ maxLamps
-unfolding buildLightBvh
-accepted-few lights ws nodes table work b e =
-    let (m, checked, e₁) =
-    then-given (buildCheck lights ws nodes table work) (λ (m : ℕ). validated ws m then λ _. builtBvh ws m) b e in
-    let (_, _, e₂) = then-given (validated ws m) (λ _. builtBvh ws m) b e₁ in
-    let few = build-checked lights ws nodes table work m checked .1 in
-    omega (arith, gives-value (built-few ws m) e₂)
 
 -- k and the box were given with a tree
 summary-given : (x : Answer LightBVH) (k : ℕ) (box : Option Bounds3) → given (k, box) ≡ summary x

@@ -1,7 +1,7 @@
 -- A node of the light tree as sixteen words: head, right child, parent, record. The head's top bits are 01 at a leaf, with its handle below, and 10 at an
 -- interior node, with its left child. The layout of a node is said here alone. Definitions only. Assumes nothing.
 use Prim.Native.Nat.{ℕ, suc, _+_, _*_, _/_, _%_}
-use mathlib.Core.Bool.{cond}
+use mathlib.Core.Bool.{Bool, cond, _&&_}
 use mathlib.Core.List.{List, _∷_}
 use lib.Dec.{leb, ltb, eqb}
 use lib.ListN.{length, getD}
@@ -49,9 +49,18 @@ parent (interior l r p) = p
 unfoldable pub nodeList : LightBVHNode → LightBounds → List ℕ
 nodeList n b = headWord n ∷ rightChild n ∷ parent n ∷ recordList b
 
--- where there are too few words nothing is written
+-- a head has thirty bits for a handle or a left child
+abbrev pub headFits : LightBVHNode → Bool
+headFits (leaf h p) = ltb h 0x4000_0000
+headFits (interior l r p) = ltb l 0x4000_0000
+
+-- whether a node can be written at a place: its row is there, and its head has room for the handle or the left child
+unfoldable pub nodeFits : List ℕ → ℕ → LightBVHNode → Bool
+nodeFits ws i n = leb (nodePlace (suc i)) (length ws) && headFits n
+
+-- where it cannot, nothing is
 unfoldable pub nodeWritten : List ℕ → ℕ → LightBVHNode → LightBounds → List ℕ
-nodeWritten ws i n b = cond (leb (nodePlace (suc i)) (length ws)) (sets ws (nodePlace i) (nodeList n b)) ws
+nodeWritten ws i n b = cond (nodeFits ws i n) (sets ws (nodePlace i) (nodeList n b)) ws
 
 -- ---- read
 
@@ -88,3 +97,9 @@ abbrev pub node : Node → Answer LightBVHNode
 node (Leaf h p) = given (leaf h p)
 node (Interior l r p) = given (interior l r p)
 node Unknown = refused 12
+
+-- ---- as the code has it
+
+-- a row is there, and a number has room in a head
+unfoldable pub rowFits : List ℕ → ℕ → ℕ → Bool
+rowFits ws i number = leb (nodePlace (suc i)) (length ws) && ltb number 0x4000_0000

@@ -2,11 +2,10 @@
 -- `bounds-read`); a tree of n leaves has n handles and 2 n - 1 nodes, its root in front (`length-flatten`, `flatten-root`, `flatten-bounds`). Assumes nothing.
 use Prim.Native.Nat.{ℕ, suc, _+_, _*_, _/_, _≤_, _<_}
 use mathlib.Core.Path.{_≡_, refl, ap, sym, _∙_}
-use mathlib.Core.Bool.{Bool, true}
+use mathlib.Core.Bool.{true}
 use mathlib.Core.List.{List, [], _++_, append-assoc, append-nil}
 use native.Mathlib.Omega.{arith}
 use borrow.Author.Tests.{ltb-true, le-leb, lt-leb, eq-eqb, ne-eqb}
-use lib.Dec.{ltb}
 use lib.ListN.{length, getD, length-append}
 use lib.Seq.{getD-append-add}
 use Rattle.words.specs.Answers.{given, refused}
@@ -18,7 +17,7 @@ use Rattle.light_bounds.specs.SideLaws.{side-known}
 use Rattle.light_bounds.specs.declared.light_bounds.LightBounds.{LightBounds}
 use Rattle.light_bounds.proofs.RecordPlaces.{length-recordList, recordAt-past, recordAt-found}
 use Rattle.light_nodes.specs.Nodes.{LightBVHNode, leaf as leafNode, interior, nodeWords, nodePlace, boundsPlace, headWord, rightChild, parent}
-use Rattle.light_nodes.specs.Nodes.{nodeList, nodeOf, nodeAt, boundsAt}
+use Rattle.light_nodes.specs.Nodes.{nodeList, headFits, nodeOf, nodeAt, boundsAt}
 use Rattle.light_nodes.specs.Tree.{Tree, leaf, fork, bounds, leaves, leafHandles, rightPlace, flatten}
 
 -- ---- a node
@@ -55,11 +54,6 @@ module _ (ws : List ℕ) (i : ℕ) where
   boundsAt-past h = recordAt-past 12 ws (boundsPlace i) (lt-leb (boundsPlace i + recordWords) (length ws) (omega arith))
 
 -- ---- read back
-
--- a head has thirty bits for a handle or a left child
-abbrev pub headFits : LightBVHNode → Bool
-headFits (leafNode h p) = ltb h 0x4000_0000
-headFits (interior l r p) = ltb l 0x4000_0000
 
 pub head-read : (n : LightBVHNode) → headFits n ≡ true → nodeOf (headWord n) (rightChild n) (parent n) ≡ given n
 head-read (leafNode h p) f =

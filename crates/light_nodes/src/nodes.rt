@@ -1,13 +1,16 @@
 // A node as sixteen words (specs/Nodes.antt): head, right child, parent, record. The layout of a node is here alone.
 ghost use mathlib.Core.Path.{_≡_};
+ghost use mathlib.Core.Bool.{cond};
 ghost use mathlib.Core.List.{_∷_};
 ghost use Prim.Native.Nat.{_*_, _+_, _≤_};
 ghost use lib.ListN.{length};
 ghost use lib.Seq.{sets};
 ghost use Rattle.words.specs.Answers.{counted};
+ghost use Rattle.words.specs.Heads.{handleOf};
 ghost use Rattle.words.specs.LittleEndian.{wordsOf};
 ghost use Rattle.light_bounds.specs.RecordWords.{found, recordList};
-ghost use Rattle.light_nodes.specs.Nodes.{leaf, interior, node, nodeCount, nodeOf, nodeAt, boundsAt, nodeWritten, nodeWords};
+ghost use Rattle.light_nodes.specs.Nodes.{leaf, interior, node, nodeCount, nodeOf, nodeAt, boundsAt, nodeWords};
+ghost use Rattle.light_nodes.specs.Nodes.{nodePlace, nodeFits, nodeWritten, rowFits};
 use light_bounds::light_bounds::LightBounds;
 use light_bounds::record_words::Found;
 use light_bounds::record_words::RECORD_WORDS;
@@ -27,6 +30,9 @@ pub const NODE_BYTES: usize = 4 * NODE_WORDS;
 
 // The nodes of 4,096 lamps: no walk takes more.
 pub const MAX_NODES: usize = 8191;
+
+// A head's thirty bits: a handle and a left child are below it.
+pub const HEAD_ROOM: u32 = 0x4000_0000;
 
 // The right child of a leaf, the parent of the root.
 pub const INVALID_INDEX: u32 = 0xffff_ffff;
@@ -57,29 +63,62 @@ fn put_node(
     write_record(words, at + 3, bounds);
 }
 
-// Writes a leaf at a place; where there are too few words nothing is written.
+// A node at a place, its head of a kind and a number; nothing where its row is not there or the number does not fit.
+fn write_node(
+    words: &mut [u32],
+    place: usize,
+    kind: u32,
+    number: u32,
+    right_child: u32,
+    parent: u32,
+    bounds: LightBounds,
+) -> bool
+    requires { ⌜ kind ≤ 0x8000_0000 ⌝ }
+    ensures { λ r. ⌜ r ≡ rowFits (now (words .entry)) place number ⌝ }
+    ensures { λ _. ⌜ now (words .exit) ≡ cond (rowFits (now (words .entry)) place number)
+        (sets (now (words .entry)) (nodePlace place) ((kind + handleOf number) ∷ «right_child» ∷ parent ∷ recordList bounds))
+        (now (words .entry)) ⌝ }
+{
+    if words.len() / NODE_WORDS <= place {
+        return false;
+    }
+    if number >= HEAD_ROOM {
+        return false;
+    }
+    put_node(
+        words,
+        NODE_WORDS * place,
+        kind + number,
+        right_child,
+        parent,
+        bounds,
+    );
+    true
+}
+
+// Writes a leaf at a place, or nothing where its row is not there or its head has no room for the handle: whether it wrote.
 pub fn write_leaf(
     words: &mut [u32],
     place: usize,
     light_handle: u32,
     parent: u32,
     bounds: LightBounds,
-)
+) -> bool
+    ensures { λ r. ⌜ r ≡ nodeFits (now (words .entry)) place (leaf «light_handle» parent) ⌝ }
     ensures { λ _. ⌜ now (words .exit) ≡ nodeWritten (now (words .entry)) place (leaf «light_handle» parent) bounds ⌝ }
 {
-    if place < words.len() / NODE_WORDS {
-        put_node(
-            words,
-            NODE_WORDS * place,
-            0x4000_0000 + handle_of(light_handle),
-            INVALID_INDEX,
-            parent,
-            bounds,
-        );
-    }
+    write_node(
+        words,
+        place,
+        0x4000_0000,
+        light_handle,
+        INVALID_INDEX,
+        parent,
+        bounds,
+    )
 }
 
-// The same of an interior node.
+// The same of an interior node, whose head has its left child.
 pub fn write_interior(
     words: &mut [u32],
     place: usize,
@@ -87,19 +126,20 @@ pub fn write_interior(
     right_child: u32,
     parent: u32,
     bounds: LightBounds,
-)
-    ensures { λ _. ⌜ now (words .exit) ≡ nodeWritten (now (words .entry)) place (interior «left_child» «right_child» parent) bounds ⌝ }
+) -> bool
+    ensures { λ r. ⌜ r ≡ nodeFits (now (words .entry)) place (interior «left_child» «right_child» parent) ⌝ }
+    ensures { λ _. ⌜ now (words .exit) ≡
+        nodeWritten (now (words .entry)) place (interior «left_child» «right_child» parent) bounds ⌝ }
 {
-    if place < words.len() / NODE_WORDS {
-        put_node(
-            words,
-            NODE_WORDS * place,
-            0x8000_0000 + handle_of(left_child),
-            right_child,
-            parent,
-            bounds,
-        );
-    }
+    write_node(
+        words,
+        place,
+        0x8000_0000,
+        left_child,
+        right_child,
+        parent,
+        bounds,
+    )
 }
 
 // ---- reading, from little-endian bytes

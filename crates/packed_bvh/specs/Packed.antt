@@ -19,8 +19,6 @@ use Rattle.light_bounds.specs.declared.light_bounds.LightBounds.{LightBounds}
 use Rattle.light_bounds.specs.declared.vecmath.Vec3.{Vec3}
 use Rattle.light_nodes.specs.Nodes.{LightBVHNode, leaf, interior, invalidIndex, parent, nodeBytes, nodeCount, nodeAt, boundsAt}
 use Rattle.packed_bvh.specs.Quantize.{quantizeBounds, quantizeCos, encodeOctahedral}
-use Rattle.packed_bvh.specs.declared.pack.AllBounds.{AllBounds}
-use Rattle.packed_bvh.specs.declared.pack.AllBounds.the-variants.{Bounds, Absent}
 use Rattle.packed_bvh.specs.declared.pack.Packed.{Packed}
 use Rattle.packed_bvh.specs.declared.pack.Packed.the-variants.{Words, Nothing, Refused}
 
@@ -135,7 +133,3 @@ abbrev pub packed : Packed → Answer (Option ℕ)
 packed (Words n) = given (some n)
 packed Nothing = given none
 packed (Refused r) = refused (number r)
-
-abbrev pub allBoundsOf : AllBounds → Option Bounds3
-allBoundsOf (Bounds b) = some b
-allBoundsOf Absent = none

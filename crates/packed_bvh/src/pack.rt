@@ -11,15 +11,17 @@ ghost use Rattle.words.specs.Refusals.{number};
 ghost use Rattle.words.specs.LittleEndian.{wordsOf, bytesOf};
 ghost use Rattle.words.specs.Fill.{filled};
 ghost use Rattle.words.specs.Tray.{tray};
+ghost use Rattle.light_bounds.specs.Bounds.{allBoundsOf};
 ghost use Rattle.light_nodes.specs.Nodes.{leaf, interior, invalidIndex};
 ghost use Rattle.packed_bvh.specs.Packed.{paired, coneWord, compactWords, packNode, header, packedReserve, packCheck};
-ghost use Rattle.packed_bvh.specs.Packed.{packedTree, packLightBvh, packedBytes, bytesReserve, wordsPacked, packed, allBoundsOf};
+ghost use Rattle.packed_bvh.specs.Packed.{packedTree, packLightBvh, packedBytes, bytesReserve, wordsPacked, packed};
 ghost use Rattle.packed_bvh.specs.PackedParts.{compactList, placing, placed, packBounds, packPlaced, nodePacked};
 use super::quantize::octahedral;
 use super::quantize::quantize_axis;
 use super::quantize::quantize_cos;
 use super::quantize::quantize_down;
 use super::quantize::quantize_up;
+use light_bounds::bounds::AllBounds;
 use light_bounds::bounds::Bounds3;
 use light_bounds::bounds::Validity;
 use light_bounds::bounds::check;
@@ -38,12 +40,6 @@ use words::answers::Counted;
 use words::floats::word_of_f32;
 use words::little_endian::set_word;
 use words::refusals::Refusal;
-
-// The box around the powered lamps, or its absence.
-pub enum AllBounds {
-    Bounds(Bounds3),
-    Absent,
-}
 
 // How many words were packed, that there was no tree, or why not.
 pub enum Packed {

@@ -24,7 +24,7 @@ use Rattle.light_nodes.specs.Nodes.{LightBVHNode, leaf as leafNode, interior, i
 use Rattle.light_nodes.specs.Tree.{Tree, leaf, fork, leaves, rightPlace}
 use Rattle.light_nodes.specs.TreeLaws.{leaves-pos}
 use Rattle.light_bvh.specs.Build.{LightBVH, buildLightBvh, nodesWritten}
-use Rattle.light_bvh.proofs.RowsLaws.{bounded-few, bounds-none}
+use Rattle.light_bvh.proofs.RowsLaws.{bounded-few, bounds-none, bounds-there}
 use Rattle.tree_laws.specs.AcceptedTree.{Parts, accepted-parts, accepted-none, accepted-leaves, accepted-read}
 use Rattle.tree_laws.specs.PlaceLaws.{nodeIn, nodeIn-fork, nodeIn-leaf, Reads}
 use Rattle.light_runs.specs.ByteLaws.{nodes-words, nodes-counted}
@@ -32,7 +32,7 @@ use Rattle.light_runs.specs.NodeLaws.{leaf-powered}
 use Rattle.packed_bvh.specs.Packed.{indexMax, payload, payloadCheck, parentCheck, leftCheck, packNode, packNodes}
 use Rattle.packed_bvh.specs.Packed.{packedReserve, packCheck, agreed, packedTree, packLightBvh}
 use Rattle.packed_bvh.proofs.PackLaws.{agreed-valid, agreed-nothing}
-use Rattle.packed_laws.specs.OverallBox.{Proper, proper-check, box-there, accepted-box, overall-proper, node-within}
+use Rattle.packed_laws.specs.OverallBox.{Proper, proper-check, accepted-box, overall-proper, node-within}
 
 -- ---- the children and the parent of a node of a tree
 
@@ -168,7 +168,7 @@ module _ (lights : ℕ) (ws : List ℕ) (nodes table work : ℕ) (b : LightBVH) 
       let dark = accepted-none ws b parts is in
       rw (sym box ∙ no-box dark, agreed-nothing count (b .k) (omega arith) dark) only-given
   behind (some t) is none box =
-      absurd (box-there ws (b .rows) (omega (arith, parts .powered, lamps t is)) (sym (accepted-box lights ws nodes table work b accepted) ∙ box))
+      absurd (bounds-there ws (b .rows) (omega (arith, parts .powered, lamps t is)) (sym (accepted-box lights ws nodes table work b accepted) ∙ box))
   behind (some t) is (some all) box = tree-packs t is all box
 
   module _ (room : ℕ) where

@@ -23,7 +23,7 @@ use Rattle.words.proofs.AnswerLaws.{then-given, given-injective, not-both}
 use Rattle.light_bounds.specs.Bounds.{boxCheck, finiteBox, inverted, boxUnion, leastOf, greatestOf}
 use Rattle.light_bounds.specs.BoundsLaws.{Holds, union-given}
 use Rattle.light_bounds.specs.LightBounds.{validate, coneCheck, join, joinPowered}
-use Rattle.light_bounds.specs.Vecmath.{vec, finiteVec}
+use Rattle.light_bounds.specs.Vecmath.{finiteVec}
 use Rattle.light_bounds.specs.declared.bounds.Bounds3.{Bounds3}
 use Rattle.light_bounds.specs.declared.light_bounds.LightBounds.{LightBounds}
 use Rattle.light_nodes.specs.Nodes.{LightBVHNode, leaf as leafNode, interior, invalidIndex, nodeWords, boundsAt}
@@ -32,8 +32,7 @@ use Rattle.light_nodes.specs.TreeLaws.{boundsAt-past}
 use Rattle.light_split.specs.Lights.{lightOf}
 use Rattle.light_bvh.specs.Build.{isPowered, boundedHandles, grown, allBounds, validated, LightBVH, treeOf, builtBvh, buildCheck, buildLightBvh, nodesWritten}
 use Rattle.light_bvh.specs.Subtree.{buildSubtree}
-use Rattle.light_bvh.specs.declared.build.Overall.{Overall}
-use Rattle.light_bvh.proofs.RowsLaws.{All, all-map, all-append, all-halves, bounds-some}
+use Rattle.light_bvh.proofs.RowsLaws.{All, all-map, all-append, all-halves, bounds-there}
 use Rattle.tree_laws.specs.AcceptedTree.{Parts, accepted-parts, treeOf-built, accepted-none, accepted-read}
 use Rattle.tree_laws.specs.BuiltTrees.{built-holds}
 use Rattle.tree_laws.specs.PlaceLaws.{nodeIn, nodeIn-fork, nodeIn-leaf}
@@ -196,12 +195,6 @@ validate-proper r e = check-proper (r .bounds) (then-given (boxCheck (r .bounds)
 
 -- ---- the box of the powered rows
 
--- where one of them is, it is there
-pub box-there : (ws : List ℕ) (m : ℕ) → 0 < length (boundedHandles ws m) → allBounds ws m ≡ none → ⊥
-box-there ws m l e =
-    let o : Overall = record { any = false; bounds = record { min = vec zerof zerof zerof; max = vec zerof zerof zerof } } in
-    Option·none-ne-some (o .bounds) (sym e ∙ bounds-some ws m o l (sym e))
-
 -- it holds the box of each, which is proper
 pub record Fit (all b : Bounds3) : Type 0 where
   pub held : Holds all b
@@ -231,7 +224,7 @@ rows-covered ws (suc n) e all is =
         subst (λ (z : Bounds3). Covers ws z (boundedHandles ws n ++ n ∷ [])) same (
           own,
           all-append (Around ws (lightOf ws n .bounds)) (boundedHandles ws n) (n ∷ [])
-              (none-all (Around ws (lightOf ws n .bounds)) (boundedHandles ws n) (λ l. box-there ws n l h))
+              (none-all (Around ws (lightOf ws n .bounds)) (boundedHandles ws n) (λ l. bounds-there ws n l h))
               (record { held = holds-itself (lightOf ws n .bounds) own; proper = own }, tt),
         )
     go own ih true (some a) h is =

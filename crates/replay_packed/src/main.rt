@@ -3,9 +3,9 @@
 // many, the nodes 144, then the bytes lent 84 at exit. These are a5 before the call, lent as far as the case says, and compared whole after it.
 ghost use Prim.Native.Nat.{_≤_};
 ghost use lib.ListN.{length};
+use light_bounds::bounds::AllBounds;
 use light_bounds::bounds::Bounds3;
 use light_bounds::record_words::vec_at;
-use packed_bvh::pack::AllBounds;
 use packed_bvh::pack::Packed;
 use packed_bvh::pack::pack_light_bvh;
 use stored::Next;

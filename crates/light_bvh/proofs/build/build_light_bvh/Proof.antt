@@ -10,7 +10,7 @@ use Rattle.words.specs.Answers.{given, counted}
 use Rattle.words.specs.Limits.{maxLamps}
 use Rattle.words.specs.Refusals.{number}
 use Rattle.light_bounds.specs.Bounds.{validity}
-use Rattle.lamps.specs.Block.{blockHandles}
+use Rattle.lamps.specs.Block.{blockWords, blockHandles}
 use Rattle.light_bvh.specs.Build.{isShort, buildCheck}
 use Rattle.light_bvh.proofs.BuildLaws.{build-checked, outcome-early, outcome-late, outcome-rows}
 use Rattle.light_bvh.proofs.build.build_light_bvh.Statement.{statement}
@@ -29,7 +29,8 @@ checked c = sym (c .before .before .before .check-build .ensures) ∙ ap counted
 
 facts : (c : tie.After-known-told)
     → (let args = start c .args in
-    (rows c ≡ getD (now (args .block)) 0 0) × (rows c ≤ maxLamps) × (blockHandles (now (args .block)) ≡ given (rows c))
+    (rows c ≡ getD (now (args .block)) 0 0) × (rows c ≤ maxLamps) × (length (now (args .block)) ≡ blockWords (rows c))
+    × (blockHandles (now (args .block)) ≡ given (rows c))
     × (isShort (rows c) (length (now (args .nodes))) (length (now (args .table))) (length (now (args .work))) ≡ false))
 facts c =
     let args = start c .args in
@@ -37,8 +38,8 @@ facts c =
 
 build-rows-requires : tie.Need-build-rows-requires
 build-rows-requires c κs =
-    let (is, few, handles, short) = facts (c .before .before .before .before .before .before) in
-    (few, (handles, short))
+    let (is, few, long, handles, short) = facts (c .before .before .before .before .before .before) in
+    (few, (long, (handles, short)))
 
 returns : tie.Need-returns
 returns c =

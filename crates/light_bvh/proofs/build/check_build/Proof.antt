@@ -19,7 +19,7 @@ check-reserves-requires : tie.Need-check-reserves-requires
 check-reserves-requires c κs =
     let at = c .before .before .before .before .before .before in
     let block = now (at .before .before .before .before .args .block) in
-    let (is, few) = layout-count block _ (sym (at .before .before .check-layout .ensures) ∙ ap counted (at .m .given .1)) in
+    let (is, few, _) = layout-count block _ (sym (at .before .before .check-layout .ensures) ∙ ap counted (at .m .given .1)) in
     let is′ = handles-count block _ (sym (c .before .before .before .check-handles .ensures) ∙ ap counted (c .before .rows .given .1)) in
     omega (arith, is, few, is′)
 

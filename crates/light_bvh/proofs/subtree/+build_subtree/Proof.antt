@@ -1,15 +1,17 @@
--- The proof of the cycle of calls {build_subtree}. The measure is the stretch's length: each half is shorter. Assumes nothing.
+-- The right tree's nodes lie behind the left one's 2n - 1, so neither call sees the other's; the measure is the stretch's
+-- length: each half is shorter. Assumes nothing.
 use Prim.Native.Nat.{ℕ, _+_, _*_, _-_, _^_, _≤_, _<_, zero-le}
 use mathlib.Core.Path.{_≡_, refl, sym, ap, _∙_}
-use mathlib.Core.Bool.{Bool, true, false}
 use mathlib.Core.List.{List}
 use native.Mathlib.Nat.{le-refl}
 use native.Mathlib.Omega.{arith}
 use denote.Ref.{now}
 use lib.ListN.{length, take, drop}
 use Rattle.words.specs.Answers.{given, counted}
-use Rattle.light_bvh.specs.Subtree.{isGiven, subtreeWords, splitCount}
-use Rattle.light_bvh.proofs.SubtreeLaws.{cut-of, Stand, whole, leaf-left, lost-left, no-left, no-right, both-left, front-is, given-moved, words-moved}
+use Rattle.light_bvh.specs.Subtree.{subtree, done, subtreeWords, splitCount}
+use Rattle.light_bvh.specs.declared.subtree.Subtree.{Subtree}
+use Rattle.light_bvh.specs.declared.subtree.Subtree.the-variants.{Built, Lost}
+use Rattle.light_bvh.proofs.SubtreeLaws.{cut-of, Stand, whole, leaf-left, lost-left, no-left, no-right, both-left, front-is, done-moved, words-moved}
 use Rattle.light_bvh.proofs.SubtreeLaws.{left-asks, right-asks, handlesLeft, nodesLeft, handles-left, nodes-left, front-length}
 use Rattle.light_bvh.proofs.SubtreeLaws.{back-is, back-length, root-length, nodes-are}
 use borrow.Rule.Slice.PartMut.{midOf, putMid, same-len-mid}
@@ -74,7 +76,7 @@ module _ (t : ℕ) where
   told f = f .before .before .before .before
 
   abbrev first : Second → First
-  first s = s .before .before .before .before .before .before .before .before .before .before .before
+  first s = s .before .before .before .before .before .before .before .before .before .before .before .before
 
   abbrev left : Told → ℕ
   left c = c .before .left .given .0 .0
@@ -105,7 +107,8 @@ module _ (t : ℕ) where
         cut = cut-of (blockOf c) (stretch c) (parted c) (left c) count (split .split-stretch .ensures .1) two;
         room = omega (arith, pre .1 .0, kept);
         size = pre .1 .1 .0;
-        fits = pre .1 .1 .1;
+        fits = pre .1 .1 .1 .0;
+        labels = pre .1 .1 .1 .1;
       }
 
   -- the numbers of it
@@ -117,6 +120,9 @@ module _ (t : ℕ) where
 
   numbers : (c : Told) → Numbers (length (stretch c)) (length (nodesOf c)) (start c .args .at) (left c)
   numbers c = let s = stand c in record { some = s .cut .some; rest = s .cut .rest; size = s .size; fits = s .fits }
+
+  at-fits : (c : Told) → start c .args .at + 1 < 2 ^ 30
+  at-fits c = let n = numbers c in omega arith
 
   -- ---- one handle
 
@@ -133,8 +139,8 @@ module _ (t : ℕ) where
       let one = label .before .before .before in
       let start = one .before .before .before .before .before in
       leaf-left (now (start .args .block)) (now (start .args .handles)) (now (start .args .nodes)) (wrote .write-leaf .last .0) (start .args .at)
-      (start .args .parent) (label .label .result) (wrote .before .light .result) (one .if1 .taken) (start .pre .1 .1 .1 .0) (label .label .ensures)
-      (wrote .before .light .ensures) (wrote .write-leaf .ensures)
+      (start .args .parent) (label .label .result) (wrote .before .light .result) (one .if1 .taken) (start .pre .1 .1 .1 .0)
+      (start .pre .1 .1 .1 .1 .1) (label .label .ensures) (wrote .before .light .ensures) (wrote .write-leaf .ensures .1)
 
   -- ---- the left tree
 
@@ -203,45 +209,45 @@ module _ (t : ℕ) where
   nodes-length f = nodes-left (stand (told f)) (h1 f) (n1 f) (same-h f) (same-n f)
 
   mul-build-subtree-3 : lts.Need-mul-build-subtree-3 (calls t) (before t) build-subtree.Post
-  mul-build-subtree-3 c = let n = numbers (told (c .before .before .before .before .before .before .before)) in omega arith
+  mul-build-subtree-3 c = let n = numbers (told (c .before .before .before .before .before .before .before .before)) in omega arith
 
   sub-build-subtree-3 : lts.Need-sub-build-subtree-3 (calls t) (before t) build-subtree.Post
-  sub-build-subtree-3 c = let n = numbers (told (c .before .before .before .before .before .before .before)) in omega arith
+  sub-build-subtree-3 c = let n = numbers (told (c .before .before .before .before .before .before .before .before)) in omega arith
 
   part-build-subtree-start-3 : lts.Need-part-build-subtree-start-3 (calls t) (before t) build-subtree.Post
   part-build-subtree-start-3 c =
-      let f = c .before .before .before .before .before .before .before in
+      let f = c .before .before .before .before .before .before .before .before in
       let n = numbers (told f) in
       let e : left (told f) ≤ length (stretch (told f)) = omega arith in
       e
 
   part-build-subtree-end-3 : lts.Need-part-build-subtree-end-3 (calls t) (before t) build-subtree.Post
   part-build-subtree-end-3 c =
-      let f = c .before .before .before .before .before .before .before in
+      let f = c .before .before .before .before .before .before .before .before in
       let e : length (stretch (told f)) ≤ length (handles f) = omega (arith, handles-length f) in
       e
 
   mul-build-subtree-5 : lts.Need-mul-build-subtree-5 (calls t) (before t) build-subtree.Post
-  mul-build-subtree-5 c = let n = numbers (told (c .before .before .before .before .before .before .before .before .before)) in omega arith
+  mul-build-subtree-5 c = let n = numbers (told (c .before .before .before .before .before .before .before .before .before .before)) in omega arith
 
   mul-build-subtree-6 : lts.Need-mul-build-subtree-6 (calls t) (before t) build-subtree.Post
-  mul-build-subtree-6 c = let n = numbers (told (c .before .before .before .before .before .before .before .before .before)) in omega arith
+  mul-build-subtree-6 c = let n = numbers (told (c .before .before .before .before .before .before .before .before .before .before)) in omega arith
 
   words-within : (f : First) → 32 * left (told f) ≤ length (nodes f)
   words-within f = let n = numbers (told f) in omega (arith, nodes-length f)
 
   cast-build-subtree : lts.Need-cast-build-subtree (calls t) (before t) build-subtree.Post
-  cast-build-subtree c = let n = numbers (told (c .before .before .before .before .before .before .before .before .before .before)) in omega arith
+  cast-build-subtree c = let n = numbers (told (c .before .before .before .before .before .before .before .before .before .before .before)) in omega arith
 
   mul-build-subtree-7 : lts.Need-mul-build-subtree-7 (calls t) (before t) build-subtree.Post
-  mul-build-subtree-7 c = let n = numbers (told (c .before .before .before .before .before .before .before .before .before .before)) in omega arith
+  mul-build-subtree-7 c = let n = numbers (told (c .before .before .before .before .before .before .before .before .before .before .before)) in omega arith
 
   add-build-subtree-2 : lts.Need-add-build-subtree-2 (calls t) (before t) build-subtree.Post
-  add-build-subtree-2 c = let n = numbers (told (c .before .before .before .before .before .before .before .before .before .before)) in omega arith
+  add-build-subtree-2 c = let n = numbers (told (c .before .before .before .before .before .before .before .before .before .before .before)) in omega arith
 
   build-subtree-requires-2 : lts.Need-build-subtree-requires-2 (calls t) (before t) build-subtree.Post
   build-subtree-requires-2 c κs =
-      let f = c .before .before .before .before .before .before .before .before .before .before in
+      let f = c .before .before .before .before .before .before .before .before .before .before .before in
       let s = stand (told f) in (
         omega (arith, back-length s (h1 f) (n1 f) (same-h f) (same-n f), s .cut .some, s .cut .rest, start (told f) .pre .0),
         right-asks s (h1 f) (n1 f) (same-h f) (same-n f) (f .build-subtree .last .1 .1 .0) (same-tray f),
@@ -250,10 +256,10 @@ module _ (t : ℕ) where
   -- ---- the node over both
 
   mul-join-children : lts.Need-mul-join-children (calls t) (before t) build-subtree.Post
-  mul-join-children c = let n = numbers (told (first (c .before .before .before .before .before .before .before .before))) in omega arith
+  mul-join-children c = let n = numbers (told (first (c .before .before .before .before .before .before .before .before .before))) in omega arith
 
   join-children-requires : lts.Need-join-children-requires (calls t) (before t) build-subtree.Post
-  join-children-requires c κs = let n = numbers (told (first (c .before .before .before .before .before .before .before .before))) in omega arith
+  join-children-requires c κs = let n = numbers (told (first (c .before .before .before .before .before .before .before .before .before))) in omega arith
 
   -- ---- what is left: the lengths
 
@@ -286,8 +292,9 @@ module _ (t : ℕ) where
 
   -- ---- and the trees
 
-  told-left : (f : First) (b : Bool) → f .build-subtree .result ≡ b → isGiven (whole (blockOf (told f)) (take (left (told f)) (parted (told f)))) ≡ b
-  told-left f b e = given-moved (blockOf (told f)) _ _ (f .build-subtree .result) b (front-is (stand (told f))) (f .build-subtree .ensures .0) e
+  told-left : (f : First) (r : Subtree) → f .build-subtree .result ≡ r
+      → done (whole (blockOf (told f)) (take (left (told f)) (parted (told f)))) ≡ subtree r
+  told-left f r e = done-moved (blockOf (told f)) _ _ (f .build-subtree .result) r (front-is (stand (told f))) (f .build-subtree .ensures .0) e
 
   words-left : (f : First) → let c = told f in
       n1 f ≡ subtreeWords (start c .args .at + 1) (start c .args .at) (whole (blockOf c) (take (left c) (parted c))) (n1 f)
@@ -296,9 +303,9 @@ module _ (t : ℕ) where
   back : (s : Second) → let c = told (first s) in midOf (left c) (length (stretch c) - left c) (handles (first s)) ≡ drop (left c) (parted c)
   back s = let f = first s in back-is (stand (told f)) (h1 f) (n1 f) (same-h f) (same-n f)
 
-  told-right : (s : Second) (b : Bool) → s .build-subtree2 .result ≡ b
-      → isGiven (whole (blockOf (told (first s))) (drop (left (told (first s))) (parted (told (first s))))) ≡ b
-  told-right s b e = given-moved (blockOf (told (first s))) _ _ (s .build-subtree2 .result) b (back s) (s .build-subtree2 .ensures .0) e
+  told-right : (s : Second) (r : Subtree) → s .build-subtree2 .result ≡ r
+      → done (whole (blockOf (told (first s))) (drop (left (told (first s))) (parted (told (first s))))) ≡ subtree r
+  told-right s r e = done-moved (blockOf (told (first s))) _ _ (s .build-subtree2 .result) r (back s) (s .build-subtree2 .ensures .0) e
 
   words-right : (s : Second) → let c = told (first s) in
       n2 s ≡ subtreeWords (start c .args .at + 2 * left c) (start c .args .at) (whole (blockOf c) (drop (left c) (parted c))) (n2 s)
@@ -307,27 +314,28 @@ module _ (t : ℕ) where
   returns-2 : lts.Need-returns-2 (calls t) (before t) build-subtree.Post
   returns-2 c =
       let joined = c .before .before in
-      let s = joined .before .before .before .before .before .before .before .before .before in
+      let s = joined .before .before .before .before .before .before .before .before .before .before in
       let f = first s in
       let p = told f in
       let st = stand p in
-      both-left (st .cut) (start p .args .at) (start p .args .parent) (take 16 (nodesOf p)) (n1 f) (n2 s) (nodes2 s)
-      (root-length st (h1 f) (n1 f) (same-h f) (same-n f)) (told-left f true (s .before .before .before .before .if2 .taken)) (words-left f)
-      (told-right s true (joined .before .before .if3 .taken)) (words-right s) (nodes-are st (h1 f) (n1 f) (same-h f) (same-n f) (n2 s))
+      both-left (st .cut) (start p .args .at) (start p .args .parent) (take 16 (nodesOf p)) (n1 f) (n2 s) (nodes2 s) (at-fits p)
+      (root-length st (h1 f) (n1 f) (same-h f) (same-n f)) (told-left f Built (s .before .before .before .before .enum-told .given .1)) (words-left f)
+      (told-right s Built (joined .before .before .enum-told2 .given .1)) (words-right s) (nodes-are st (h1 f) (n1 f) (same-h f) (same-n f) (n2 s))
       (joined .join-children .result) (joined .join-children .last .0) (joined .join-children .ensures .0) (joined .join-children .ensures .1)
 
   returns-3 : lts.Need-returns-3 (calls t) (before t) build-subtree.Post
   returns-3 c =
-      let s = c .before .before .before .before .before .before .before in
+      let s = c .before .before .before .before .before .before .before .before in
       let p = told (first s) in
-      no-right (stand p .cut) (start p .args .at) (start p .args .parent) (nodes2 s) (told-left (first s) true (s .before .before .before .before .if2 .taken))
-      (told-right s false (c .if3 .left))
+      no-right (stand p .cut) (start p .args .at) (start p .args .parent) (nodes2 s)
+      (told-left (first s) Built (s .before .before .before .before .enum-told .given .1))
+      (told-right s Lost (c .enum-told3 .given .1))
 
   returns-4 : lts.Need-returns-4 (calls t) (before t) build-subtree.Post
   returns-4 c =
-      let f = c .before .before .before .before .before .before .before in
+      let f = c .before .before .before .before .before .before .before .before in
       let p = told f in
-      no-left (stand p .cut) (start p .args .at) (start p .args .parent) (nodes f) (told-left f false (c .if2 .left))
+      no-left (stand p .cut) (start p .args .at) (start p .args .parent) (nodes f) (told-left f Lost (c .enum-told4 .given .1))
 
   returns-5 : lts.Need-returns-5 (calls t) (before t) build-subtree.Post
   returns-5 c =
@@ -336,7 +344,7 @@ module _ (t : ℕ) where
       let start = one .before .before .before .before .before in
       let two : 2 ≤ length (now (start .args .handles)) = omega (arith, start .pre .1 .0, one .if1 .left) in
       lost-left (now (start .args .block)) (now (start .args .handles)) (start .args .at) (start .args .parent) _ (now (start .args .nodes))
-      (sym (split .split-stretch .ensures .0) ∙ ap counted (c .enum-told .given .1)) two
+      (sym (split .split-stretch .ensures .0) ∙ ap counted (c .enum-told5 .given .1)) two
 
 pub +build-subtree-spec : {M : Type 1} → statement M
 +build-subtree-spec =
@@ -344,20 +352,23 @@ pub +build-subtree-spec : {M : Type 1} → statement M
     (slice-read-label t) (λ c κs. tt) (slice-read-light t) (λ c κs. tt) (λ c κs. tt) (λ c. c .before .before .write-leaf .kept .0) (returns t)
     (split-stretch-requires t) (λ c. search needs) (λ c. zero-le) (λ c. zero-le) (part-build-subtree-end t) (λ c. search needs) (mul-build-subtree-2 t)
     (sub-build-subtree-2 t) (part-build-subtree-start-2 t) (part-build-subtree-end-2 t) (add-build-subtree t) (build-subtree-requires t)
-    (mul-build-subtree-3 t) (sub-build-subtree-3 t) (part-build-subtree-start-3 t) (part-build-subtree-end-3 t) (λ c. search needs) (mul-build-subtree-5 t)
-    (mul-build-subtree-6 t) (λ c. words-within t (c .before .before .before .before .before .before .before .before .before))
-    (λ c. words-within t (c .before .before .before .before .before .before .before .before .before)) (λ c. le-refl _) (cast-build-subtree t)
-    (mul-build-subtree-7 t) (add-build-subtree-2 t) (build-subtree-requires-2 t) (mul-join-children t) (join-children-requires t) (λ c. search needs)
-    (λ c. handles2-length t (c .before .before .before .before .before .before .before .before .before .before .before))
-    (λ c. tray2-length t (c .before .before .before .before .before .before .before .before .before .before .before))
+    (λ c. search needs) (mul-build-subtree-3 t) (sub-build-subtree-3 t) (part-build-subtree-start-3 t)
+    (part-build-subtree-end-3 t) (λ c. search needs) (mul-build-subtree-5 t)
+    (mul-build-subtree-6 t) (λ c. words-within t (c .before .before .before .before .before .before .before .before .before .before))
+    (λ c. words-within t (c .before .before .before .before .before .before .before .before .before .before)) (λ c. le-refl _) (cast-build-subtree t)
+    (mul-build-subtree-7 t) (add-build-subtree-2 t) (build-subtree-requires-2 t) (λ c. search needs)
+    (mul-join-children t) (join-children-requires t) (λ c. search needs) (λ c. search needs)
+    (λ c. search needs)
+    (λ c. handles2-length t (c .before .before .before .before .before .before .before .before .before .before .before .before))
+    (λ c. tray2-length t (c .before .before .before .before .before .before .before .before .before .before .before .before))
     (λ c. c .before .before .join-children .kept .0
-    ∙ nodes2-length t (c .before .before .before .before .before .before .before .before .before .before .before))
-    (returns-2 t) (λ c. handles2-length t (c .before .before .before .before .before .before .before))
-    (λ c. tray2-length t (c .before .before .before .before .before .before .before))
-    (λ c. nodes2-length t (c .before .before .before .before .before .before .before)) (returns-3 t)
-    (λ c. handles-length t (c .before .before .before .before .before .before .before))
-    (λ c. same-tray t (c .before .before .before .before .before .before .before)
-    ∙ tray-length t (c .before .before .before .before .before .before .before .before .before .before .before))
-    (λ c. nodes-length t (c .before .before .before .before .before .before .before)) (returns-4 t)
+    ∙ nodes2-length t (c .before .before .before .before .before .before .before .before .before .before .before .before))
+    (returns-2 t) (λ c. handles2-length t (c .before .before .before .before .before .before .before .before))
+    (λ c. tray2-length t (c .before .before .before .before .before .before .before .before))
+    (λ c. nodes2-length t (c .before .before .before .before .before .before .before .before)) (returns-3 t)
+    (λ c. handles-length t (c .before .before .before .before .before .before .before .before))
+    (λ c. same-tray t (c .before .before .before .before .before .before .before .before)
+    ∙ tray-length t (c .before .before .before .before .before .before .before .before .before .before .before .before))
+    (λ c. nodes-length t (c .before .before .before .before .before .before .before .before)) (returns-4 t)
     (λ c. c .before .before .before .before .before .before .split-stretch .kept .1 .0)
     (λ c. c .before .before .before .before .before .before .split-stretch .kept .1 .1 .0) (returns-5 t))
