@@ -55,9 +55,10 @@ module _ (list : List ℕ) (room : ℕ) (sized : room ≡ blockRoom) where
   unfolding answerBytes
   block-bytes before after m counted is =
       let (bs, accepted, long) = count-given (buildLightBounds list room) m (sym counted) in
-      let words : length (packExhaustiveBounds bs) ≡ blockWords m = length-block bs ∙ rw long in
-      (omega (arith, built-few list room bs accepted, long),
-      rw (is, ← sized, accepted) (ap bytesOf (tray-front packExhaustiveBounds (blockWords (getD list 0 0)) (blockWords m) bs before words)))
+      let words : length (packExhaustiveBounds bs) ≡ blockWords m = length-block bs ∙ rw long in (
+        omega (arith, built-few list room bs accepted, long),
+        rw (is, ← sized, accepted) (ap bytesOf (tray-front packExhaustiveBounds (blockWords (getD list 0 0)) (blockWords m) bs before words)),
+      )
 
   pub block-refused : (n : ℕ) → refused n ≡ count (buildLightBounds list room) → refusalLine n ≡ answerBytes (buildLightBounds list blockRoom)
   unfolding answerBytes

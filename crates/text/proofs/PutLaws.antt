@@ -163,16 +163,21 @@ put-then {before} {out} {out′} {vs} {us} {at} {mid} {end} a b =
 pub put-one : (before : List ℕ) (at a : ℕ) → Put before at (a ∷ []) (set before at a) (at + 1)
 put-one before at a = record { is = refl; past = refl }
 
--- what was put at the front
-pub put-front : (before text : List ℕ) (n : ℕ) → length text ≤ length before → n ≡ length text → take n (sets before 0 text) ≡ text
-put-front before text n room long =
-    rw (sets-eq text before 0 (omega (arith, room)), long) (take-at text (drop (0 + length text) before) (length text) refl)
+-- the front part of a slice at whose front text was put, as long as the text
+pub handed : (before text : List ℕ) {after : List ℕ} (n : ℕ) → length text ≤ length before → after ≡ sets before 0 text → n ≡ length text
+    → take (n - 0) after ≡ text
+handed before text {after} n room is long =
+    let m : n - 0 ≡ length text = omega (arith, long) in
+    rw (is, sets-eq text before 0 (omega (arith, room)), m) (take-at text (drop (0 + length text) before) (length text) refl)
 
 -- ---- lengths
 
 pub length-decimal : (n : ℕ) → length (decimalBytes n) ≡ places n
 unfolding decimalBytes
 length-decimal n = length-digits 10 (places n) n
+
+pub decimal-short : (n : ℕ) → length (decimalBytes n) ≤ 10
+decimal-short n = rw (length-decimal n) (places-few 9 n)
 
 pub length-hex : (n : ℕ) → length (hexBytes n) ≡ 8
 unfolding hexBytes
@@ -274,3 +279,9 @@ module _ (words before : List ℕ) where
       let none : length before < 0 + length (bytesOf words) = rw (length-bytesOf words) (omega (arith, short)) in
       let kept = tray-early (λ (n : ℕ). bytesOf words) (4 * length words) before m (omega (arith, three)) in
       rw (fitting-none before 0 (bytesOf words) none) (rw (← e) at is ∙ kept, refl)
+
+  -- words that are known by their bytes, where there is room
+  pub words-fit : (text : List ℕ) {after : List ℕ} {count : ℕ} → bytesOf words ≡ text → length text ≤ length before
+      → (after ≡ sets before 0 (fitting before 0 (bytesOf words))) × (count ≡ length (fitting before 0 (bytesOf words)))
+      → (after ≡ sets before 0 text) × (count ≡ length text)
+  words-fit text known room put = rw (known, fitting-all before 0 text (omega (arith, room))) at put

@@ -1,11 +1,10 @@
 -- What is handed to the write is the answer of the very words that were read. Assumes nothing.
 use Prim.Native.Nat.{_-_, _≤_}
-use native.Mathlib.Nat.{sub-zero}
 use native.Mathlib.Omega.{arith}
 use denote.Ref.{now}
 use borrow.Author.Needs.{needs}
 use lib.ListN.{length, take}
-use Rattle.text.proofs.PutLaws.{put-front}
+use Rattle.text.proofs.PutLaws.{handed}
 use Rattle.lamps_to_block.proofs.AnswerBytes.{converted-room}
 use Rattle.lamps_to_block.proofs.run.Statement.{statement}
 use Rattle.lamps_to_block.proofs.run.Tie as tie
@@ -20,8 +19,12 @@ module _ (c : tie.After-answer) where
 
   fits : c .answer .result ≤ length (now (start .args .out))
   fits =
-      omega (arith, c .answer .ensures .1, start .pre .2,
-      converted-room (take (read .read-list .result .words - 0) (read .read-list .last .0)) (read .read-list .result .stray))
+      omega (
+        arith,
+        c .answer .ensures .1,
+        start .pre .2,
+        converted-room (take (read .read-list .result .words - 0) (read .read-list .last .0)) (read .read-list .result .stray),
+      )
 
 part-write-end-2 : tie.Need-part-write-end-2
 part-write-end-2 c =
@@ -32,8 +35,7 @@ write-requires : tie.Need-write-requires
 write-requires c κs =
     let call = c .before .before .before .before .before .before .before .before in
     let long = call .answer .ensures .1 in
-    rw (sub-zero (call .answer .result), call .answer .ensures .0)
-    (put-front (now (start call .args .out)) _ (call .answer .result) (omega (arith, fits call, long)) long)
+    handed (now (start call .args .out)) _ (call .answer .result) (omega (arith, fits call, long)) (call .answer .ensures .0) long
 
 pub run-spec : {M : Type 1} → statement M
 run-spec =
