@@ -8,8 +8,9 @@ use borrow.Author.Tests.{eq-eqb, ne-eqb}
 use lib.ListN.{length, take, drop}
 use lib.Seq.{sets, length-sets}
 use Rattle.words.specs.Answers.{refused}
-use Rattle.columns.specs.Lines.{lineBytes, groupLine, groupLines, partLine, reportLines, Put}
-use Rattle.columns.proofs.LineLaws.{put-then}
+use Rattle.text.specs.Text.{Put}
+use Rattle.columns.specs.Lines.{lineBytes, groupLine, groupLines, partLine, reportLines}
+use Rattle.text.proofs.PutLaws.{put-then}
 
 -- the lines of the first i groups are written
 pub record Reported (nodes table bytes before : List ℕ) (count : ℕ) (out : List ℕ) (at i : ℕ) : Type 0 where

@@ -1,15 +1,12 @@
--- The lines of the report, in ASCII, as document 01's "Light report and cases" has them: what a group of seven words draws, and how it is written. Chances are
--- written as their words' eight hexadecimal digits, handles and refusals in decimal. Definitions only. Assumes nothing.
-use Prim.Native.Nat.{ℕ, zero, suc, _+_, _*_, _/_, _%_}
-use mathlib.Core.Path.{_≡_}
+-- The lines of the report, in ASCII, as document 01's "Light report and cases" has them: what a group of seven words draws, and how it is
+-- written. Chances are written as their words' eight hexadecimal digits, handles and refusals in decimal. Definitions only. Assumes nothing.
+use Prim.Native.Nat.{ℕ, zero, suc, _*_, _/_, _%_}
 use mathlib.Core.Bool.{cond}
 use mathlib.Core.List.{List, [], _∷_, _++_}
 use mathlib.Core.Option.{Option, none, some}
-use lib.Dec.{eqb, ltb}
+use lib.Dec.{eqb}
 use lib.Ieee.{Float, binary32, toBits}
 use lib.ListN.{length, getD, take, drop}
-use lib.Seq.{sets}
-use Rattle.io.specs.Digits.{digits}
 use Rattle.ieee.specs.Single.{single}
 use Rattle.words.specs.Answers.{Answer, given, refused, _then_}
 use Rattle.words.specs.LittleEndian.{wordsOf}
@@ -18,6 +15,7 @@ use Rattle.light_bounds.specs.RecordWords.{vecAt}
 use Rattle.light_bounds.specs.declared.importance.Query.{Query}
 use Rattle.light_sampler.specs.Sampler.{sample, pmf}
 use Rattle.light_sampler.specs.Walks.{Draw}
+use Rattle.text.specs.Text.{decimalBytes, hexBytes, newline, refusalLine}
 use Rattle.columns.specs.declared.lines.Line.{Line}
 use Rattle.columns.specs.declared.lines.Line.the-variants.{Lamp, Nothing, Refused}
 
@@ -47,37 +45,18 @@ groupShown nodes table ws = shown nodes table (groupQuery ws) (single (getD ws 6
 
 -- ---- how it is written
 
--- how many decimal digits n has, where they are no more than one and as many again as the first number says
-unfoldable pub placesIn : ℕ → ℕ → ℕ
-placesIn zero n = 1
-placesIn (suc more) n = cond (ltb n 10) 1 (1 + placesIn more (n / 10))
-
--- a word has at most ten
-abbrev pub places : ℕ → ℕ
-places = placesIn 9
-
-unfoldable pub decimalBytes : ℕ → List ℕ
-decimalBytes n = digits 10 (places n) n
-
 -- a space and a float's bits
 unfoldable pub chanceBytes : Float → List ℕ
-chanceBytes x = 32 ∷ digits 16 8 (toBits binary32 x)
-
-abbrev pub newline : List ℕ
-newline = 10 ∷ []
+chanceBytes x = 32 ∷ hexBytes (toBits binary32 x)
 
 -- `none`, with the line's end
 abbrev pub noneBytes : List ℕ
 noneBytes = 110 ∷ 111 ∷ 110 ∷ 101 ∷ 10 ∷ []
 
--- `refused `
-abbrev pub refusedBytes : List ℕ
-refusedBytes = 114 ∷ 101 ∷ 102 ∷ 117 ∷ 115 ∷ 101 ∷ 100 ∷ 32 ∷ []
-
 unfoldable pub lineBytes : Answer Shown → List ℕ
 lineBytes (given (some (handle, (drawn, chance)))) = decimalBytes handle ++ chanceBytes drawn ++ chanceBytes chance ++ newline
 lineBytes (given none) = noneBytes
-lineBytes (refused n) = refusedBytes ++ decimalBytes n ++ newline
+lineBytes (refused n) = refusalLine n
 
 -- ---- the lines of the bytes behind the block
 
@@ -96,12 +75,6 @@ partLine bytes = cond (eqb (length bytes % 28) 0) [] (lineBytes (refused 1))
 
 unfoldable pub reportLines : List ℕ → List ℕ → List ℕ → List ℕ
 reportLines nodes table bytes = groupLines nodes table bytes (length bytes / 28) ++ partLine bytes
-
--- ---- what a function that writes promises: text stands at a place, and `end` is the place behind it
-
-pub record Put (before : List ℕ) (at : ℕ) (text after : List ℕ) (end : ℕ) : Type 0 where
-  pub is : after ≡ sets before at text
-  pub past : end ≡ at + length text
 
 -- ---- what the enum `Line` answers
 

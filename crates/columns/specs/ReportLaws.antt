@@ -1,59 +1,31 @@
--- What the definitions of Lines and Report come to: a handle is written in as few digits as hold it, a report written chunk by chunk is the whole one, and its
--- tree is that of the bytes that the block takes. Assumes nothing.
-use Prim.Native.Nat.{ℕ, zero, suc, _+_, _-_, _*_, _/_, _%_, _^_, _≤_, _<_}
+-- What the definitions of Lines and Report come to: lines written chunk by chunk are the whole ones, and the tree is that of the bytes that
+-- the block takes. Assumes nothing.
+use Prim.Native.Nat.{ℕ, zero, suc, _+_, _-_, _*_, _/_, _%_, _≤_, _<_}
 use mathlib.Core.Path.{_≡_, refl, sym, ap, subst, _∙_}
 use mathlib.Core.Bool.{Bool, true, false, cond}
 use mathlib.Core.List.{List, [], _∷_, _++_, append-assoc, append-nil}
 use mathlib.Core.Option.{some}
-use native.Mathlib.Nat.{pow-succ'}
 use native.Mathlib.Omega.{arith}
 use borrow.Author.Tests.{ltb-true, ltb-false, lt-ltb, le-ltb, eq-eqb}
 use lib.Dec.{ltb}
 use lib.Ieee.{ofBits, toBits}
 use lib.ListN.{length, getD, take, drop, length-append, length-drop}
 use lib.Seq.{take-all, take-take, length-take-le, take-append-le, drop-append-le, drop-append-add}
-use Rattle.io.specs.Digits.{Fewest}
 use Rattle.ieee.specs.Single.{single}
 use Rattle.words.specs.Answers.{Answer, given, refused, _then_}
 use Rattle.words.specs.LittleEndian.{wordsOf}
-use Rattle.columns.specs.Lines.{placesIn, places, decimalBytes, chanceBytes, lineBytes, groupLine, groupLines, partLine, reportLines}
+use Rattle.words.proofs.AnswerLaws.{given-injective, not-both}
+use Rattle.text.specs.Text.{placesIn, decimalBytes, hexBytes}
+use Rattle.columns.specs.Lines.{chanceBytes, lineBytes, groupLine, groupLines, partLine, reportLines}
 use Rattle.columns.specs.Report.{reportLamps, blockBytes, blockLamps, treeOf, reportTree}
 
--- ---- decimal places
+-- ---- lines
 
--- a digit more, where the rest has p
-more-digits : (n p : ℕ) → 10 ≤ n → Fewest 10 1 (n / 10) p → Fewest 10 1 n (1 + p)
-more-digits n zero h few = absurd (omega (arith, few .0))
-more-digits n (suc zero) h few = (omega arith, omega (arith, few .1), λ _. h)
-more-digits n (suc (suc q)) h few =
-    let next : 1 + suc (suc q) ≡ suc (suc (suc q)) = omega arith in
-    let here : 1 + suc (suc q) - 1 ≡ suc (suc q) = omega arith in
-    let last : suc (suc q) - 1 ≡ suc q = omega arith in
-    let below : 10 ^ suc q ≤ n / 10 = rw last at (few .2 (omega arith)) in
-    (omega arith, rw (next, pow-succ' 10 (suc (suc q))) (omega (arith, few .1)), λ _. rw (here, pow-succ' 10 (suc q)) (omega (arith, below)))
-
-placesIn-fewest : (more n : ℕ) → n < 10 ^ suc more → Fewest 10 1 n (placesIn more n)
-unfolding placesIn
-placesIn-fewest zero n h = (omega arith, h, λ (l : 1 < 1). omega (arith, l))
-placesIn-fewest (suc more) n h = go (ltb n 10) refl (placesIn-fewest more (n / 10) (omega (arith, h, pow-succ' 10 (suc more))))
-  where
-    go : (b : Bool) → ltb n 10 ≡ b → Fewest 10 1 (n / 10) (placesIn more (n / 10)) → Fewest 10 1 n (cond b 1 (1 + placesIn more (n / 10)))
-    go true is few = (omega arith, ltb-true n 10 is, λ (l : 1 < 1). omega (arith, l))
-    go false is few = more-digits n (placesIn more (n / 10)) (ltb-false n 10 is) few
-
--- of a word, and of any number of ten digits
-pub places-fewest : (n : ℕ) → n < 10 ^ 10 → Fewest 10 1 n (places n)
-places-fewest = placesIn-fewest 9
-
--- document 01's `1 3f000000 3f000000`, and a refusal of two digits
+-- document 01's `1 3f000000 3f000000`
 pub pair-line : lineBytes (given (some (1, (single 0x3f00_0000, single 0x3f00_0000))))
     ≡ 49 ∷ 32 ∷ 51 ∷ 102 ∷ 48 ∷ 48 ∷ 48 ∷ 48 ∷ 48 ∷ 48 ∷ 32 ∷ 51 ∷ 102 ∷ 48 ∷ 48 ∷ 48 ∷ 48 ∷ 48 ∷ 48 ∷ 10 ∷ []
-unfolding lineBytes decimalBytes placesIn chanceBytes ofBits toBits
+unfolding lineBytes decimalBytes placesIn hexBytes chanceBytes ofBits toBits
 pair-line = refl
-
-pub refused-line : lineBytes (refused 11) ≡ 114 ∷ 101 ∷ 102 ∷ 117 ∷ 115 ∷ 101 ∷ 100 ∷ 32 ∷ 49 ∷ 49 ∷ 10 ∷ []
-unfolding lineBytes decimalBytes placesIn
-refused-line = refl
 
 -- ---- chunks
 
@@ -103,10 +75,35 @@ first-word k (a ∷ b ∷ []) = refl
 first-word k (a ∷ b ∷ c ∷ []) = refl
 first-word k (a ∷ b ∷ c ∷ d ∷ rest) = refl
 
-front-word : (input : List ℕ) (k : ℕ) → 4 ≤ k → getD (wordsOf (take k input)) 0 0 ≡ getD (wordsOf input) 0 0
+pub front-word : (input : List ℕ) (k : ℕ) → 4 ≤ k → getD (wordsOf (take k input)) 0 0 ≡ getD (wordsOf input) 0 0
 front-word input k word =
     let e : suc (suc (suc (suc (k - 4)))) ≡ k = omega (arith, word) in
     subst (λ (n : ℕ). getD (wordsOf (take n input)) 0 0 ≡ getD (wordsOf input) 0 0) e (first-word (k - 4) input)
+
+-- a block that is taken has as many lamps as its word 0 says, no more than a report takes, and is all there
+pub lamps-there : (input : List ℕ) (m : ℕ) → blockLamps input ≡ given m
+    → (getD (wordsOf input) 0 0 ≡ m) × (m ≤ reportLamps) × (blockBytes m ≤ length input)
+unfolding blockLamps
+lamps-there input m e = go (ltb (length input) 4) e
+  where
+    n : ℕ
+    n = getD (wordsOf input) 0 0
+
+    Is : Type 0
+    Is = (n ≡ m) × (m ≤ reportLamps) × (blockBytes m ≤ length input)
+
+    all : (b : Bool) → n ≤ reportLamps → ltb (length input) (blockBytes n) ≡ b → cond b (refused 1) (given n) ≡ given m → Is
+    all true few is e = absurd (not-both e refl)
+    all false few is e = rw (← given-injective e) (refl, few, ltb-false (length input) (blockBytes n) is)
+
+    some : (b : Bool) → ltb reportLamps n ≡ b → cond b (refused 2) (cond (ltb (length input) (blockBytes n)) (refused 1) (given n)) ≡ given m → Is
+    some true is e = absurd (not-both e refl)
+    some false is e = all (ltb (length input) (blockBytes n)) (ltb-false reportLamps n is) refl e
+
+    go : (b : Bool) → cond b (refused 1) (cond (ltb reportLamps n) (refused 2) (cond (ltb (length input) (blockBytes n)) (refused 1) (given n))) ≡ given m
+        → Is
+    go true e = absurd (not-both e refl)
+    go false e = some (ltb reportLamps n) refl e
 
 -- as many bytes as word 0, and as the block where it is taken, tell what all of the input tells
 module _ (input : List ℕ) (k : ℕ) (word : 4 ≤ k) (reaches : (m : ℕ) → blockLamps input ≡ given m → blockBytes m ≤ k) where

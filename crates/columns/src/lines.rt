@@ -1,27 +1,28 @@
 // The report's lines (specs/Lines.antt): what a group draws, and how a line is written into a lent slice.
 ghost use mathlib.Core.Path.{_≡_};
-ghost use Prim.Native.Nat.{_+_, _*_, _/_, _≤_, _<_};
+ghost use Prim.Native.Nat.{_+_, _*_, _/_, _≤_};
 ghost use mathlib.Core.Option.{some};
 ghost use lib.ListN.{length, getD};
 ghost use lib.Seq.{sets};
-ghost use Rattle.io.specs.Digits.{digits, glyph as glyphOf};
 ghost use Rattle.ieee.specs.Single.{single};
-ghost use Rattle.words.specs.Answers.{given, refused};
-ghost use Rattle.words.specs.Refusals.{number};
+ghost use Rattle.words.specs.Answers.{given};
 ghost use Rattle.words.specs.LittleEndian.{wordsOf};
-ghost use Rattle.columns.specs.Lines.{line, lineBytes, places as placesOf, decimalBytes, chanceBytes, newline, Put, groupQuery, groupShown};
-ghost use Rattle.columns.specs.Lines.{groupLine, reportLines};
+ghost use Rattle.text.specs.Text.{Put};
+ghost use Rattle.columns.specs.Lines.{line, lineBytes, chanceBytes, groupQuery, groupShown, groupLine, reportLines};
 use light_bounds::importance::Query;
 use light_bounds::vecmath::Vec3;
 use light_sampler::pmf::Chance;
 use light_sampler::pmf::bvh_light_sampler_pmf;
 use light_sampler::sample::Drawn;
 use light_sampler::sample::bvh_light_sampler_sample;
+use text::put_decimal;
+use text::put_hex;
+use text::put_refused;
+use text::put_text;
 use words::floats::f32_of_word;
 use words::floats::word_of_f32;
 use words::little_endian::word_at;
 use words::refusals::Refusal;
-use words::refusals::refusal_number;
 
 // What a line shows: a lamp with its chance as drawn and its chance by name, that there is none, or why not.
 pub enum Line {
@@ -74,52 +75,6 @@ fn draw_group(nodes: &[u8], table: &[u8], group: &[u8]) -> Line
 
 // ---- how it is written
 
-fn glyph(d: u32) -> u8
-    requires { ⌜ d < 16 ⌝ }
-    ensures { λ r. ⌜ r ≡ glyphOf d ⌝ }
-{
-    if d < 10 { 48 + d as u8 } else { 87 + d as u8 }
-}
-
-// Writes the last k digits of n, the most significant first.
-fn put_digits(out: &mut [u8], at: usize, base: u32, k: usize, n: u32)
-    requires { ⌜ (0 < base) × (base ≤ 16) × (at + k ≤ length (now out)) ⌝ }
-    ensures { λ _. ⌜ now (out .exit) ≡ sets (now (out .entry)) at (digits base k n) ⌝ }
-{
-    let mut i = k;
-    let mut rest = n;
-    while i > 0 {
-        i -= 1;
-        out[at + i] = glyph(rest % base);
-        rest /= base;
-    }
-}
-
-// How many decimal digits a word has.
-fn places(n: u32) -> usize
-    ensures { λ r. ⌜ r ≡ placesOf n ⌝ }
-    ensures { λ r. ⌜ r ≤ 10 ⌝ }
-{
-    let mut k = 1;
-    let mut rest = n;
-    while k < 10 && rest >= 10 {
-        rest /= 10;
-        k += 1;
-    }
-    k
-}
-
-// Writes a word in decimal; the place behind it.
-fn put_decimal(out: &mut [u8], at: usize, n: u32) -> usize
-    requires { ⌜ at + 10 ≤ length (now out) ⌝ }
-    ensures { λ r. ⌜ Put (now (out .entry)) at (decimalBytes n) (now (out .exit)) r ⌝ }
-    ensures { λ r. ⌜ r ≤ at + 10 ⌝ }
-{
-    let k = places(n);
-    put_digits(out, at, 10, k, n);
-    at + k
-}
-
 // Writes a space and a float's bits; the place behind them.
 fn put_chance(out: &mut [u8], at: usize, x: f32) -> usize
     requires { ⌜ at + 9 ≤ length (now out) ⌝ }
@@ -127,30 +82,8 @@ fn put_chance(out: &mut [u8], at: usize, x: f32) -> usize
     ensures { λ r. ⌜ r ≡ at + 9 ⌝ }
 {
     out[at] = b' ';
-    put_digits(out, at + 1, 16, 8, word_of_f32(x));
-    at + 9
-}
-
-// Ends a line; the place behind it.
-fn put_newline(out: &mut [u8], at: usize) -> usize
-    requires { ⌜ at < length (now out) ⌝ }
-    ensures { λ r. ⌜ Put (now (out .entry)) at newline (now (out .exit)) r ⌝ }
-{
-    out[at] = b'\n';
-    at + 1
-}
-
-// Writes text; the place behind it.
-fn put_text(out: &mut [u8], at: usize, text: &[u8]) -> usize
-    requires { ⌜ at + length (now text) ≤ length (now out) ⌝ }
-    ensures { λ r. ⌜ Put (now (out .entry)) at (now (text .entry)) (now (out .exit)) r ⌝ }
-{
-    let mut i = 0;
-    while i < text.len() {
-        out[at + i] = text[i];
-        i += 1;
-    }
-    at + i
+    let digits_at = at + 1;
+    digits_at + put_hex(out, digits_at, word_of_f32(x))
 }
 
 fn put_lamp(out: &mut [u8], at: usize, handle: u32, drawn: f32, named: f32) -> usize
@@ -158,20 +91,11 @@ fn put_lamp(out: &mut [u8], at: usize, handle: u32, drawn: f32, named: f32) -> u
     ensures { λ r. ⌜ Put (now (out .entry)) at (lineBytes (given (some (handle, (drawn, named))))) (now (out .exit)) r ⌝ }
     ensures { λ r. ⌜ r ≤ at + 29 ⌝ }
 {
-    let drawn_at = put_decimal(out, at, handle);
+    let drawn_at = at + put_decimal(out, at, handle);
     let named_at = put_chance(out, drawn_at, drawn);
     let end = put_chance(out, named_at, named);
-    put_newline(out, end)
-}
-
-fn put_refused(out: &mut [u8], at: usize, why: Refusal) -> usize
-    requires { ⌜ at + 29 ≤ length (now out) ⌝ }
-    ensures { λ r. ⌜ Put (now (out .entry)) at (lineBytes (refused (number why))) (now (out .exit)) r ⌝ }
-    ensures { λ r. ⌜ r ≤ at + 29 ⌝ }
-{
-    let number_at = put_text(out, at, b"refused ");
-    let end = put_decimal(out, number_at, refusal_number(why));
-    put_newline(out, end)
+    out[end] = b'\n';
+    end + 1
 }
 
 // Writes a line; the place behind it.
@@ -183,8 +107,8 @@ pub(crate) fn put_line(out: &mut [u8], at: usize, shown: Line) -> usize
 {
     match shown {
         Line::Lamp(handle, drawn, named) => put_lamp(out, at, handle, drawn, named),
-        Line::Nothing => put_text(out, at, b"none\n"),
-        Line::Refused(why) => put_refused(out, at, why),
+        Line::Nothing => at + put_text(out, at, b"none\n"),
+        Line::Refused(why) => at + put_refused(out, at, why),
     }
 }
 

@@ -1,29 +1,59 @@
-// A lamp list on standard input, its bounds block on standard output: little-endian words in, little-endian words out; or `refused N` and a line's
-// end. Bytes that are no whole word make the list ragged (1), unless it is over the limits (2).
+// A lamp list on standard input, its bounds block on standard output (specs/ListToBlock.antt): little-endian words in, little-endian words
+// out; or `refused N` and a line's end. Bytes that are no whole word make the list ragged (1), unless it is over the limits (2).
+ghost use mathlib.Core.Path.{_≡_};
 ghost use Prim.Native.Nat.{_≤_};
 ghost use lib.ListN.{length};
+ghost use lib.Seq.{sets};
+ghost use Rattle.lamps.specs.Build.{buildLightBounds};
+ghost use Rattle.lamps_to_block.specs.ListToBlock.{blockRoom, answerBytes, converted};
 use lamps::block::EXHAUSTIVE_BOUNDS_WORDS;
 use lamps::build::build_light_bounds;
-use lamps::lamp_list::check_list;
+use text::put_refused;
+use text::put_words;
 use words::answers::Counted;
-use words::limits::MAX_LAMPS;
-use words::little_endian::bytes_of_words;
+use words::limits::crowded;
 use words::little_endian::words_of_bytes;
 use words::refusals::Refusal;
-use words::refusals::refusal_number;
+
+// ---- the answer's bytes
+
+// Those of a list of whole words within the limits, at the front of `out`; how many.
+fn convert(list: &[u32], block: &mut [u32], out: &mut [u8]) -> usize
+    requires { ⌜ (length (now block) ≡ 57345) × (length (now out) ≡ 229380) ⌝ }
+    ensures { λ _. ⌜ now (out .exit) ≡ sets (now (out .entry)) 0 (answerBytes (buildLightBounds (now (list .entry)) blockRoom)) ⌝ }
+    ensures { λ r. ⌜ r ≡ length (answerBytes (buildLightBounds (now (list .entry)) blockRoom)) ⌝ }
+{
+    match build_light_bounds(list, block) {
+        Counted::Count(m) => {
+            let end = 1 + EXHAUSTIVE_BOUNDS_WORDS * m;
+            put_words(out, &block[0..end])
+        }
+        Counted::Refused(why) => put_refused(out, 0, why),
+    }
+}
+
+// Those of any list, with so many stray bytes behind its last word.
+fn answer(list: &[u32], stray: usize, block: &mut [u32], out: &mut [u8]) -> usize
+    requires { ⌜ (length (now block) ≡ 57345) × (length (now out) ≡ 229380) ⌝ }
+    ensures { λ _. ⌜ now (out .exit) ≡ sets (now (out .entry)) 0 (converted (now (list .entry)) stray) ⌝ }
+    ensures { λ r. ⌜ r ≡ length (converted (now (list .entry)) stray) ⌝ }
+{
+    if crowded(list) {
+        return put_refused(out, 0, Refusal::Crowded);
+    }
+    if stray == 0 {
+        convert(list, block, out)
+    } else {
+        put_refused(out, 0, Refusal::Ragged)
+    }
+}
+
+// ---- reading and writing
 
 // What was read: whole words, and bytes behind them.
 struct Input {
     words: usize,
     stray: usize,
-}
-
-// The words of bytes, as far as the list has room.
-fn put_words(bytes: &[u8], list: &mut [u32]) {
-    match words_of_bytes(bytes, list) {
-        Counted::Count(n) => {}
-        Counted::Refused(why) => {}
-    }
 }
 
 // Reads standard input, a chunk at a time, until it ends or the list has no room for another chunk: then it is over 2^20 words.
@@ -38,7 +68,7 @@ fn read_list(list: &mut [u32], chunk: &mut [u8]) -> Input
         let n = io::read_full(0, chunk);
         let got = n / 4;
         let end = 4 * got;
-        put_words(&chunk[0..end], &mut list[words..]);
+        words_of_bytes(&chunk[0..end], &mut list[words..]);
         words += got;
         if n < chunk.len() {
             stray = n % 4;
@@ -48,110 +78,45 @@ fn read_list(list: &mut [u32], chunk: &mut [u8]) -> Input
     Input { words, stray }
 }
 
-// Writes words to standard output, for which the chunk has room; whether all were written.
-fn write_part(words: &[u32], chunk: &mut [u8]) -> bool {
-    match bytes_of_words(words, chunk) {
-        Counted::Count(n) => {
-            if n <= chunk.len() / 4 {
-                let end = 4 * n;
-                io::write_all(1, &chunk[0..end])
-            } else {
-                false
-            }
-        }
-        Counted::Refused(why) => false,
-    }
-}
-
-// The same for more words than that, as many at a time as it has room for, up to the first part that is not written.
-fn write_words(words: &[u32], chunk: &mut [u8]) -> bool
-    requires { ⌜ 4 ≤ length (now chunk) ⌝ }
+// Hands the answer to standard output; the list and the stray bytes are there to say whose it is. A program has no exit status here, so one
+// that cannot write says so.
+fn write(list: &[u32], stray: usize, text: &[u8])
+    requires { ⌜ now text ≡ converted (now list) stray ⌝ }
 {
-    let each = chunk.len() / 4;
-    let mut done: usize = 0;
-    while each < words.len() - done {
-        let end = done + each;
-        if !write_part(&words[done..end], chunk) {
-            return false;
-        }
-        done = end;
+    if io::write_all(1, text) {
+        return;
     }
-    write_part(&words[done..], chunk)
+    io::write_all(
+        2,
+        b"lamps_to_block: standard output could not be written whole\n",
+    );
 }
 
-fn write_refusal(why: Refusal) -> bool {
-    if !io::write_all(1, b"refused ") {
-        return false;
-    }
-    if !io::print_decimal(1, refusal_number(why) as u64) {
-        return false;
-    }
-    io::write_all(1, b"\n")
-}
-
-// A list with bytes behind its last word.
-fn refuse_stray(list: &[u32]) -> bool {
-    match check_list(list) {
-        Counted::Count(m) => write_refusal(Refusal::Ragged),
-        Counted::Refused(why) => match why {
-            Refusal::Crowded => write_refusal(Refusal::Crowded),
-            _ => write_refusal(Refusal::Ragged),
-        },
-    }
-}
-
-fn convert(list: &[u32], block: &mut [u32], chunk: &mut [u8]) -> bool
-    requires { ⌜ 4 ≤ length (now chunk) ⌝ }
-{
-    match build_light_bounds(list, block) {
-        Counted::Count(m) => {
-            if m <= MAX_LAMPS {
-                let end = 1 + EXHAUSTIVE_BOUNDS_WORDS * m;
-                if end <= block.len() {
-                    return write_words(&block[0..end], chunk);
-                }
-            }
-            false
-        }
-        Counted::Refused(why) => write_refusal(why),
-    }
-}
-
-// The block, or the refusal, of a list with so many stray bytes behind it; whether all of it was written.
-fn answer(list: &[u32], stray: usize, block: &mut [u32], chunk: &mut [u8]) -> bool
-    requires { ⌜ 4 ≤ length (now chunk) ⌝ }
-{
-    if stray == 0 {
-        convert(list, block, chunk)
-    } else {
-        refuse_stray(list)
-    }
-}
-
-// Reads, converts, writes. A program has no exit status here, so one that cannot write says so.
-fn run(list: &mut [u32], block: &mut [u32], chunk: &mut [u8])
-    requires { ⌜ 4 ≤ length (now chunk) ⌝ }
+fn run(list: &mut [u32], block: &mut [u32], chunk: &mut [u8], out: &mut [u8])
+    requires { ⌜ (length (now block) ≡ 57345) × (4 ≤ length (now chunk)) × (length (now out) ≡ 229380) ⌝ }
 {
     let input = read_list(list, chunk);
     let words = input.words;
     let stray = input.stray;
-    if !answer(&list[0..words], stray, block, chunk) {
-        io::write_all(
-            2,
-            b"lamps_to_block: standard output could not be written whole\n",
-        );
-    }
+    let end = answer(&list[0..words], stray, block, out);
+    write(&list[0..words], stray, &out[0..end]);
 }
 
-// Lends room for a list of 2^20 words and a chunk more, and for the block of 4,096 lamps.
-fn lend(list: &mut [u32; 1064960], block: &mut [u32; 57345], chunk: &mut [u8; 65536]) {
-    run(list, block, chunk);
+// Lends room for a list of 2^20 words and a chunk more, for the block of 4,096 lamps, and for its bytes.
+fn lend(
+    list: &mut [u32; 1064960],
+    block: &mut [u32; 57345],
+    chunk: &mut [u8; 65536],
+    out: &mut [u8; 229380],
+) {
+    run(list, block, chunk, out);
 }
 
-// All of it is on the stack: 4.4 MiB.
+// All of it is on the stack: 4.6 MiB.
 fn main() {
     let mut list = [0u32; 1064960];
     let mut block = [0u32; 57345];
     let mut chunk = [0u8; 65536];
-    lend(&mut list, &mut block, &mut chunk);
+    let mut out = [0u8; 229380];
+    lend(&mut list, &mut block, &mut chunk, &mut out);
 }

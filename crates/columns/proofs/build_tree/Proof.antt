@@ -1,14 +1,14 @@
--- `columns::build_tree` meets its contract: build's own answer, and its trays' fronts. Assumes nothing.
+-- Build's own answer and trays: the slices that are lent are the reserves of 512 lamps. Assumes nothing.
 use Prim.Native.Nat.{ℕ}
-use mathlib.Core.Path.{_≡_, _∙_}
+use mathlib.Core.Path.{_≡_, ap, _∙_}
 use mathlib.Core.List.{List}
 use denote.Ref.{now}
-use lib.ListN.{length}
-use Rattle.words.specs.Answers.{given}
-use Rattle.light_bvh.specs.Build.{LightBVH, buildLightBvh}
+use lib.ListN.{length, getD}
+use Rattle.words.specs.Answers.{Answer}
+use Rattle.words.specs.Tray.{tray}
+use Rattle.light_bvh.specs.Build.{LightBVH, buildLightBvh, nodesReserve, nodesWritten, tableWritten}
 use borrow.Author.Needs.{needs}
-use Rattle.columns.specs.Report.{treeOf, powered, Laid}
-use Rattle.columns.proofs.TreeLaws.{laid}
+use Rattle.columns.specs.Report.{treeOf, powered}
 use Rattle.columns.proofs.build_tree.Statement.{statement}
 use Rattle.columns.proofs.build_tree.Tie as tie
 
@@ -28,28 +28,29 @@ module _ (c : tie.After-build-light-bvh) where
   unfolding treeOf
   sized = rw (start .pre .0, start .pre .1, start .pre .2)
 
-  fronts : (b : LightBVH) → treeOf lamps block ≡ given b → Laid b (c .build-light-bvh .last .1 .1 .0) (c .build-light-bvh .last .1 .1 .1 .0)
-  fronts b e =
-      let left = c .build-light-bvh .ensures in
-      laid lamps block _ _ _ b (sized ∙ e) _ _ _ _ (left .1 .0) (left .1 .1 .0)
+  nodes : c .build-light-bvh .last .1 .1 .0 ≡ tray nodesWritten (nodesReserve (getD block 0 0)) (treeOf lamps block) (now (start .args .nodes))
+  nodes = c .build-light-bvh .ensures .1 .0 ∙ ap (λ (t : Answer LightBVH). tray nodesWritten (nodesReserve (getD block 0 0)) t (now (start .args .nodes))) sized
+
+  table : c .build-light-bvh .last .1 .1 .1 .0 ≡ tray tableWritten (getD block 0 0) (treeOf lamps block) (now (start .args .table))
+  table = c .build-light-bvh .ensures .1 .1 .0 ∙ ap (λ (t : Answer LightBVH). tray tableWritten (getD block 0 0) t (now (start .args .table))) sized
 
 returns : tie.Need-returns
 unfolding powered
 returns c =
     let call = c .before .before .before .before .before .before .before .before .before in
-    (rw (← sized call, ← call .build-light-bvh .ensures .0, c .before .k .given .1), fronts call)
+    (rw (← sized call, ← call .build-light-bvh .ensures .0, c .before .k .given .1), (nodes call, table call))
 
 returns-2 : tie.Need-returns-2
 unfolding powered
 returns-2 c =
     let call = c .before .before .before .before .before .before .before .before in
-    (rw (← sized call, ← call .build-light-bvh .ensures .0, c .enum-told .given .1), fronts call)
+    (rw (← sized call, ← call .build-light-bvh .ensures .0, c .enum-told .given .1), (nodes call, table call))
 
 returns-3 : tie.Need-returns-3
 unfolding powered
 returns-3 c =
     let call = c .before .before .before .before .before .before .before .before .before in
-    (rw (← sized call, ← call .build-light-bvh .ensures .0, c .before .why .given .1), fronts call)
+    (rw (← sized call, ← call .build-light-bvh .ensures .0, c .before .why .given .1), (nodes call, table call))
 
 pub build-tree-spec : {M : Type 1} → statement M
 build-tree-spec =

@@ -4,7 +4,7 @@ use native.Mathlib.Nat.{sub-zero}
 use borrow.Author.Needs.{needs}
 use Rattle.lamps.specs.Block.{blockWords}
 use Rattle.columns.specs.Report.{blockBytes}
-use Rattle.columns.proofs.TreeLaws.{block-read}
+use Rattle.columns.proofs.TreeBytes.{block-read}
 use Rattle.columns.proofs.make_tree.Statement.{statement}
 use Rattle.columns.proofs.make_tree.Tie as tie
 

@@ -1,7 +1,7 @@
 -- `columns::read_words` meets its contract: there is room, so the words stand at the front. Assumes nothing.
 use denote.Ref.{now}
 use borrow.Author.Needs.{needs}
-use Rattle.columns.proofs.TreeLaws.{words-read}
+use Rattle.columns.proofs.TreeBytes.{words-read}
 use Rattle.columns.proofs.read_words.Statement.{statement}
 use Rattle.columns.proofs.read_words.Tie as tie
 

@@ -2,12 +2,14 @@
 use Prim.Native.Nat.{ℕ}
 use mathlib.Core.Path.{_≡_, refl, sym, ap, _∙_}
 use mathlib.Core.List.{List}
+use native.Mathlib.Omega.{arith}
 use denote.Ref.{now}
 use borrow.Author.Needs.{needs}
 use Rattle.words.specs.Answers.{counted, given, _then_}
 use Rattle.words.proofs.AnswerLaws.{not-both}
-use Rattle.columns.specs.Report.{reportTree, blockLamps, sizes}
-use Rattle.columns.proofs.TreeLaws.{lamps-there, sizes-given, sizes-refused}
+use Rattle.columns.specs.Report.{blockBytes, reportTree, blockLamps, sizes}
+use Rattle.columns.specs.ReportLaws.{front-word, lamps-there}
+use Rattle.columns.proofs.TreeBytes.{unbuilt, sizes-given, sizes-refused}
 use Rattle.columns.proofs.take_tree.Statement.{statement}
 use Rattle.columns.proofs.take_tree.Tie as tie
 
@@ -25,7 +27,7 @@ module _ (c : tie.After-lamps) where
 make-tree-requires : tie.Need-make-tree-requires
 make-tree-requires c κs =
     let lamps = c .before .before .before .before .before in
-    let (few, there) = lamps-there (input lamps) _ (count lamps) in
+    let (word, few, there) = lamps-there (input lamps) _ (count lamps) in
     let (block, nodes, table, work) = start lamps .pre in
     ((few, there, block), (nodes, table, work))
 
@@ -34,20 +36,26 @@ unfolding reportTree _then_
 returns c =
     let call = c .before .before .before .before .before .before .before .before .before .before .before in
     let lamps = call .before .before .before .before .before .before in
-    rw (count lamps) (sizes-given _ _ _ (rw (c .before .k .given .1) at (call .make-tree .ensures .0)), call .make-tree .ensures .1)
+    rw (count lamps) (
+      sizes-given _ _ _ (rw (c .before .k .given .1) at (call .make-tree .ensures .0)),
+      rw (front-word (input lamps) (blockBytes (lamps .lamps .given .0 .0)) (omega arith)) at (call .make-tree .ensures .1),
+    )
 
 returns-2 : tie.Need-returns-2
 unfolding reportTree _then_
 returns-2 c =
     let call = c .before .before .before .before .before .before .before .before .before .before .before in
     let lamps = call .before .before .before .before .before .before in
-    rw (count lamps) (sizes-refused _ _ (rw (c .before .why .given .1) at (call .make-tree .ensures .0)), call .make-tree .ensures .1)
+    rw (count lamps) (
+      sizes-refused _ _ (rw (c .before .why .given .1) at (call .make-tree .ensures .0)),
+      rw (front-word (input lamps) (blockBytes (lamps .lamps .given .0 .0)) (omega arith)) at (call .make-tree .ensures .1),
+    )
 
 returns-3 : tie.Need-returns-3
 unfolding reportTree _then_ sizes
 returns-3 c =
     let none = sym (c .before .before .before .block-lamps .ensures) ∙ ap counted (c .before .why2 .given .1) in
-    rw none (refl, λ b e. absurd (not-both e refl))
+    rw none (refl, (unbuilt _ _ none _ _ _, unbuilt _ _ none _ _ _))
 
 pub take-tree-spec : {M : Type 1} → statement M
 take-tree-spec =

@@ -7,10 +7,10 @@ use Rattle.columns.proofs.write_groups.Statement.{statement}
 use Rattle.columns.proofs.write_groups.Tie as tie
 
 abbrev Inv-loop : tie.InvT-loop
-Inv-loop nodes table chunk₀ out₀ turns₀ chunk out turns = (length chunk ≡ length chunk₀) × (length out ≡ length out₀)
+Inv-loop front nodes table chunk₀ out₀ turns₀ chunk out turns = (length chunk ≡ length chunk₀) × (length out ≡ length out₀)
 
 abbrev μ-loop : tie.MeasureT-loop
-μ-loop nodes table chunk₀ out₀ turns₀ chunk out turns = turns
+μ-loop front nodes table chunk₀ out₀ turns₀ chunk out turns = turns
 
 pub write-groups-spec : {M : Type 1} → statement M
 write-groups-spec =

@@ -1,0 +1,28 @@
+-- The test of the room decides between all of the digits and none. Assumes nothing.
+use mathlib.Core.Path.{sym, _∙_}
+use borrow.Author.Needs.{needs}
+use borrow.Author.Tests.{leb-true}
+use Rattle.text.specs.Text.{decimalBytes}
+use Rattle.text.proofs.PutLaws.{put-all, put-none, length-decimal}
+use Rattle.text.proofs.put_decimal.Statement.{statement}
+use Rattle.text.proofs.put_decimal.Tie as tie
+
+lay-digits-requires : tie.Need-lay-digits-requires
+lay-digits-requires c κs = (search needs, search needs, leb-true _ _ (sym (c .before .before .fits2 .ensures) ∙ c .before .if1 .taken))
+
+returns : tie.Need-returns
+unfolding decimalBytes
+returns c =
+    let put = c .before .before in
+    let room = put .before .before in
+    let counted = room .before .before .places .ensures .0 in
+    put-all _ _ _ _ (length-decimal _ ∙ sym counted) (sym (room .before .fits2 .ensures) ∙ room .if1 .taken)
+    (rw counted at (put .lay-digits .ensures))
+
+returns-2 : tie.Need-returns-2
+returns-2 c =
+    put-none _ _ _ _ (length-decimal _ ∙ sym (c .before .before .places .ensures .0)) (sym (c .before .fits2 .ensures) ∙ c .if1 .left)
+
+pub put-decimal-spec : {M : Type 1} → statement M
+put-decimal-spec =
+    tie.close (tie.spec (λ c κs. search needs) (λ c κs. search needs) lay-digits-requires (λ c. search needs) returns returns-2)
