@@ -44,7 +44,7 @@ fn front_bytes(head: &[u8]) -> usize
     ensures { λ r. ⌜ (4 ≤ r) × (r ≤ 28676) ⌝ }
 {
     let lamps = wide(word_at(head, 0));
-    if REPORT_LAMPS < lamps {
+    if lamps > REPORT_LAMPS {
         return 4;
     }
     4 * (1 + EXHAUSTIVE_BOUNDS_WORDS * lamps)
