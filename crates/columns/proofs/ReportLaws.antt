@@ -34,7 +34,8 @@ reported-none room =
       lines = record { is = refl; past = refl };
     }
 
-pub reported-next : {nodes table bytes before out out′ : List ℕ} {count at end i : ℕ} → i < count → Reported nodes table bytes before count out at i
+pub reported-next : {nodes table bytes before out out′ : List ℕ} {count at end i : ℕ} → i < count
+    → Reported nodes table bytes before count out at i
     → Put out at (groupLine nodes table (take 28 (drop (28 * i) bytes))) out′ end → end ≤ at + 29
     → Reported nodes table bytes before count out′ end (i + 1)
 unfolding groupLines
@@ -52,7 +53,8 @@ reported-next {nodes} {table} {bytes} {before} {out} {out′} {count} {at} {end}
 -- at the end all lines are there, but for a part group's
 pub reported-all : {nodes table bytes before out : List ℕ} {count at i : ℕ} → count ≤ i → length bytes % 28 ≡ 0
     → Reported nodes table bytes before count out at i
-    → (out ≡ sets before 0 (reportLines nodes table bytes)) × ((at ≡ length (reportLines nodes table bytes)) × (at ≤ length before))
+    → (out ≡ sets before 0 (reportLines nodes table bytes)) ×
+    ((at ≡ length (reportLines nodes table bytes)) × (at ≤ length before))
 unfolding reportLines partLine
 reported-all {nodes} {table} {bytes} {before} {out} {count} {at} {i} h whole r =
     let e : i ≡ length bytes / 28 = omega (arith, h, r .all, r .within) in
@@ -60,9 +62,11 @@ reported-all {nodes} {table} {bytes} {before} {out} {count} {at} {i} h whole r =
     simp (eq-eqb (length bytes % 28) 0 whole, append-nil)
     (there .is, (there .past ∙ zero-add _, omega (arith, r .short, r .room, r .within)))
 
-pub reported-part : {nodes table bytes before out out′ : List ℕ} {count at end i : ℕ} → count ≤ i → (length bytes % 28 ≡ 0 → ⊥)
+pub reported-part : {nodes table bytes before out out′ : List ℕ} {count at end i : ℕ} → count ≤ i
+    → (length bytes % 28 ≡ 0 → ⊥)
     → Reported nodes table bytes before count out at i → Put out at (lineBytes (refused 1)) out′ end → end ≤ at + 29
-    → (out′ ≡ sets before 0 (reportLines nodes table bytes)) × ((end ≡ length (reportLines nodes table bytes)) × (end ≤ length before))
+    → (out′ ≡ sets before 0 (reportLines nodes table bytes)) ×
+    ((end ≡ length (reportLines nodes table bytes)) × (end ≤ length before))
 unfolding reportLines partLine
 reported-part {nodes} {table} {bytes} {before} {out} {out′} {count} {at} {end} {i} h part r w few =
     let e : i ≡ length bytes / 28 = omega (arith, h, r .all, r .within) in

@@ -1,5 +1,6 @@
--- The lines of the report, in ASCII, as document 01's "Light report and cases" has them: what a group of seven words draws, and how it is
--- written. Chances are written as their words' eight hexadecimal digits, handles and refusals in decimal. Definitions only. Assumes nothing.
+-- The lines of the report, in ASCII, as document 01's "Light report and cases" has them: what a group of seven
+-- words draws, and how it is written. Chances are written as their words' eight hexadecimal digits, handles and
+-- refusals in decimal. Definitions only. Assumes nothing.
 use Prim.Native.Nat.{ℕ, zero, suc, _*_, _/_, _%_}
 use mathlib.Core.Bool.{cond}
 use mathlib.Core.List.{List, [], _∷_, _++_}
@@ -54,7 +55,10 @@ abbrev pub noneBytes : List ℕ
 noneBytes = 110 ∷ 111 ∷ 110 ∷ 101 ∷ 10 ∷ []
 
 unfoldable pub lineBytes : Answer Shown → List ℕ
-lineBytes (given (some (handle, (drawn, chance)))) = decimalBytes handle ++ chanceBytes drawn ++ chanceBytes chance ++ newline
+lineBytes (given (some (
+  handle,
+  (drawn, chance),
+))) = decimalBytes handle ++ chanceBytes drawn ++ chanceBytes chance ++ newline
 lineBytes (given none) = noneBytes
 lineBytes (refused n) = refusalLine n
 
@@ -67,7 +71,8 @@ groupLine nodes table group = lineBytes (groupShown nodes table (wordsOf group))
 -- those of the first n groups
 unfoldable pub groupLines : List ℕ → List ℕ → List ℕ → ℕ → List ℕ
 groupLines nodes table bytes zero = []
-groupLines nodes table bytes (suc n) = groupLines nodes table bytes n ++ groupLine nodes table (take 28 (drop (28 * n) bytes))
+groupLines nodes table bytes (suc n) = groupLines nodes table bytes n ++ groupLine nodes table
+    (take 28 (drop (28 * n) bytes))
 
 -- bytes that are no whole group are a part group, and that is refusal 1
 unfoldable pub partLine : List ℕ → List ℕ

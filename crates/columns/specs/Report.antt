@@ -1,6 +1,7 @@
--- The whole report of document 01's "Light report and cases": a bounds block and groups in, lines out. `report` says what the program writes
--- for what it reads. No promise can speak of reading and writing: those of its functions say which bytes are handed to each write, of the
--- bytes that were read, and `written` what these are together. Definitions only. Assumes nothing.
+-- The whole report of document 01's "Light report and cases": a bounds block and groups in, lines out. `report`
+-- says what the program writes for what it reads. No promise can speak of reading and writing: those of its
+-- functions say which bytes are handed to each write, of the bytes that were read, and `written` what these are
+-- together. Definitions only. Assumes nothing.
 use Prim.Native.Nat.{ℕ, _*_}
 use mathlib.Core.Bool.{cond}
 use mathlib.Core.List.{List, [], _∷_, _++_, map, flatten}
@@ -27,7 +28,8 @@ reportLamps = 512
 abbrev pub blockBytes : ℕ → ℕ
 blockBytes m = 4 * blockWords m
 
--- How many lamps the block at the front has. Without a word 0 it is refused as 1, by a word 0 above 512 as 2 though it be cut, cut short as 1.
+-- How many lamps the block at the front has. Without a word 0 it is refused as 1, by a word 0 above 512 as 2
+-- though it be cut, cut short as 1.
 unfoldable pub blockLamps : List ℕ → Answer ℕ
 blockLamps input =
     let m = getD (wordsOf input) 0 0 in
@@ -47,7 +49,8 @@ headerBytes = 108 ∷ 97 ∷ 109 ∷ 112 ∷ 32 ∷ 100 ∷ 114 ∷ 97 ∷ 119 �
 
 -- a bad block ends the report
 unfoldable pub behindHeader : List ℕ → Answer LightBVH → List ℕ
-behindHeader input (given b) = reportLines (bytesOf (nodesWritten b)) (bytesOf (tableWritten b)) (drop (blockBytes (b .rows)) input)
+behindHeader input (given b) = reportLines (bytesOf (nodesWritten b)) (bytesOf (tableWritten b))
+    (drop (blockBytes (b .rows)) input)
 behindHeader input (refused n) = lineBytes (refused n)
 
 unfoldable pub report : List ℕ → List ℕ
@@ -90,7 +93,8 @@ written front chunks = firstLines (reportTree front) ++ behindFirst (reportTree 
 
 -- what the enum `Opened` says: how many bytes the first lines have, and the tree's where groups follow
 unfoldable pub openedOf : Answer LightBVH → Opened
-openedOf (given b) = Groups (length (firstLines (given b))) (length (nodeBytes (given b))) (length (tableBytes (given b)))
+openedOf (given b) = Groups (length (firstLines (given b))) (length (nodeBytes (given b)))
+    (length (tableBytes (given b)))
 openedOf (refused n) = Ended (length (firstLines (refused n)))
 
 -- how many lamps have power

@@ -1,5 +1,5 @@
--- What the definitions of Lines and Report come to: lines written chunk by chunk are the whole ones, and the tree is that of the bytes that
--- the block takes. Assumes nothing.
+-- What the definitions of Lines and Report come to: lines written chunk by chunk are the whole ones, and the
+-- tree is that of the bytes that the block takes. Assumes nothing.
 use Prim.Native.Nat.{ℕ, zero, suc, _+_, _-_, _*_, _/_, _%_, _≤_, _<_}
 use mathlib.Core.Path.{_≡_, refl, sym, ap, subst, _∙_}
 use mathlib.Core.Bool.{Bool, true, false, cond}
@@ -31,7 +31,8 @@ pair-line = refl
 
 module _ (nodes table : List ℕ) where
   -- the lines of groups that lie within the front
-  lines-front : (a b : List ℕ) (n : ℕ) → 28 * n ≤ length a → groupLines nodes table (a ++ b) n ≡ groupLines nodes table a n
+  lines-front : (a b : List ℕ) (n : ℕ) → 28 * n ≤ length a
+      → groupLines nodes table (a ++ b) n ≡ groupLines nodes table a n
   unfolding groupLines
   lines-front a b zero h = refl
   lines-front a b (suc n) h =
@@ -50,7 +51,8 @@ module _ (nodes table : List ℕ) where
       let next : n + suc m ≡ suc (n + m) = omega arith in
       let at : 28 * (n + m) ≡ length a + 28 * m = omega (arith, e) in
       rw (next, at, drop-append-add a b (28 * m), lines-behind a b n m e)
-      (append-assoc (groupLines nodes table a n) (groupLines nodes table b m) (groupLine nodes table (take 28 (drop (28 * m) b))))
+      (append-assoc (groupLines nodes table a n) (groupLines nodes table b m)
+      (groupLine nodes table (take 28 (drop (28 * m) b))))
 
   -- a chunk of whole groups, and what comes behind it
   pub report-chunks : (chunk rest : List ℕ) → length chunk % 28 ≡ 0
@@ -58,16 +60,25 @@ module _ (nodes table : List ℕ) where
   unfolding reportLines partLine
   report-chunks chunk rest whole =
       let long = length-append chunk rest in
-      let groups : length (chunk ++ rest) / 28 ≡ length chunk / 28 + length rest / 28 = rw long (omega (arith, whole)) in
+      let groups : length (chunk ++ rest) / 28 ≡ length chunk / 28 + length rest / 28 = rw long
+      (omega (arith, whole)) in
       let part : length (chunk ++ rest) % 28 ≡ length rest % 28 = rw long (omega (arith, whole)) in
       let front : length chunk ≡ 28 * (length chunk / 28) = omega (arith, whole) in
-      rw (groups, part, lines-behind chunk rest (length chunk / 28) (length rest / 28) front, eq-eqb (length chunk % 28) 0 whole)
+      rw (
+        groups,
+        part,
+        lines-behind chunk rest (length chunk / 28) (length rest / 28) front,
+        eq-eqb
+            (length chunk % 28) 0 whole,
+      )
       (rw (append-nil (groupLines nodes table chunk (length chunk / 28)))
-      (append-assoc (groupLines nodes table chunk (length chunk / 28)) (groupLines nodes table rest (length rest / 28)) (partLine rest)))
+      (append-assoc (groupLines nodes table chunk (length chunk / 28))
+      (groupLines nodes table rest (length rest / 28)) (partLine rest)))
 
 -- ---- the block
 
-first-word : (k : ℕ) (input : List ℕ) → getD (wordsOf (take (suc (suc (suc (suc k)))) input)) 0 0 ≡ getD (wordsOf input) 0 0
+first-word : (k : ℕ) (input : List ℕ)
+    → getD (wordsOf (take (suc (suc (suc (suc k)))) input)) 0 0 ≡ getD (wordsOf input) 0 0
 unfolding wordsOf
 first-word k [] = refl
 first-word k (a ∷ []) = refl
@@ -92,11 +103,13 @@ lamps-there input m e = go (ltb (length input) 4) e
     Is : Type 0
     Is = (n ≡ m) × (m ≤ reportLamps) × (blockBytes m ≤ length input)
 
-    all : (b : Bool) → n ≤ reportLamps → ltb (length input) (blockBytes n) ≡ b → cond b (refused 1) (given n) ≡ given m → Is
+    all : (b : Bool) → n ≤ reportLamps → ltb (length input) (blockBytes n) ≡ b
+        → cond b (refused 1) (given n) ≡ given m → Is
     all true few is e = absurd (not-both e refl)
     all false few is e = rw (← given-injective e) (refl, few, ltb-false (length input) (blockBytes n) is)
 
-    some : (b : Bool) → ltb reportLamps n ≡ b → cond b (refused 2) (cond (ltb (length input) (blockBytes n)) (refused 1) (given n)) ≡ given m → Is
+    some : (b : Bool) → ltb reportLamps n ≡ b
+        → cond b (refused 2) (cond (ltb (length input) (blockBytes n)) (refused 1) (given n)) ≡ given m → Is
     some true is e = absurd (not-both e refl)
     some false is e = all (ltb (length input) (blockBytes n)) (ltb-false reportLamps n is) refl e
 
@@ -106,13 +119,15 @@ lamps-there input m e = go (ltb (length input) 4) e
     go false e = some (ltb reportLamps n) refl e
 
 -- as many bytes as word 0, and as the block where it is taken, tell what all of the input tells
-module _ (input : List ℕ) (k : ℕ) (word : 4 ≤ k) (reaches : (m : ℕ) → blockLamps input ≡ given m → blockBytes m ≤ k) where
+module _ (input : List ℕ) (k : ℕ) (word : 4 ≤ k)
+    (reaches : (m : ℕ) → blockLamps input ≡ given m → blockBytes m ≤ k) where
   abbrev m : ℕ
   m = getD (wordsOf input) 0 0
 
   -- of so many bytes and of all
   abbrev told : ℕ → Answer ℕ
-  told n = cond (ltb n 4) (refused 1) (cond (ltb reportLamps m) (refused 2) (cond (ltb n (blockBytes m)) (refused 1) (given m)))
+  told n = cond (ltb n 4) (refused 1) (cond (ltb reportLamps m) (refused 2)
+      (cond (ltb n (blockBytes m)) (refused 1) (given m)))
 
   told-all : told (length input) ≡ blockLamps input
   unfolding blockLamps
@@ -122,13 +137,22 @@ module _ (input : List ℕ) (k : ℕ) (word : 4 ≤ k) (reaches : (m : ℕ) → 
   unfolding blockLamps
   lamps-front = go (ltb k (length input)) refl
     where
-      cut : (b : Bool) → k < length input → ltb reportLamps m ≡ false → ltb (length input) (blockBytes m) ≡ b → told k ≡ told (length input)
+      cut : (b : Bool) → k < length input → ltb reportLamps m ≡ false → ltb (length input) (blockBytes m) ≡ b
+          → told k ≡ told (length input)
       cut true less few is =
           let short = ltb-true (length input) (blockBytes m) is in
           simp (le-ltb k 4 word, le-ltb (length input) 4 (omega arith), few, is, lt-ltb k (blockBytes m) (omega arith))
       cut false less few is =
-          let taken : blockLamps input ≡ given m = sym told-all ∙ simp (le-ltb (length input) 4 (omega arith), few, is) in
-          simp (le-ltb k 4 word, le-ltb (length input) 4 (omega arith), few, is, le-ltb k (blockBytes m) (reaches m taken))
+          let taken : blockLamps input ≡ given m = sym told-all ∙ simp
+          (le-ltb (length input) 4 (omega arith), few, is) in
+          simp (
+            le-ltb k 4 word,
+            le-ltb (length input) 4 (omega arith),
+            few,
+            is,
+            le-ltb k (blockBytes m)
+                (reaches m taken),
+          )
 
       crowd : (b : Bool) → k < length input → ltb reportLamps m ≡ b → told k ≡ told (length input)
       crowd true less is = simp (le-ltb k 4 word, le-ltb (length input) 4 (omega arith), is)
@@ -145,6 +169,7 @@ module _ (input : List ℕ) (k : ℕ) (word : 4 ≤ k) (reaches : (m : ℕ) → 
   tree-front = rw lamps-front (go (blockLamps input) refl)
     where
       go : (x : Answer ℕ) → blockLamps input ≡ x
-          → (x then λ (n : ℕ). treeOf n (wordsOf (take (blockBytes n) (take k input)))) ≡ (x then λ (n : ℕ). treeOf n (wordsOf (take (blockBytes n) input)))
+          → (x then λ (n : ℕ). treeOf n (wordsOf (take (blockBytes n) (take k input)))) ≡
+          (x then λ (n : ℕ). treeOf n (wordsOf (take (blockBytes n) input)))
       go (given n) is = rw (take-take (blockBytes n) k input (reaches n is))
       go (refused n) is = refl

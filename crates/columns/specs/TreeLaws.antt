@@ -1,5 +1,5 @@
--- A tree that a report takes: its rows are the block's lamps, no more than 512, and its nodes and table are as long as they say.
--- Assumes nothing.
+-- A tree that a report takes: its rows are the block's lamps, no more than 512, and its nodes and table are as
+-- long as they say. Assumes nothing.
 use Prim.Native.Nat.{ℕ, _≤_}
 use mathlib.Core.Path.{_≡_, refl, sym, _∙_}
 use mathlib.Core.Bool.{Bool, true, false, cond, _&&_}
@@ -14,7 +14,8 @@ use Rattle.words.specs.LittleEndian.{wordsOf}
 use Rattle.words.specs.Rows.{below}
 use Rattle.words.proofs.AnswerLaws.{then-given, given-injective, not-both}
 use Rattle.lamps.specs.Block.{blockWords, sideAt, blockLayout, blockHandles}
-use Rattle.light_bvh.specs.Build.{LightBVH, validated, builtBvh, isShort, buildCheck, buildLightBvh, nodesReserve, nodesWritten, tableWritten}
+use Rattle.light_bvh.specs.Build.{LightBVH, validated, builtBvh, isShort, buildCheck}
+use Rattle.light_bvh.specs.Build.{buildLightBvh, nodesReserve, nodesWritten, tableWritten}
 use Rattle.light_bvh.proofs.RowsLaws.{bounded-few}
 use Rattle.tree_laws.specs.AcceptedTree.{Parts, accepted-parts, handles-count}
 use Rattle.light_runs.specs.NodeLaws.{node-words, table-words}
@@ -30,7 +31,8 @@ layout-count ws m e = go (crowded ws) (eqb (length ws) (blockWords (getD ws 0 0)
     go false true e = given-injective e
     go false false e = absurd (not-both e refl)
 
-module _ (lights : ℕ) (ws : List ℕ) (nodes table work : ℕ) (b : LightBVH) (accepted : buildLightBvh lights ws nodes table work ≡ given b) where
+module _ (lights : ℕ) (ws : List ℕ) (nodes table work : ℕ) (b : LightBVH)
+    (accepted : buildLightBvh lights ws nodes table work ≡ given b) where
   parts : Parts ws b
   parts = accepted-parts lights ws nodes table work b accepted
 
@@ -38,7 +40,8 @@ module _ (lights : ℕ) (ws : List ℕ) (nodes table work : ℕ) (b : LightBVH) 
   pub rows-are : b .rows ≡ lights
   unfolding buildLightBvh buildCheck
   rows-are =
-      let (m, check, e) = then-given (buildCheck lights ws nodes table work) (λ (m : ℕ). validated ws m then λ _. builtBvh ws m) b accepted in
+      let (m, check, e) = then-given (buildCheck lights ws nodes table work)
+      (λ (m : ℕ). validated ws m then λ _. builtBvh ws m) b accepted in
       let (l, layout, e₁) =
       then-given (blockLayout ws)
       (λ (m : ℕ). cond (eqb lights m) (given m) (refused 1) then λ (m : ℕ). blockHandles ws then λ (m : ℕ).
@@ -46,7 +49,8 @@ module _ (lights : ℕ) (ws : List ℕ) (nodes table work : ℕ) (b : LightBVH) 
       let (k, same, e₂) =
       then-given (cond (eqb lights l) (given l) (refused 1))
       (λ (m : ℕ). blockHandles ws then λ (m : ℕ). cond (isShort m nodes table work) (refused 3) (given m)) m e₁ in
-      sym (handles-count ws (b .rows) (parts .labelled)) ∙ layout-count ws l layout ∙ sym (go l k (eqb lights l) refl same)
+      sym (handles-count ws (b .rows) (parts .labelled)) ∙ layout-count ws l layout ∙ sym
+      (go l k (eqb lights l) refl same)
     where
       go : (l k : ℕ) (t : Bool) → eqb lights l ≡ t → cond t (given l) (refused 1) ≡ given k → lights ≡ l
       go l k true is e = eqb-true lights l is
@@ -67,7 +71,8 @@ pub record TreeOf (input : List ℕ) (b : LightBVH) : Type 0 where
 pub tree-of : (input : List ℕ) (b : LightBVH) → reportTree input ≡ given b → TreeOf input b
 unfolding reportTree treeOf
 tree-of input b is =
-    let (m, count, tree) = then-given (blockLamps input) (λ (m : ℕ). treeOf m (wordsOf (take (blockBytes m) input))) b is in
+    let (m, count, tree) = then-given (blockLamps input)
+    (λ (m : ℕ). treeOf m (wordsOf (take (blockBytes m) input))) b is in
     let (word, few, there) = lamps-there input m count in
     let ws = wordsOf (take (blockBytes m) input) in
     let rows = rows-are m ws _ _ _ b tree in

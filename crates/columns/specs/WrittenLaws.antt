@@ -1,4 +1,5 @@
--- What the program hands to its writes, of a front and of the chunks behind it, is the report of all that was read. Assumes nothing.
+-- What the program hands to its writes, of a front and of the chunks behind it, is the report of all that was
+-- read. Assumes nothing.
 use Prim.Native.Nat.{ℕ, _+_, _*_, _%_, _≤_}
 use mathlib.Core.Path.{_≡_, refl, sym, ap, subst, _∙_}
 use mathlib.Core.Bool.{Bool, true, false, cond}
@@ -13,8 +14,10 @@ use Rattle.words.specs.Answers.{Answer, given, refused}
 use Rattle.words.specs.LittleEndian.{wordsOf, bytesOf}
 use Rattle.light_bvh.specs.Build.{LightBVH, nodesWritten, tableWritten}
 use Rattle.columns.specs.Lines.{lineBytes, reportLines, groupLines, partLine}
-use Rattle.columns.specs.Report.{reportLamps, blockBytes, blockLamps, reportTree, headerBytes, behindHeader, report}
-use Rattle.columns.specs.Report.{frontBytes, firstLines, nodeBytes, tableBytes, chunkLines, allLines, behindFirst, written}
+use Rattle.columns.specs.Report.{reportLamps, blockBytes, blockLamps, reportTree}
+use Rattle.columns.specs.Report.{headerBytes, behindHeader, report}
+use Rattle.columns.specs.Report.{frontBytes, firstLines, nodeBytes, tableBytes}
+use Rattle.columns.specs.Report.{chunkLines, allLines, behindFirst, written}
 use Rattle.columns.specs.ReportLaws.{report-chunks, front-word, lamps-there, tree-front}
 use Rattle.columns.specs.TreeLaws.{TreeOf, tree-of}
 
@@ -30,7 +33,8 @@ WholeButLast (c ∷ d ∷ cs) = (length c % 28 ≡ 0) × WholeButLast (d ∷ cs)
 
 -- ---- chunks
 
-chunks-lines : (t : Answer LightBVH) (chunks : List (List ℕ)) → WholeButLast chunks → allLines t chunks ≡ chunkLines t (flatten chunks)
+chunks-lines : (t : Answer LightBVH) (chunks : List (List ℕ)) → WholeButLast chunks
+    → allLines t chunks ≡ chunkLines t (flatten chunks)
 unfolding flatten reportLines groupLines partLine
 chunks-lines t [] whole = refl
 chunks-lines t (c ∷ []) whole = append-nil (chunkLines t c) ∙ ap (chunkLines t) (sym (append-nil c))
@@ -62,7 +66,8 @@ module _ (front rest : List ℕ) (fronted : Fronted front rest) where
       whole all =
           let word : 4 ≤ length front = omega (arith, all, front-least front) in
           let cut = take-append-seam front rest in
-          let same : getD (wordsOf front) 0 0 ≡ getD (wordsOf (front ++ rest)) 0 0 = rw cut at (front-word (front ++ rest) (length front) word) in
+          let same : getD (wordsOf front) 0 0 ≡ getD (wordsOf (front ++ rest)) 0 0 = rw cut at
+          (front-word (front ++ rest) (length front) word) in
           sym (rw cut at (tree-front (front ++ rest) (length front) word (λ m is.
           let (zero, few, _) = lamps-there (front ++ rest) m is in
           omega (arith, all, front-few front m (same ∙ zero) few))))
@@ -81,6 +86,7 @@ report-written front chunks fronted whole = rw (tree-read front (flatten chunks)
     go : (t : Answer LightBVH) → reportTree front ≡ t
         → firstLines t ++ behindFirst t chunks ≡ headerBytes ++ behindHeader (front ++ flatten chunks) t
     go (given b) is =
-        let behind = drop-at front (flatten chunks) (blockBytes (b .rows)) (block-is front (flatten chunks) fronted b is) in
+        let behind = drop-at front (flatten chunks) (blockBytes (b .rows))
+        (block-is front (flatten chunks) fronted b is) in
         rw behind (ap (λ (l : List ℕ). headerBytes ++ l) (chunks-lines (given b) chunks whole))
     go (refused n) is = append-nil (headerBytes ++ lineBytes (refused n))

@@ -8,7 +8,8 @@ ghost use Rattle.ieee.specs.Single.{single};
 ghost use Rattle.words.specs.Answers.{given};
 ghost use Rattle.words.specs.LittleEndian.{wordsOf};
 ghost use Rattle.text.specs.Text.{Put};
-ghost use Rattle.columns.specs.Lines.{line, lineBytes, chanceBytes, groupQuery, groupShown, groupLine, reportLines};
+ghost use Rattle.columns.specs.Lines.{line, lineBytes, chanceBytes, groupQuery, groupShown};
+ghost use Rattle.columns.specs.Lines.{groupLine, reportLines};
 use light_bounds::importance::Query;
 use light_bounds::vecmath::Vec3;
 use light_sampler::pmf::Chance;
@@ -88,7 +89,8 @@ fn put_chance(out: &mut [u8], at: usize, x: f32) -> usize
 
 fn put_lamp(out: &mut [u8], at: usize, handle: u32, drawn: f32, named: f32) -> usize
     requires { ⌜ at + 29 ≤ length (now out) ⌝ }
-    ensures { λ r. ⌜ Put (now (out .entry)) at (lineBytes (given (some (handle, (drawn, named))))) (now (out .exit)) r ⌝ }
+    ensures { λ r. ⌜ Put (now (out .entry)) at (lineBytes (given (some (handle, (drawn, named)))))
+        (now (out .exit)) r ⌝ }
     ensures { λ r. ⌜ r ≤ at + 29 ⌝ }
 {
     let drawn_at = at + put_decimal(out, at, handle);
@@ -117,7 +119,8 @@ pub(crate) fn put_line(out: &mut [u8], at: usize, shown: Line) -> usize
 // Writes the line of a group; the place behind it.
 fn put_group(nodes: &[u8], table: &[u8], group: &[u8], out: &mut [u8], at: usize) -> usize
     requires { ⌜ at + 29 ≤ length (now out) ⌝ }
-    ensures { λ r. ⌜ Put (now (out .entry)) at (groupLine (now (nodes .entry)) (now (table .entry)) (now (group .entry))) (now (out .exit)) r ⌝ }
+    ensures { λ r. ⌜ Put (now (out .entry)) at
+        (groupLine (now (nodes .entry)) (now (table .entry)) (now (group .entry))) (now (out .exit)) r ⌝ }
     ensures { λ r. ⌜ r ≤ at + 29 ⌝ }
 {
     put_line(out, at, draw_group(nodes, table, group))
@@ -126,7 +129,8 @@ fn put_group(nodes: &[u8], table: &[u8], group: &[u8], out: &mut [u8], at: usize
 // Writes the lines of groups, and of a part group behind them; how many bytes these are.
 pub(crate) fn put_lines(nodes: &[u8], table: &[u8], groups: &[u8], out: &mut [u8]) -> usize
     requires { ⌜ 29 * (length (now groups) / 28) + 29 ≤ length (now out) ⌝ }
-    ensures { λ _. ⌜ now (out .exit) ≡ sets (now (out .entry)) 0 (reportLines (now (nodes .entry)) (now (table .entry)) (now (groups .entry))) ⌝ }
+    ensures { λ _. ⌜ now (out .exit)
+        ≡ sets (now (out .entry)) 0 (reportLines (now (nodes .entry)) (now (table .entry)) (now (groups .entry))) ⌝ }
     ensures { λ r. ⌜ r ≡ length (reportLines (now (nodes .entry)) (now (table .entry)) (now (groups .entry))) ⌝ }
     ensures { λ r. ⌜ r ≤ length (now (out .entry)) ⌝ }
 {

@@ -1,6 +1,6 @@
-// The light report of document 01 (specs/Report.antt): a bounds block of at most 512 lamps and seven-word groups p, n, u on standard input,
-// little-endian; the report on standard output. Its lines are in lines.rt. The input is read as a stream, a chunk of groups at a time, so a
-// longer report takes no more memory.
+// The light report of document 01 (specs/Report.antt): a bounds block of at most 512 lamps and seven-word groups
+// p, n, u on standard input, little-endian; the report on standard output. Its lines are in lines.rt. The input is
+// read as a stream, a chunk of groups at a time, so a longer report takes no more memory.
 mod lines;
 
 ghost use mathlib.Core.Path.{_≡_};
@@ -44,7 +44,7 @@ fn front_bytes(head: &[u8]) -> usize
     ensures { λ r. ⌜ (4 ≤ r) × (r ≤ 28676) ⌝ }
 {
     let lamps = wide(word_at(head, 0));
-    if REPORT_LAMPS < lamps {
+    if lamps > REPORT_LAMPS {
         return 4;
     }
     4 * (1 + EXHAUSTIVE_BOUNDS_WORDS * lamps)
@@ -85,10 +85,10 @@ fn build_tree(
 ) -> Counted
     requires { ⌜ (length (now nodes) ≡ 16368) × (length (now table) ≡ 512) × (length (now work) ≡ 1024) ⌝ }
     ensures { λ r. ⌜ counted r ≡ powered (summary (treeOf lamps (now (block .entry)))) ⌝ }
-    ensures { λ _. ⌜ now (nodes .exit) ≡ tray nodesWritten (nodesReserve (getD (now (block .entry)) 0 0)) (treeOf lamps (now (block .entry)))
-        (now (nodes .entry)) ⌝ }
-    ensures { λ _. ⌜ now (table .exit) ≡ tray tableWritten (getD (now (block .entry)) 0 0) (treeOf lamps (now (block .entry)))
-        (now (table .entry)) ⌝ }
+    ensures { λ _. ⌜ now (nodes .exit) ≡ tray nodesWritten (nodesReserve (getD (now (block .entry)) 0 0))
+        (treeOf lamps (now (block .entry))) (now (nodes .entry)) ⌝ }
+    ensures { λ _. ⌜ now (table .exit) ≡ tray tableWritten (getD (now (block .entry)) 0 0)
+        (treeOf lamps (now (block .entry))) (now (table .entry)) ⌝ }
 {
     match build_light_bvh(lamps, block, nodes, table, work) {
         Built::Tree(k, _) => Counted::Count(k),
@@ -108,10 +108,13 @@ fn make_tree(
 ) -> Counted
     requires { ⌜ (lamps ≤ 512) × (blockBytes lamps ≤ length (now input)) × (7169 ≤ length (now block)) ⌝ }
     requires { ⌜ (length (now nodes) ≡ 16368) × (length (now table) ≡ 512) × (length (now work) ≡ 1024) ⌝ }
-    ensures { λ r. ⌜ counted r ≡ powered (summary (treeOf lamps (wordsOf (take (blockBytes lamps) (now (input .entry)))))) ⌝ }
-    ensures { λ _. ⌜ now (nodes .exit) ≡ tray nodesWritten (nodesReserve (getD (wordsOf (take (blockBytes lamps) (now (input .entry)))) 0 0))
+    ensures { λ r. ⌜ counted r
+        ≡ powered (summary (treeOf lamps (wordsOf (take (blockBytes lamps) (now (input .entry)))))) ⌝ }
+    ensures { λ _. ⌜ now (nodes .exit)
+        ≡ tray nodesWritten (nodesReserve (getD (wordsOf (take (blockBytes lamps) (now (input .entry)))) 0 0))
         (treeOf lamps (wordsOf (take (blockBytes lamps) (now (input .entry))))) (now (nodes .entry)) ⌝ }
-    ensures { λ _. ⌜ now (table .exit) ≡ tray tableWritten (getD (wordsOf (take (blockBytes lamps) (now (input .entry)))) 0 0)
+    ensures { λ _. ⌜ now (table .exit)
+        ≡ tray tableWritten (getD (wordsOf (take (blockBytes lamps) (now (input .entry)))) 0 0)
         (treeOf lamps (wordsOf (take (blockBytes lamps) (now (input .entry))))) (now (table .entry)) ⌝ }
 {
     let words = 1 + EXHAUSTIVE_BOUNDS_WORDS * lamps;
@@ -128,7 +131,8 @@ fn take_tree(
     table: &mut [u32],
     work: &mut [u32],
 ) -> Taken
-    requires { ⌜ (7169 ≤ length (now block)) × (length (now nodes) ≡ 16368) × (length (now table) ≡ 512) × (length (now work) ≡ 1024) ⌝ }
+    requires { ⌜ (7169 ≤ length (now block)) × (length (now nodes) ≡ 16368) × (length (now table) ≡ 512)
+        × (length (now work) ≡ 1024) ⌝ }
     ensures { λ r. ⌜ taken r ≡ sizes (reportTree (now (input .entry))) ⌝ }
     ensures { λ _. ⌜ now (nodes .exit) ≡ tray nodesWritten (nodesReserve (getD (wordsOf (now (input .entry))) 0 0))
         (reportTree (now (input .entry))) (now (nodes .entry)) ⌝ }
@@ -154,8 +158,8 @@ fn node_words(k: usize) -> usize
 
 // ---- the first lines
 
-// What stands ready when the block is read: how many bytes the first lines, the nodes and the table have; or, of a bad block, the first lines
-// alone, and that is all of the report.
+// What stands ready when the block is read: how many bytes the first lines, the nodes and the table have; or, of
+// a bad block, the first lines alone, and that is all of the report.
 enum Opened {
     Groups(usize, usize, usize),
     Ended(usize),
@@ -172,11 +176,14 @@ fn open_report(
     table_bytes: &mut [u8],
     out: &mut [u8],
 ) -> Opened
-    requires { ⌜ (7169 ≤ length (now block)) × (length (now nodes) ≡ 16368) × (length (now table) ≡ 512) × (length (now work) ≡ 1024) ⌝ }
+    requires { ⌜ (7169 ≤ length (now block)) × (length (now nodes) ≡ 16368) × (length (now table) ≡ 512)
+        × (length (now work) ≡ 1024) ⌝ }
     requires { ⌜ (length (now «node_bytes») ≡ 65472) × (length (now «table_bytes») ≡ 2048) × (36 ≤ length (now out)) ⌝ }
     ensures { λ r. ⌜ r ≡ openedOf (reportTree (now (front .entry))) ⌝ }
-    ensures { λ _. ⌜ now («node_bytes» .exit) ≡ sets (now («node_bytes» .entry)) 0 (nodeBytes (reportTree (now (front .entry)))) ⌝ }
-    ensures { λ _. ⌜ now («table_bytes» .exit) ≡ sets (now («table_bytes» .entry)) 0 (tableBytes (reportTree (now (front .entry)))) ⌝ }
+    ensures { λ _. ⌜ now («node_bytes» .exit)
+        ≡ sets (now («node_bytes» .entry)) 0 (nodeBytes (reportTree (now (front .entry)))) ⌝ }
+    ensures { λ _. ⌜ now («table_bytes» .exit)
+        ≡ sets (now («table_bytes» .entry)) 0 (tableBytes (reportTree (now (front .entry)))) ⌝ }
     ensures { λ _. ⌜ now (out .exit) ≡ sets (now (out .entry)) 0 (firstLines (reportTree (now (front .entry)))) ⌝ }
 {
     let header = put_text(out, 0, b"lamp drawn named\n");
@@ -231,7 +238,8 @@ fn write_lines(front: &[u8], groups: &[u8], text: &[u8]) -> bool
 
 // Reads a chunk of groups and writes its lines; whether there may be more.
 fn write_chunk(front: &[u8], nodes: &[u8], table: &[u8], chunk: &mut [u8], out: &mut [u8]) -> bool
-    requires { ⌜ (now nodes ≡ nodeBytes (reportTree (now front))) × (now table ≡ tableBytes (reportTree (now front))) ⌝ }
+    requires { ⌜ (now nodes ≡ nodeBytes (reportTree (now front)))
+        × (now table ≡ tableBytes (reportTree (now front))) ⌝ }
     requires { ⌜ 29 * (length (now chunk) / 28) + 29 ≤ length (now out) ⌝ }
 {
     let n = io::read_full(0, chunk);
@@ -241,7 +249,8 @@ fn write_chunk(front: &[u8], nodes: &[u8], table: &[u8], chunk: &mut [u8], out: 
 
 // A proved loop has to end, and nothing says that the input does: it counts down from a number that no run uses up.
 fn write_groups(front: &[u8], nodes: &[u8], table: &[u8], chunk: &mut [u8], out: &mut [u8])
-    requires { ⌜ (now nodes ≡ nodeBytes (reportTree (now front))) × (now table ≡ tableBytes (reportTree (now front))) ⌝ }
+    requires { ⌜ (now nodes ≡ nodeBytes (reportTree (now front)))
+        × (now table ≡ tableBytes (reportTree (now front))) ⌝ }
     requires { ⌜ 29 * (length (now chunk) / 28) + 29 ≤ length (now out) ⌝ }
 {
     let mut turns = u64::MAX;
@@ -264,7 +273,8 @@ fn write_report(
     chunk: &mut [u8],
     out: &mut [u8],
 )
-    requires { ⌜ (7169 ≤ length (now block)) × (length (now nodes) ≡ 16368) × (length (now table) ≡ 512) × (length (now work) ≡ 1024) ⌝ }
+    requires { ⌜ (7169 ≤ length (now block)) × (length (now nodes) ≡ 16368) × (length (now table) ≡ 512)
+        × (length (now work) ≡ 1024) ⌝ }
     requires { ⌜ (length (now «node_bytes») ≡ 65472) × (length (now «table_bytes») ≡ 2048) ⌝ }
     requires { ⌜ (36 ≤ length (now out)) × (29 * (length (now chunk) / 28) + 29 ≤ length (now out)) ⌝ }
 {
@@ -307,7 +317,8 @@ fn report(
     out: &mut [u8],
 )
     requires { ⌜ 28676 ≤ length (now front) ⌝ }
-    requires { ⌜ (7169 ≤ length (now block)) × (length (now nodes) ≡ 16368) × (length (now table) ≡ 512) × (length (now work) ≡ 1024) ⌝ }
+    requires { ⌜ (7169 ≤ length (now block)) × (length (now nodes) ≡ 16368) × (length (now table) ≡ 512)
+        × (length (now work) ≡ 1024) ⌝ }
     requires { ⌜ (length (now «node_bytes») ≡ 65472) × (length (now «table_bytes») ≡ 2048) ⌝ }
     requires { ⌜ (36 ≤ length (now out)) × (29 * (length (now chunk) / 28) + 29 ≤ length (now out)) ⌝ }
 {

@@ -32,7 +32,8 @@ unfolding answerBytes
 block-room list room = go (buildLightBounds list room) refl
   where
     go : (x : Answer (List LightBounds)) → buildLightBounds list room ≡ x → length (answerBytes x) ≤ 4 * blockRoom
-    go (given bs) is = rw (length-bytesOf (packExhaustiveBounds bs), length-block bs) (omega (arith, built-few list room bs is))
+    go (given bs) is =
+        rw (length-bytesOf (packExhaustiveBounds bs), length-block bs) (omega (arith, built-few list room bs is))
     go (refused n) is = refusal-room n
 
 pub converted-room : (list : List ℕ) (stray : ℕ) → length (converted list stray) ≤ 4 * blockRoom
@@ -57,9 +58,11 @@ module _ (list : List ℕ) (room : ℕ) (sized : room ≡ blockRoom) where
       let (bs, accepted, long) = count-given (buildLightBounds list room) m (sym counted) in
       let words : length (packExhaustiveBounds bs) ≡ blockWords m = length-block bs ∙ rw long in (
         omega (arith, built-few list room bs accepted, long),
-        rw (is, ← sized, accepted) (ap bytesOf (tray-front packExhaustiveBounds (blockWords (getD list 0 0)) (blockWords m) bs before words)),
+        rw (is, ← sized, accepted) (ap bytesOf
+            (tray-front packExhaustiveBounds (blockWords (getD list 0 0)) (blockWords m) bs before words)),
       )
 
-  pub block-refused : (n : ℕ) → refused n ≡ count (buildLightBounds list room) → refusalLine n ≡ answerBytes (buildLightBounds list blockRoom)
+  pub block-refused : (n : ℕ) → refused n ≡ count (buildLightBounds list room)
+      → refusalLine n ≡ answerBytes (buildLightBounds list blockRoom)
   unfolding answerBytes
   block-refused n e = rw (← sized, count-refused (buildLightBounds list room) n (sym e))

@@ -1,5 +1,5 @@
--- Document 01's lamp list to its bounds block, as bytes: `lampsToBlock` says what the program writes for what it reads, little-endian words
--- in and out, or a refusal's line. Definitions only. Assumes nothing.
+-- Document 01's lamp list to its bounds block, as bytes: `lampsToBlock` says what the program writes for what
+-- it reads, little-endian words in and out, or a refusal's line. Definitions only. Assumes nothing.
 use Prim.Native.Nat.{ℕ, _%_}
 use mathlib.Core.Bool.{cond}
 use mathlib.Core.List.{List}
@@ -17,7 +17,8 @@ use Rattle.text.specs.Text.{refusalLine}
 abbrev pub blockRoom : ℕ
 blockRoom = blockWords maxLamps
 
--- The list of these words, and as many stray bytes behind the last: over the limits is 2, stray bytes are 1, the rest is the list's own.
+-- The list of these words, and as many stray bytes behind the last: over the limits is 2, stray bytes are 1,
+-- the rest is the list's own.
 unfoldable pub answered : List ℕ → ℕ → Answer (List LightBounds)
 answered list stray =
     cond (crowded list) (refused 2) (cond (eqb stray 0) (buildLightBounds list blockRoom) (refused 1))

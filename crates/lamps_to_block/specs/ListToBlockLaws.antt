@@ -23,11 +23,13 @@ too-long list stray long = simp (lt-ltb maxWords (length list) long, or-true (lt
     or-true true = refl
     or-true false = refl
 
-pub list-front : (input : List ℕ) (k : ℕ) → maxWords < k → k ≤ length (wordsOf input) → lampsToBlock (take (4 * k) input) ≡ lampsToBlock input
+pub list-front : (input : List ℕ) (k : ℕ) → maxWords < k → k ≤ length (wordsOf input)
+    → lampsToBlock (take (4 * k) input) ≡ lampsToBlock input
 unfolding lampsToBlock
 list-front input k long there =
     let words = length-wordsOf input in
     let cut = length-take-le (4 * k) input (omega (arith, words, there)) in
-    let few : maxWords < length (wordsOf (take (4 * k) input)) = rw (length-wordsOf (take (4 * k) input), cut) (omega (arith, long)) in
+    let few : maxWords < length (wordsOf (take (4 * k) input)) = rw (length-wordsOf (take (4 * k) input), cut)
+    (omega (arith, long)) in
     too-long (wordsOf (take (4 * k) input)) (length (take (4 * k) input) % 4) few
     ∙ sym (too-long (wordsOf input) (length input % 4) (omega (arith, long, there)))

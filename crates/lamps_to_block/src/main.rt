@@ -1,5 +1,6 @@
-// A lamp list on standard input, its bounds block on standard output (specs/ListToBlock.antt): little-endian words in, little-endian words
-// out; or `refused N` and a line's end. Bytes that are no whole word make the list ragged (1), unless it is over the limits (2).
+// A lamp list on standard input, its bounds block on standard output (specs/ListToBlock.antt): little-endian words
+// in, little-endian words out; or `refused N` and a line's end. Bytes that are no whole word make the list ragged
+// (1), unless it is over the limits (2).
 ghost use mathlib.Core.Path.{_≡_};
 ghost use Prim.Native.Nat.{_≤_};
 ghost use lib.ListN.{length};
@@ -20,7 +21,8 @@ use words::refusals::Refusal;
 // Those of a list of whole words within the limits, at the front of `out`; how many.
 fn convert(list: &[u32], block: &mut [u32], out: &mut [u8]) -> usize
     requires { ⌜ (length (now block) ≡ 57345) × (length (now out) ≡ 229380) ⌝ }
-    ensures { λ _. ⌜ now (out .exit) ≡ sets (now (out .entry)) 0 (answerBytes (buildLightBounds (now (list .entry)) blockRoom)) ⌝ }
+    ensures { λ _. ⌜ now (out .exit)
+        ≡ sets (now (out .entry)) 0 (answerBytes (buildLightBounds (now (list .entry)) blockRoom)) ⌝ }
     ensures { λ r. ⌜ r ≡ length (answerBytes (buildLightBounds (now (list .entry)) blockRoom)) ⌝ }
 {
     match build_light_bounds(list, block) {
@@ -56,7 +58,8 @@ struct Input {
     stray: usize,
 }
 
-// Reads standard input, a chunk at a time, until it ends or the list has no room for another chunk: then it is over 2^20 words.
+// Reads standard input, a chunk at a time, until it ends or the list has no room for another chunk: then it is
+// over 2^20 words, and what was read tells as much as all of it (specs/ListToBlockLaws.antt).
 fn read_list(list: &mut [u32], chunk: &mut [u8]) -> Input
     requires { ⌜ 4 ≤ length (now chunk) ⌝ }
     ensures { λ r. ⌜ r .words ≤ length (now (list .entry)) ⌝ }
@@ -78,8 +81,8 @@ fn read_list(list: &mut [u32], chunk: &mut [u8]) -> Input
     Input { words, stray }
 }
 
-// Hands the answer to standard output; the list and the stray bytes are there to say whose it is. A program has no exit status here, so one
-// that cannot write says so.
+// Hands the answer to standard output; the list and the stray bytes are there to say whose it is. A program has
+// no exit status here, so one that cannot write says so.
 fn write(list: &[u32], stray: usize, text: &[u8])
     requires { ⌜ now text ≡ converted (now list) stray ⌝ }
 {

@@ -1,5 +1,5 @@
--- Writing text into a slice: digits from the last to the first, bytes from the first to the last, one text behind another, and all or
--- none of a text. Assumes nothing.
+-- Writing text into a slice: digits from the last to the first, bytes from the first to the last, one text
+-- behind another, and all or none of a text. Assumes nothing.
 use Prim.Native.Nat.{ℕ, zero, suc, _+_, _-_, _*_, _/_, _%_, _≤_, _<_}
 use mathlib.Core.Path.{_≡_, refl, sym, ap, _∙_}
 use mathlib.Core.Bool.{Bool, true, false, cond}
@@ -23,13 +23,15 @@ use Rattle.text.specs.TextLaws.{places-few}
 
 pub length-digits : (b k n : ℕ) → length (digits b k n) ≡ k
 length-digits b zero n = refl
-length-digits b (suc k) n = length-append (digits b k (n / b)) (glyph (n % b) ∷ []) ∙ rw (length-digits b k (n / b)) (omega arith)
+length-digits b (suc k) n = length-append (digits b k (n / b)) (glyph (n % b) ∷ []) ∙ rw (length-digits b k (n / b))
+    (omega arith)
 
 -- a store before a run of stores
 set-before : (l vs : List ℕ) (j i a : ℕ) → j < i → set (sets l i vs) j a ≡ sets (set l j a) i vs
 set-before l [] j i a h = refl
 set-before l (v ∷ vs) j i a h =
-    set-before (set l i v) vs j (suc i) a (omega arith) ∙ ap (λ (s : List ℕ). sets s (suc i) vs) (set-comm l i j v a (λ e. omega (arith, h, e)))
+    set-before (set l i v) vs j (suc i) a (omega arith) ∙ ap (λ (s : List ℕ). sets s (suc i) vs)
+    (set-comm l i j v a (λ e. omega (arith, h, e)))
 
 -- ---- digits
 
@@ -44,7 +46,8 @@ pub record Spelled (before : List ℕ) (at b k n : ℕ) (out : List ℕ) (i rest
   pub whole : digits b i rest ++ tail ≡ digits b k n
   pub is : out ≡ sets before (at + i) tail
 
-pub spelled-none : {before : List ℕ} {at b k n : ℕ} → (0 < b) × (b ≤ 16) × (at + k ≤ length before) → Spelled before at b k n before k n
+pub spelled-none : {before : List ℕ} {at b k n : ℕ} → (0 < b) × (b ≤ 16) × (at + k ≤ length before)
+    → Spelled before at b k n before k n
 spelled-none {b} {k} {n} (based, few, room) =
     record {
       based = based;
@@ -79,7 +82,8 @@ spelled-next {i} h s = spelled-digit (i - 1) (omega (arith, h)) s
 pub spelled-digit-few : {before out : List ℕ} {at b k n i rest : ℕ} → Spelled before at b k n out i rest → rest % b < 16
 spelled-digit-few {rest} s = lt-of-lt-of-le (mod-lt rest (s .based)) (s .few)
 
-pub spelled-all : {before out : List ℕ} {at b k n i rest : ℕ} → i ≡ 0 → Spelled before at b k n out i rest → out ≡ sets before at (digits b k n)
+pub spelled-all : {before out : List ℕ} {at b k n i rest : ℕ} → i ≡ 0 → Spelled before at b k n out i rest
+    → out ≡ sets before at (digits b k n)
 spelled-all {before} {at} {b} {k} {n} {i} {rest} e s =
     let here : at + 0 ≡ at = omega arith in
     s .is ∙ rw (e, here, ← s .whole, e)
@@ -104,10 +108,18 @@ texted-next {before} {text} {out} {at} {i} h t =
       room = t .room;
       within = omega (arith, h);
       same = length-set out (at + i) (getD text i 0) ∙ t .same;
-      is = rw (up, take-suc text i 0 h, sets-append before at (take i text) (getD text i 0 ∷ []), length-take-le i text (t .within), t .is);
+      is = rw (
+        up,
+        take-suc text i 0 h,
+        sets-append before at (take i text)
+            (getD text i 0 ∷ []),
+        length-take-le i text (t .within),
+        t .is,
+      );
     }
 
-pub texted-all : {before text out : List ℕ} {at i : ℕ} → length text ≤ i → Texted before at text out i → out ≡ sets before at text
+pub texted-all : {before text out : List ℕ} {at i : ℕ} → length text ≤ i → Texted before at text out i
+    → out ≡ sets before at text
 texted-all {before} {text} {out} {at} {i} h t =
     let e : i ≡ length text = omega (arith, h, t .within) in
     t .is ∙ rw (e, take-length text)
@@ -135,7 +147,8 @@ places-one (suc more) rest h = simp (lt-ltb rest 10 h)
 pub counted-next : {n k rest : ℕ} → k < 10 → 10 ≤ rest → Counted n k rest → Counted n (k + 1) (rest / 10)
 counted-next {n} {k} {rest} h g c =
     let fewer : 10 - k ≡ suc (10 - (k + 1)) = omega (arith, h) in
-    let step : placesIn (10 - k) rest ≡ 1 + placesIn (10 - (k + 1)) (rest / 10) = rw fewer (places-next (10 - (k + 1)) rest g) in
+    let step : placesIn (10 - k) rest ≡ 1 + placesIn (10 - (k + 1)) (rest / 10) = rw fewer
+    (places-next (10 - (k + 1)) rest g) in
     record { some = omega arith; few = omega (arith, h); whole = omega (arith, step, c .whole) }
 
 pub counted-all : {n k rest : ℕ} → Counted n k rest → placesIn (10 - k) rest ≡ 1 → k ≡ placesIn 9 n
@@ -164,11 +177,13 @@ pub put-one : (before : List ℕ) (at a : ℕ) → Put before at (a ∷ []) (set
 put-one before at a = record { is = refl; past = refl }
 
 -- the front part of a slice at whose front text was put, as long as the text
-pub handed : (before text : List ℕ) {after : List ℕ} (n : ℕ) → length text ≤ length before → after ≡ sets before 0 text → n ≡ length text
+pub handed : (before text : List ℕ) {after : List ℕ} (n : ℕ) → length text ≤ length before
+    → after ≡ sets before 0 text → n ≡ length text
     → take (n - 0) after ≡ text
 handed before text {after} n room is long =
     let m : n - 0 ≡ length text = omega (arith, long) in
-    rw (is, sets-eq text before 0 (omega (arith, room)), m) (take-at text (drop (0 + length text) before) (length text) refl)
+    rw (is, sets-eq text before 0 (omega (arith, room)), m)
+    (take-at text (drop (0 + length text) before) (length text) refl)
 
 -- ---- lengths
 
@@ -224,7 +239,8 @@ module _ (before : List ℕ) (at : ℕ) (text : List ℕ) where
 
 -- where there is room, what was written stands there
 pub put-fits : {before text after : List ℕ} {at count : ℕ} → at + length text ≤ length before
-    → after ≡ sets before at (fitting before at text) → count ≡ length (fitting before at text) → Put before at text after (at + count)
+    → after ≡ sets before at (fitting before at text) → count ≡ length (fitting before at text)
+    → Put before at text after (at + count)
 put-fits {before} {text} {after} {at} {count} room is long =
     let all = fitting-all before at text room in
     record { is = rw all at is; past = rw (long, all) }
@@ -239,7 +255,8 @@ tray-front written reserve n a before e =
     ap (take n) (append-assoc (written a) _ (drop reserve before)) ∙ take-at (written a) _ n e
 
 module _ (words before : List ℕ) where
-  pub words-room : {n : ℕ} → given n ≡ writtenWords words (length before) → (n ≡ length words) × (4 * length words ≤ length before)
+  pub words-room : {n : ℕ} → given n ≡ writtenWords words (length before) → (n ≡ length words)
+      × (4 * length words ≤ length before)
   unfolding writtenWords
   words-room {n} e = go (leb (4 * length words) (length before)) refl e
     where
@@ -252,7 +269,8 @@ module _ (words before : List ℕ) where
   unfolding writtenWords
   words-short {m} e = go (leb (4 * length words) (length before)) refl e
     where
-      go : (b : Bool) → leb (4 * length words) (length before) ≡ b → refused m ≡ cond b (given (length words)) (refused 3)
+      go : (b : Bool) → leb (4 * length words) (length before) ≡ b
+          → refused m ≡ cond b (given (length words)) (refused 3)
           → (m ≡ 3) × (length before < 4 * length words)
       go true is e = absurd (not-both e refl)
       go false is e = (refused-injective {A = ℕ} e, leb-false (4 * length words) (length before) is)
@@ -260,7 +278,8 @@ module _ (words before : List ℕ) where
   abbrev left : Answer ℕ → List ℕ
   left answer = tray (λ (n : ℕ). bytesOf words) (4 * length words) answer before
 
-  pub words-put : {n : ℕ} {after : List ℕ} → given n ≡ writtenWords words (length before) → after ≡ left (writtenWords words (length before))
+  pub words-put : {n : ℕ} {after : List ℕ} → given n ≡ writtenWords words (length before)
+      → after ≡ left (writtenWords words (length before))
       → (after ≡ sets before 0 (fitting before 0 (bytesOf words))) × (4 * n ≡ length (fitting before 0 (bytesOf words)))
   words-put {n} {after} e is =
       let (same, room) = words-room e in
@@ -272,7 +291,8 @@ module _ (words before : List ℕ) where
       rw (fitting-all before 0 (bytesOf words) fits)
       (rw (← e) at is ∙ full ∙ sym (rw end at put), rw (long, same))
 
-  pub words-left : {m : ℕ} {after : List ℕ} → refused m ≡ writtenWords words (length before) → after ≡ left (writtenWords words (length before))
+  pub words-left : {m : ℕ} {after : List ℕ} → refused m ≡ writtenWords words (length before)
+      → after ≡ left (writtenWords words (length before))
       → (after ≡ sets before 0 (fitting before 0 (bytesOf words))) × (0 ≡ length (fitting before 0 (bytesOf words)))
   words-left {m} {after} e is =
       let (three, short) = words-short e in

@@ -1,5 +1,5 @@
--- What the programs write, in ASCII: a word in decimal, without leading zeros, and in eight hexadecimal digits; and a refusal, which has a
--- line of its own. Definitions only. Assumes nothing.
+-- What the programs write, in ASCII: a word in decimal, without leading zeros, and in eight hexadecimal digits;
+-- and a refusal, which has a line of its own. Definitions only. Assumes nothing.
 use Prim.Native.Nat.{ℕ, zero, suc, _+_, _/_}
 use mathlib.Core.Path.{_≡_}
 use mathlib.Core.Bool.{cond}

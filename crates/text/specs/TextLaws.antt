@@ -1,5 +1,4 @@
--- What the definitions of Text come to: a word is written in as few digits as hold it, and a refusal in a line of eleven bytes at most.
--- Assumes nothing.
+-- What the definitions of Text come to: a word is written in as few digits as hold it. Assumes nothing.
 use Prim.Native.Nat.{ℕ, zero, suc, _+_, _-_, _/_, _^_, _≤_, _<_}
 use mathlib.Core.Path.{_≡_, refl}
 use mathlib.Core.Bool.{Bool, true, false, cond}
@@ -19,15 +18,21 @@ more-digits n (suc (suc q)) h few =
     let next : 1 + suc (suc q) ≡ suc (suc (suc q)) = omega arith in
     let here : 1 + suc (suc q) - 1 ≡ suc (suc q) = omega arith in
     let last : suc (suc q) - 1 ≡ suc q = omega arith in
-    let below : 10 ^ suc q ≤ n / 10 = rw last at (few .2 (omega arith)) in
-    (omega arith, rw (next, pow-succ' 10 (suc (suc q))) (omega (arith, few .1)), λ _. rw (here, pow-succ' 10 (suc q)) (omega (arith, below)))
+    let below : 10 ^ suc q ≤ n / 10 = rw last at (few .2 (omega arith)) in (
+      omega arith,
+      rw (next, pow-succ' 10 (suc (suc q))) (omega (arith, few .1)),
+      λ _. rw (here, pow-succ' 10 (suc q))
+          (omega (arith, below)),
+    )
 
 placesIn-fewest : (more n : ℕ) → n < 10 ^ suc more → Fewest 10 1 n (placesIn more n)
 unfolding placesIn
 placesIn-fewest zero n h = (omega arith, h, λ (l : 1 < 1). omega (arith, l))
-placesIn-fewest (suc more) n h = go (ltb n 10) refl (placesIn-fewest more (n / 10) (omega (arith, h, pow-succ' 10 (suc more))))
+placesIn-fewest (suc more) n h = go (ltb n 10) refl
+    (placesIn-fewest more (n / 10) (omega (arith, h, pow-succ' 10 (suc more))))
   where
-    go : (b : Bool) → ltb n 10 ≡ b → Fewest 10 1 (n / 10) (placesIn more (n / 10)) → Fewest 10 1 n (cond b 1 (1 + placesIn more (n / 10)))
+    go : (b : Bool) → ltb n 10 ≡ b → Fewest 10 1 (n / 10) (placesIn more (n / 10))
+        → Fewest 10 1 n (cond b 1 (1 + placesIn more (n / 10)))
     go true is few = (omega arith, ltb-true n 10 is, λ (l : 1 < 1). omega (arith, l))
     go false is few = more-digits n (placesIn more (n / 10)) (ltb-false n 10 is) few
 

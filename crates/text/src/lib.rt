@@ -1,6 +1,6 @@
-// What the programs write, laid into a lent slice (specs/Text.antt): text, a word in decimal or in hexadecimal digits, a refusal's line,
-// words as bytes. Each function writes all of its bytes and answers how many they are; where the slice has no room for all, it writes none
-// and answers 0.
+// What the programs write, laid into a lent slice (specs/Text.antt): text, a word in decimal or in hexadecimal
+// digits, a refusal's line, words as bytes. Each function writes all of its bytes and answers how many they are;
+// where the slice has no room for all, it writes none and answers 0.
 ghost use mathlib.Core.Path.{_≡_};
 ghost use Prim.Native.Nat.{_+_, _≤_, _<_};
 ghost use lib.ListN.{length};
@@ -78,7 +78,8 @@ fn lay_refused(out: &mut [u8], at: usize, k: usize, n: u32)
 // ---- at a place
 
 pub fn put_text(out: &mut [u8], at: usize, text: &[u8]) -> usize
-    ensures { λ _. ⌜ now (out .exit) ≡ sets (now (out .entry)) at (fitting (now (out .entry)) at (now (text .entry))) ⌝ }
+    ensures { λ _. ⌜ now (out .exit)
+        ≡ sets (now (out .entry)) at (fitting (now (out .entry)) at (now (text .entry))) ⌝ }
     ensures { λ r. ⌜ r ≡ length (fitting (now (out .entry)) at (now (text .entry))) ⌝ }
 {
     let count = text.len();
@@ -91,7 +92,8 @@ pub fn put_text(out: &mut [u8], at: usize, text: &[u8]) -> usize
 
 // A word in decimal, without leading zeros.
 pub fn put_decimal(out: &mut [u8], at: usize, n: u32) -> usize
-    ensures { λ _. ⌜ now (out .exit) ≡ sets (now (out .entry)) at (fitting (now (out .entry)) at (decimalBytes n)) ⌝ }
+    ensures { λ _. ⌜ now (out .exit)
+        ≡ sets (now (out .entry)) at (fitting (now (out .entry)) at (decimalBytes n)) ⌝ }
     ensures { λ r. ⌜ r ≡ length (fitting (now (out .entry)) at (decimalBytes n)) ⌝ }
 {
     let count = places(n);
@@ -104,7 +106,8 @@ pub fn put_decimal(out: &mut [u8], at: usize, n: u32) -> usize
 
 // A word's eight hexadecimal digits.
 pub fn put_hex(out: &mut [u8], at: usize, n: u32) -> usize
-    ensures { λ _. ⌜ now (out .exit) ≡ sets (now (out .entry)) at (fitting (now (out .entry)) at (hexBytes n)) ⌝ }
+    ensures { λ _. ⌜ now (out .exit)
+        ≡ sets (now (out .entry)) at (fitting (now (out .entry)) at (hexBytes n)) ⌝ }
     ensures { λ r. ⌜ r ≡ length (fitting (now (out .entry)) at (hexBytes n)) ⌝ }
 {
     if fits(out.len(), at, 8) {
@@ -116,7 +119,8 @@ pub fn put_hex(out: &mut [u8], at: usize, n: u32) -> usize
 
 // A refusal's line.
 pub fn put_refused(out: &mut [u8], at: usize, why: Refusal) -> usize
-    ensures { λ _. ⌜ now (out .exit) ≡ sets (now (out .entry)) at (fitting (now (out .entry)) at (refusalLine (number why))) ⌝ }
+    ensures { λ _. ⌜ now (out .exit)
+        ≡ sets (now (out .entry)) at (fitting (now (out .entry)) at (refusalLine (number why))) ⌝ }
     ensures { λ r. ⌜ r ≡ length (fitting (now (out .entry)) at (refusalLine (number why))) ⌝ }
 {
     let n = refusal_number(why);
@@ -133,7 +137,8 @@ pub fn put_refused(out: &mut [u8], at: usize, why: Refusal) -> usize
 
 // Words as little-endian bytes.
 pub fn put_words(out: &mut [u8], words: &[u32]) -> usize
-    ensures { λ _. ⌜ now (out .exit) ≡ sets (now (out .entry)) 0 (fitting (now (out .entry)) 0 (bytesOf (now (words .entry)))) ⌝ }
+    ensures { λ _. ⌜ now (out .exit)
+        ≡ sets (now (out .entry)) 0 (fitting (now (out .entry)) 0 (bytesOf (now (words .entry)))) ⌝ }
     ensures { λ r. ⌜ r ≡ length (fitting (now (out .entry)) 0 (bytesOf (now (words .entry)))) ⌝ }
 {
     match bytes_of_words(words, out) {

@@ -15,6 +15,7 @@ pub mod pack_oracle;
 #[cfg(reference)]
 pub mod pack_runs;
 pub mod packing;
+pub mod programs;
 pub mod proved;
 pub mod records;
 #[cfg(reference)]

@@ -3,13 +3,12 @@
 use coltoctober::blocks::block_of;
 use coltoctober::cases::Random;
 use coltoctober::lists::BLOCK_RECORD;
+use coltoctober::programs;
 use coltoctober::proved::{lamps_build_light_bounds, sampler_pmf, sampler_sample, tree_build_light_bvh};
 use coltoctober::records::{Query, Record};
 use coltoctober::rooms::Room;
 use coltoctober::trees::all_about;
 use coltoctober::walks::{bytes, Words};
-use std::io::Write;
-use std::process::{Command, Stdio};
 
 const HEADER: &str = "lamp drawn named\n";
 /// The groups that the program reads at a time.
@@ -17,15 +16,7 @@ const CHUNK: usize = 2048;
 
 /// What the program writes for an input.
 fn report(input: &[u8]) -> String {
-    let path = concat!(env!("CARGO_MANIFEST_DIR"), "/../../target/bin/columns");
-    let mut program = Command::new(path).stdin(Stdio::piped()).stdout(Stdio::piped()).spawn().expect("columns runs");
-    let (mut stdin, input) = (program.stdin.take().unwrap(), input.to_vec());
-    // a program that has refused the block reads no further
-    let writer = std::thread::spawn(move || drop(stdin.write_all(&input)));
-    let output = program.wait_with_output().unwrap();
-    writer.join().unwrap();
-    assert!(output.status.success());
-    String::from_utf8(output.stdout).unwrap()
+    String::from_utf8(programs::answer("columns", input)).unwrap()
 }
 
 /// A tree by the exported build, and the lines of groups by the exported walks.
@@ -125,6 +116,60 @@ fn no_nodes() {
     for block in [vec![0], block_of(&dark)] {
         assert_eq!(agrees(&block, &groups), "none\nrefused 11\nnone\nrefused 11\n");
     }
+}
+
+/// Lamps without power before powered ones: the table has a word for each, the nodes are of the powered ones alone.
+#[test]
+fn dark_lamps_first() {
+    let lamp = |x: f32, phi: f32| all_about([x, 0.0, 0.0], [x, 0.0, 0.0], phi);
+    let half = 0.5f32.to_bits();
+    let here = [1f32.to_bits(), 0, 1f32.to_bits(), 0, 0, 0];
+    assert_eq!(agrees(&block_of(&[lamp(0.0, 0.0), lamp(2.0, 1.0)]), &[(here, half)]), "1 3f800000 3f800000\n");
+    let (dark, lit) = (lamp(5.0, 0.0), [lamp(0.0, 1.0), lamp(2.0, 1.0)]);
+    let pair = [&[dark; 7][..], &lit].concat();
+    let groups = [(here, 0x3e80_0000), (here, 0x3f40_0000)];
+    assert_eq!(agrees(&block_of(&pair), &groups), "7 3f000000 3f000000\n8 3f000000 3f000000\n");
+    // as many lamps as a report takes, and one more
+    let most = [&[dark; 510][..], &lit].concat();
+    assert_eq!(agrees(&block_of(&most), &groups), "510 3f000000 3f000000\n511 3f000000 3f000000\n");
+    refused(&bytes(&block_of(&[&[dark; 511][..], &lit].concat())), 2);
+}
+
+/// A chunk is 57,344 bytes, 2,048 groups: one chunk whole, a group less, and a group more.
+#[test]
+fn chunks() {
+    let mut random = Random::new(5);
+    let (room, block) = office(&mut random, 16);
+    for count in [2047, 2048, 2049, 4096, 4097] {
+        let lines = agrees(&block, &office_groups(&mut random, &room, count));
+        assert_eq!(lines.lines().count(), count);
+    }
+}
+
+/// An input that arrives in pieces, which end within words, within the block and within chunks.
+#[test]
+fn pieces() {
+    let mut random = Random::new(6);
+    let (room, block) = office(&mut random, 40);
+    let groups = office_groups(&mut random, &room, 2100);
+    let input = [bytes(&block), groups.iter().flat_map(|(query, u)| bytes(&[&query[..], &[*u]].concat())).collect()].concat();
+    let whole = programs::answer("columns", &input);
+    assert_eq!(whole.iter().filter(|byte| **byte == b'\n').count(), 2101);
+    for pieces in [&[1, 2, 4093][..], &[3, 57_343], &[2245, 1], &[2247, 57_344]] {
+        assert_eq!(programs::answer_in_pieces("columns", &input, pieces), whole, "{pieces:?}");
+    }
+}
+
+/// An output that cannot be written is told once; an input that cannot be read is one that has ended.
+#[test]
+fn no_output_and_no_input() {
+    let (room, block) = office(&mut Random::new(7), 16);
+    let groups = office_groups(&mut Random::new(8), &room, 5000);
+    let input = [bytes(&block), groups.iter().flat_map(|(query, u)| bytes(&[&query[..], &[*u]].concat())).collect()].concat();
+    for input in [&input[..], &bytes(&[513]), &[]] {
+        assert_eq!(programs::complaint("columns", input), "columns: standard output could not be written whole\n");
+    }
+    assert_eq!(programs::answer_unread("columns"), format!("{HEADER}refused 1\n").into_bytes());
 }
 
 /// A lone lamp is drawn unweighed; with two a point that is no point is refused, and the report goes on.

@@ -4,11 +4,10 @@
 use coltoctober::blocks;
 use coltoctober::cases::Random;
 use coltoctober::lists::{list_of, wrapping_count, Kind, BLOCK_RECORD, KINDS, MOST_LAMPS, MOST_WORDS};
+use coltoctober::programs;
 use coltoctober::proved::{lamps_build_light_bounds, lamps_check_block};
 use coltoctober::stored::{check, PATTERN};
 use coltoctober::stored_lamps::Stored;
-use std::io::Write;
-use std::process::{Command, Stdio};
 
 /// The answer, and the block of so many words after the call.
 fn built(list: &[u32], room: usize) -> (Result<(), u32>, Vec<u32>) {
@@ -185,21 +184,89 @@ fn check_block() {
     assert_eq!(lamps_check_block(&vec![0; MOST_WORDS + 1]), Err(2));
 }
 
-/// The program lamps_to_block on lists, good and damaged: the block's bytes, or `refused N`.
+/// What the program lamps_to_block is to write for a list.
+fn converted(list: &[u32]) -> Vec<u8> {
+    let lamps = list.first().map_or(0, |count| *count as usize).min(MOST_LAMPS);
+    let (answer, block) = built(list, 1 + BLOCK_RECORD * lamps);
+    answer.map_or_else(told, |()| little_endian(&block))
+}
+
+fn told(number: u32) -> Vec<u8> {
+    format!("refused {number}\n").into_bytes()
+}
+
+fn program(input: &[u8]) -> Vec<u8> {
+    programs::answer("lamps_to_block", input)
+}
+
+/// Lists, good and damaged: the block's bytes, or `refused N`.
 #[test]
-fn program() {
-    let path = concat!(env!("CARGO_MANIFEST_DIR"), "/../../target/bin/lamps_to_block");
+fn program_on_lists() {
     let mut random = Random::new(3);
     for _ in 0..40 {
         let list = random.list_case().list;
-        let mut command = Command::new(path);
-        let mut running = command.stdin(Stdio::piped()).stdout(Stdio::piped()).spawn().expect("target/bin/lamps_to_block runs");
-        running.stdin.take().unwrap().write_all(&little_endian(&list)).unwrap();
-        let output = running.wait_with_output().unwrap();
-        let (answer, block) = built(&list, 1 + BLOCK_RECORD * list.first().map_or(0, |count| *count as usize).min(MOST_LAMPS));
-        let expected = answer.map_or_else(|number| format!("refused {number}\n").into_bytes(), |()| little_endian(&block));
-        assert_eq!((output.status.code(), output.stdout), (Some(0), expected));
+        assert_eq!(program(&little_endian(&list)), converted(&list), "{list:08x?}");
     }
+    // a lamp without power before one with it
+    let point = |intensity: f32| [vec![1 << 30], words(&[1.0, 2.0, 3.0, intensity, 1.0])].concat();
+    let dark = list_of([point(0.0), point(1.0)]);
+    let block = program(&little_endian(&dark));
+    assert_eq!((block.len(), &block), (4 * (1 + 2 * BLOCK_RECORD), &converted(&dark)));
+    assert_eq!(
+        [11, 25].map(|word| block[4 * word..4 * word + 4].to_vec()),
+        [0u32, 0x4149_0fdb].map(|word| word.to_le_bytes().to_vec())
+    );
+}
+
+/// Bytes behind the last whole word are 1, unless the list is over the limits; no word at all is 1.
+#[test]
+fn program_on_stray_bytes() {
+    let good = little_endian(&list_of([Random::new(4).usual_lamp(Kind::Spot)]));
+    let many = little_endian(&[MOST_LAMPS as u32 + 1]);
+    for stray in 1..4 {
+        let behind = |bytes: &[u8]| program(&[bytes, &vec![0; stray]].concat());
+        assert_eq!((behind(&good), behind(&many), behind(&[])), (told(1), told(2), told(1)));
+    }
+    assert_eq!((program(&good).len(), program(&many), program(&[])), (60, told(2), told(1)));
+}
+
+/// The longest lists and the largest block, around the ends of the chunks of 16,384 words that the program reads.
+#[test]
+fn program_on_long_lists() {
+    let mut random = Random::new(5);
+    // 12 words without its triangles, 13 for each of these
+    for triangles in [1258, 1259, 1260, 2519, 80658] {
+        let list = list_of([random.usual_lamp(Kind::Point), random.usual_group(triangles)]);
+        assert_eq!(list.len(), 12 + 13 * triangles as usize);
+        assert_eq!(program(&little_endian(&list)), converted(&list), "{triangles}");
+    }
+    let points = [0; 3].map(|_| random.usual_lamp(Kind::Point)).into_iter().chain([random.usual_lamp(Kind::Spot)]);
+    let list = list_of(points.chain([random.usual_group(80657)]));
+    assert_eq!((list.len(), program(&little_endian(&list))), (MOST_WORDS, converted(&list)));
+    for (words, stray) in [(1, 0), (1, 3), (16_383, 0), (16_384, 0), (16_384, 1), (16_385, 2), (50_000, 0)] {
+        let long = [little_endian(&list), vec![0; 4 * words + stray]].concat();
+        assert_eq!(program(&long), told(2), "{words} words more and {stray} bytes");
+    }
+    let most = list_of((0..MOST_LAMPS).map(|i| random.usual_lamp(KINDS[i % 3])));
+    let block = program(&little_endian(&most));
+    assert_eq!((block.len(), block), (229_380, converted(&most)));
+}
+
+/// An input in pieces; an output that cannot be written; an input that cannot be read, which is one that has ended.
+#[test]
+fn program_on_pieces_and_on_nothing() {
+    let mut random = Random::new(6);
+    let list = little_endian(&list_of((0..3000).map(|i| random.usual_lamp(KINDS[i % 3]))));
+    let whole = program(&list);
+    assert_eq!(whole.len(), 4 * (1 + 3000 * BLOCK_RECORD));
+    for pieces in [&[1, 2, 4093][..], &[65_535], &[65_537, 3]] {
+        assert_eq!(programs::answer_in_pieces("lamps_to_block", &list, pieces), whole, "{pieces:?}");
+    }
+    for input in [&list[..], &[]] {
+        let message = "lamps_to_block: standard output could not be written whole\n";
+        assert_eq!(programs::complaint("lamps_to_block", input), message);
+    }
+    assert_eq!(programs::answer_unread("lamps_to_block"), told(1));
 }
 
 fn little_endian(words: &[u32]) -> Vec<u8> {

@@ -29,10 +29,12 @@ module _ (c : tie.After-build-light-bvh) where
   sized = rw (start .pre .0, start .pre .1, start .pre .2)
 
   nodes : c .build-light-bvh .last .1 .1 .0 ≡ tray nodesWritten (nodesReserve (getD block 0 0)) (treeOf lamps block) (now (start .args .nodes))
-  nodes = c .build-light-bvh .ensures .1 .0 ∙ ap (λ (t : Answer LightBVH). tray nodesWritten (nodesReserve (getD block 0 0)) t (now (start .args .nodes))) sized
+  nodes = c .build-light-bvh .ensures .1 .0 ∙ ap
+      (λ (t : Answer LightBVH). tray nodesWritten (nodesReserve (getD block 0 0)) t (now (start .args .nodes))) sized
 
   table : c .build-light-bvh .last .1 .1 .1 .0 ≡ tray tableWritten (getD block 0 0) (treeOf lamps block) (now (start .args .table))
-  table = c .build-light-bvh .ensures .1 .1 .0 ∙ ap (λ (t : Answer LightBVH). tray tableWritten (getD block 0 0) t (now (start .args .table))) sized
+  table = c .build-light-bvh .ensures .1 .1 .0 ∙ ap
+      (λ (t : Answer LightBVH). tray tableWritten (getD block 0 0) t (now (start .args .table))) sized
 
 returns : tie.Need-returns
 unfolding powered
@@ -54,6 +56,8 @@ returns-3 c =
 
 pub build-tree-spec : {M : Type 1} → statement M
 build-tree-spec =
-    tie.close (tie.spec (λ c κs. search needs) (λ c. search needs) (λ c. search needs) (λ c. search needs) (λ c. search needs)
-    (λ c. search needs) (λ c. search needs) returns (λ c. search needs) (λ c. search needs) (λ c. search needs) returns-2
+    tie.close (tie.spec (λ c κs. search needs) (λ c. search needs) (λ c. search needs) (λ c. search needs)
+    (λ c. search needs)
+    (λ c. search needs) (λ c. search needs) returns (λ c. search needs) (λ c. search needs)
+    (λ c. search needs) returns-2
     (λ c. search needs) (λ c. search needs) (λ c. search needs) returns-3)

@@ -1,4 +1,4 @@
--- `columns::make_tree` meets its contract: the block's words, then their tree. Assumes nothing.
+-- The block's words, then their tree. Assumes nothing.
 use denote.Ref.{now}
 use native.Mathlib.Nat.{sub-zero}
 use borrow.Author.Needs.{needs}
@@ -14,11 +14,14 @@ returns c =
     let read = call .before .before .before .before .before .before .before .before in
     let start = read .before .before .before .before .before .before .before .before in
     let m = start .args .lamps in
-    let words = block-read m (now (start .args .input)) _ (start .pre .0 .1) (rw (sub-zero (blockBytes m)) at (read .read-words .ensures)) in
+    let words = block-read m (now (start .args .input)) _ (start .pre .0 .1)
+    (rw (sub-zero (blockBytes m)) at (read .read-words .ensures)) in
     rw (sub-zero (blockWords m), words) at (call .build-tree .ensures)
 
 pub make-tree-spec : {M : Type 1} → statement M
 make-tree-spec =
-    tie.close (tie.spec (λ c. search needs) (λ c. search needs) (λ c. search needs) (λ c. search needs) (λ c. search needs) (λ c. search needs)
-    (λ c κs. search needs) (λ c. search needs) (λ c. search needs) (λ c. search needs) (λ c κs. search needs) (λ c. search needs)
+    tie.close (tie.spec (λ c. search needs) (λ c. search needs) (λ c. search needs) (λ c. search needs)
+    (λ c. search needs) (λ c. search needs)
+    (λ c κs. search needs) (λ c. search needs) (λ c. search needs) (λ c. search needs) (λ c κs. search needs)
+    (λ c. search needs)
     (λ c. search needs) (λ c. search needs) (λ c. search needs) returns)

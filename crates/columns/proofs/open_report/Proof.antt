@@ -14,7 +14,8 @@ use Rattle.words.specs.Refusals.{number}
 use Rattle.light_bvh.specs.Build.{LightBVH, nodesReserve}
 use Rattle.text.proofs.PutLaws.{fitting-all, words-fit}
 use Rattle.columns.specs.Report.{reportLamps, reportTree, headerBytes, sizes, taken, nodeBytes, tableBytes}
-use Rattle.columns.proofs.TreeBytes.{sizes-few, nodes-front, table-front, opened-groups, first-header, tree-room, Ends, ended-first}
+use Rattle.columns.proofs.TreeBytes.{sizes-few, nodes-front, table-front, opened-groups}
+use Rattle.columns.proofs.TreeBytes.{first-header, tree-room, Ends, ended-first}
 use Rattle.columns.proofs.open_report.Statement.{statement}
 use Rattle.columns.proofs.open_report.Tie as tie
 
@@ -28,8 +29,10 @@ module _ (c : tie.After-take-tree) where
   abbrev tree : Answer LightBVH
   tree = reportTree (now (start .args .front))
 
-  header : (said .put-text .last .0 ≡ sets (now (start .args .out)) 0 headerBytes) × (said .put-text .result ≡ length headerBytes)
-  header = rw (fitting-all (now (start .args .out)) 0 headerBytes (omega (arith, start .pre .1 .2))) at (said .put-text .ensures)
+  header : (said .put-text .last .0 ≡ sets (now (start .args .out)) 0 headerBytes)
+      × (said .put-text .result ≡ length headerBytes)
+  header = rw (fitting-all (now (start .args .out)) 0 headerBytes (omega (arith, start .pre .1 .2))) at
+      (said .put-text .ensures)
 
 -- a tree with so many lamps and so many of them powered
 module _ (c : tie.After-lamps) where
@@ -61,10 +64,12 @@ module _ (c : tie.After-put-words) where
   nodes =
       let front = now (start (call lamps) .args .front) in
       let left = call lamps .take-tree .last .1 .1 .0 in
-      let words = ap (λ (n : ℕ). bytesOf (take n left)) (sub-zero (counted .node-words .result) ∙ counted .node-words .ensures) in
+      let words = ap (λ (n : ℕ). bytesOf (take n left))
+      (sub-zero (counted .node-words .result) ∙ counted .node-words .ensures) in
       let room : length (nodeBytes (tree (call lamps))) ≤ length (now (start (call lamps) .args .node-bytes)) =
       omega (arith, tree-room front (tree (call lamps)) refl .0, start (call lamps) .pre .1 .0) in
-      words-fit _ _ (nodeBytes (tree (call lamps))) (words ∙ nodes-front front (m lamps) (k lamps) (sized lamps) _ _ _ (call lamps .take-tree .ensures .1 .0))
+      words-fit _ _ (nodeBytes (tree (call lamps)))
+      (words ∙ nodes-front front (m lamps) (k lamps) (sized lamps) _ _ _ (call lamps .take-tree .ensures .1 .0))
       room (c .put-words .ensures)
 
 module _ (c : tie.After-put-words2) where
@@ -80,7 +85,8 @@ module _ (c : tie.After-put-words2) where
       let words = ap (λ (n : ℕ). bytesOf (take n left)) (sub-zero (m at)) in
       let room : length (tableBytes (tree (call at))) ≤ length (now (start (call at) .args .table-bytes)) =
       omega (arith, tree-room front (tree (call at)) refl .1, start (call at) .pre .1 .1) in
-      words-fit _ _ (tableBytes (tree (call at))) (words ∙ table-front front (m at) (k at) (sized at) _ _ _ (call at .take-tree .ensures .1 .1))
+      words-fit _ _ (tableBytes (tree (call at)))
+      (words ∙ table-front front (m at) (k at) (sized at) _ _ _ (call at .take-tree .ensures .1 .1))
       room (c .put-words2 .ensures)
 
 returns : tie.Need-returns
@@ -88,9 +94,19 @@ returns c =
     let put = c .before .before in
     let at = lamps (before put) in
     let front = now (start (call at) .args .front) in
-    let opened = opened-groups front (m at) (k at) (sized at) _ _ _ (header (call at) .1) (nodes (before put) .1) (table put .1) in
-    let first = first-header front (m at) (k at) (sized at) in
-    (opened, (nodes (before put) .0, (table put .0, header (call at) .0 ∙ ap (sets (now (start (call at) .args .out)) 0) first)))
+    let opened = opened-groups front (m at) (k at) (sized at) _ _ _ (header (call at) .1) (nodes (before put) .1)
+    (table put .1) in
+    let first = first-header front (m at) (k at) (sized at) in (
+      opened,
+      (
+        nodes (before put) .0,
+        (
+          table put .0,
+          header (call at) .0 ∙ ap
+              (sets (now (start (call at) .args .out)) 0) first,
+        ),
+      ),
+    )
 
 -- of a bad block
 module _ (c : tie.After-put-refused) where
@@ -105,15 +121,21 @@ module _ (c : tie.After-put-refused) where
 
   ended : Ends (tree call-2) (now (start call-2 .args .out)) (said call-2 .put-text .result + c .put-refused .result) (c .put-refused .last .0)
   ended =
-      ended-first (tree call-2) _ none (now (start call-2 .args .out)) (said call-2 .put-text .result) (c .put-refused .result)
+      ended-first (tree call-2) _ none (now (start call-2 .args .out)) (said call-2 .put-text .result)
+      (c .put-refused .result)
       (start call-2 .pre .1 .2) (header call-2) (c .put-refused .ensures)
 
 returns-2 : tie.Need-returns-2
 returns-2 c =
     let put = c .before .before in
     let args = start (call-2 put) .args in
-    let end = ended put in
-    (end .opened, (ap (sets (now (args .node-bytes)) 0) (end .no-nodes), (ap (sets (now (args .table-bytes)) 0) (end .no-table), end .lines)))
+    let end = ended put in (
+      end .opened,
+      (
+        ap (sets (now (args .node-bytes)) 0) (end .no-nodes),
+        (ap (sets (now (args .table-bytes)) 0) (end .no-table), end .lines),
+      ),
+    )
 
 table-end : tie.Need-part-put-words-end-2
 table-end c =
@@ -133,6 +155,8 @@ open-report-spec =
       start (call (c .before .before .before .before)) .pre .0 .1,
     ))
     (λ c κs. search needs) (λ c. search needs) (λ c. search needs) table-end (λ c κs. search needs) (λ c. search needs)
-    (λ c κs. search needs) (λ c. omega (arith, ended (c .before .before) .few)) (λ c. search needs) (λ c. search needs) (λ c. search needs) (λ c. search needs) (λ c. search needs)
-    (λ c. search needs) (λ c. search needs) returns (λ c. search needs) (λ c. search needs) (λ c. search needs) (λ c. search needs)
+    (λ c κs. search needs) (λ c. omega (arith, ended (c .before .before) .few)) (λ c. search needs)
+    (λ c. search needs) (λ c. search needs) (λ c. search needs) (λ c. search needs)
+    (λ c. search needs) (λ c. search needs) returns (λ c. search needs) (λ c. search needs) (λ c. search needs)
+    (λ c. search needs)
     (λ c. search needs) returns-2)

@@ -1,4 +1,4 @@
--- `columns::read_words` meets its contract: there is room, so the words stand at the front. Assumes nothing.
+-- There is room, so the words stand at the front. Assumes nothing.
 use denote.Ref.{now}
 use borrow.Author.Needs.{needs}
 use Rattle.columns.proofs.TreeBytes.{words-read}

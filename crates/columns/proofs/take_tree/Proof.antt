@@ -1,4 +1,4 @@
--- `columns::take_tree` meets its contract: the lamps are counted, then the tree is made. Assumes nothing.
+-- The lamps are counted, then the tree is made; what is refused before build leaves the trays as they are. Assumes nothing.
 use Prim.Native.Nat.{ℕ}
 use mathlib.Core.Path.{_≡_, refl, sym, ap, _∙_}
 use mathlib.Core.List.{List}
@@ -38,7 +38,8 @@ returns c =
     let lamps = call .before .before .before .before .before .before in
     rw (count lamps) (
       sizes-given _ _ _ (rw (c .before .k .given .1) at (call .make-tree .ensures .0)),
-      rw (front-word (input lamps) (blockBytes (lamps .lamps .given .0 .0)) (omega arith)) at (call .make-tree .ensures .1),
+      rw (front-word (input lamps) (blockBytes (lamps .lamps .given .0 .0)) (omega arith)) at
+          (call .make-tree .ensures .1),
     )
 
 returns-2 : tie.Need-returns-2
@@ -48,7 +49,8 @@ returns-2 c =
     let lamps = call .before .before .before .before .before .before in
     rw (count lamps) (
       sizes-refused _ _ (rw (c .before .why .given .1) at (call .make-tree .ensures .0)),
-      rw (front-word (input lamps) (blockBytes (lamps .lamps .given .0 .0)) (omega arith)) at (call .make-tree .ensures .1),
+      rw (front-word (input lamps) (blockBytes (lamps .lamps .given .0 .0)) (omega arith)) at
+          (call .make-tree .ensures .1),
     )
 
 returns-3 : tie.Need-returns-3
@@ -59,6 +61,8 @@ returns-3 c =
 
 pub take-tree-spec : {M : Type 1} → statement M
 take-tree-spec =
-    tie.close (tie.spec (λ c κs. search needs) (λ c. search needs) make-tree-requires (λ c. search needs) (λ c. search needs) (λ c. search needs)
-    (λ c. search needs) (λ c. search needs) (λ c. search needs) (λ c. search needs) returns (λ c. search needs) (λ c. search needs)
+    tie.close (tie.spec (λ c κs. search needs) (λ c. search needs) make-tree-requires (λ c. search needs)
+    (λ c. search needs) (λ c. search needs)
+    (λ c. search needs) (λ c. search needs) (λ c. search needs) (λ c. search needs) returns (λ c. search needs)
+    (λ c. search needs)
     (λ c. search needs) (λ c. search needs) returns-2 returns-3)

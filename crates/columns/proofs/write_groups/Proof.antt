@@ -1,4 +1,4 @@
--- `columns::write_groups` ends: each turn counts down. The chunk and the lines' slice keep their lengths. Assumes nothing.
+-- Each turn counts down; the chunk and the lines' slice keep their lengths. Assumes nothing.
 use mathlib.Core.Path.{_≡_, refl}
 use native.Mathlib.Omega.{arith}
 use borrow.Author.Needs.{needs}
@@ -7,7 +7,8 @@ use Rattle.columns.proofs.write_groups.Statement.{statement}
 use Rattle.columns.proofs.write_groups.Tie as tie
 
 abbrev Inv-loop : tie.InvT-loop
-Inv-loop front nodes table chunk₀ out₀ turns₀ chunk out turns = (length chunk ≡ length chunk₀) × (length out ≡ length out₀)
+Inv-loop front nodes table chunk₀ out₀ turns₀ chunk out turns = (length chunk ≡ length chunk₀) ×
+    (length out ≡ length out₀)
 
 abbrev μ-loop : tie.MeasureT-loop
 μ-loop front nodes table chunk₀ out₀ turns₀ chunk out turns = turns

@@ -33,7 +33,8 @@ module _ (c : tie.After-lines) where
   abbrev call : tie.After-open-report
   call = c .before .before .before .before .before .before .before .before .before .before .before .before .before .before .before .before
 
-  long : (c .lines .given .0 .0 ≡ length (firstLines (tree call))) × (c .lines .given .0 .1 .0 ≡ length (nodeBytes (tree call)))
+  long : (c .lines .given .0 .0 ≡ length (firstLines (tree call)))
+      × (c .lines .given .0 .1 .0 ≡ length (nodeBytes (tree call)))
       × (c .lines .given .0 .1 .1 .0 ≡ length (tableBytes (tree call)))
   long = groups-are (tree call) _ _ _ (sym (c .lines .given .1) ∙ call .open-report .ensures .0)
 
@@ -52,7 +53,8 @@ part-write-first-end c =
 write-first-requires : tie.Need-write-first-requires
 write-first-requires c κs =
     let at = c .before .before .before in
-    handed (now (start (call at) .args .out)) _ _ (first (call at)) (call at .open-report .ensures .1 .1 .1) (long at .0)
+    handed (now (start (call at) .args .out)) _ _ (first (call at)) (call at .open-report .ensures .1 .1 .1)
+    (long at .0)
 
 part-write-groups-end : tie.Need-part-write-groups-end
 part-write-groups-end c =
@@ -83,11 +85,19 @@ part-write-first-end-2 c =
 write-first-requires-2 : tie.Need-write-first-requires-2
 write-first-requires-2 c κs =
     let at = c .before .before .before in
-    handed (now (start (call-2 at) .args .out)) _ _ (first (call-2 at)) (call-2 at .open-report .ensures .1 .1 .1) (long-2 at)
+    handed (now (start (call-2 at) .args .out)) _ _ (first (call-2 at)) (call-2 at .open-report .ensures .1 .1 .1)
+    (long-2 at)
 
 pub write-report-spec : {M : Type 1} → statement M
 write-report-spec =
-    tie.close (tie.spec (λ c κs. search needs) (λ c. search needs) (λ c. search needs) (λ c. search needs) part-write-first-end write-first-requires
-    (λ c. search needs) (λ c. search needs) part-write-groups-end (λ c. search needs) (λ c. search needs) part-write-groups-end-2
-    write-groups-requires (λ c. search needs) (λ c. search needs) (λ c. search needs) part-write-first-end-2 write-first-requires-2
-    (λ c. search needs) (λ c. search needs) (λ c. search needs) (λ c. search needs) (λ c. search needs) (λ c. search needs) (λ c. search needs) (λ c. search needs) (λ c. search needs) (λ c. search needs) (λ c. search needs) (λ c. search needs) (λ c. search needs) (λ c. search needs) (λ c. search needs) (λ c. search needs) (λ c. search needs) (λ c. search needs) (λ c. search needs) (λ c. search needs) (λ c. search needs) (λ c. search needs) (λ c. search needs) (λ c. search needs) (λ c. search needs))
+    tie.close (tie.spec (λ c κs. search needs) (λ c. search needs) (λ c. search needs)
+    (λ c. search needs) part-write-first-end write-first-requires
+    (λ c. search needs) (λ c. search needs) part-write-groups-end (λ c. search needs)
+    (λ c. search needs) part-write-groups-end-2
+    write-groups-requires (λ c. search needs) (λ c. search needs)
+    (λ c. search needs) part-write-first-end-2 write-first-requires-2
+    (λ c. search needs) (λ c. search needs) (λ c. search needs) (λ c. search needs) (λ c. search needs)
+    (λ c. search needs) (λ c. search needs) (λ c. search needs) (λ c. search needs) (λ c. search needs)
+    (λ c. search needs) (λ c. search needs) (λ c. search needs) (λ c. search needs) (λ c. search needs)
+    (λ c. search needs) (λ c. search needs) (λ c. search needs) (λ c. search needs) (λ c. search needs)
+    (λ c. search needs) (λ c. search needs) (λ c. search needs) (λ c. search needs) (λ c. search needs))

@@ -42,26 +42,35 @@ module _ (c : tie.After-known-told) where
   block : (m ≤ maxLamps) × (bytesOf (take (blockWords m) (call .build-light-bounds .last .1 .0)) ≡ bytes call)
   block =
       let built = call .build-light-bounds .ensures in
-      block-bytes (list call) _ (start call .pre .0) _ _ m (sym (ap counted (c .before .m .given .1)) ∙ built .0) (built .1)
+      block-bytes (list call) _ (start call .pre .0) _ _ m (sym (ap counted (c .before .m .given .1)) ∙ built .0)
+      (built .1)
 
 returns : tie.Need-returns
 returns c =
     let put = c .before .before in
     let told = put .before .before .before .before in
-    rw (sub-zero (blockWords (m told)), block told .1, fitting-all _ 0 (bytes (call told)) (room (call told))) at (put .put-words .ensures)
+    rw (sub-zero (blockWords (m told)), block told .1, fitting-all _ 0 (bytes (call told)) (room (call told))) at
+    (put .put-words .ensures)
 
 returns-2 : tie.Need-returns-2
 returns-2 c =
     let put = c .before .before in
     let call = put .before .before .before .before .before .before .before in
     let line =
-    block-refused (list call) _ (start call .pre .0) _ (rw (put .before .before .before .why .given .1) at (call .build-light-bounds .ensures .0)) in
+    block-refused (list call) _ (start call .pre .0) _
+    (rw (put .before .before .before .why .given .1) at (call .build-light-bounds .ensures .0)) in
     rw (line, fitting-all _ 0 (bytes call) (room call)) at (put .put-refused .ensures)
 
 pub convert-spec : {M : Type 1} → statement M
 convert-spec =
     tie.close (tie.spec (λ c κs. search needs) (λ c. search needs) (λ c. record { fits = omega (arith, block c .0) })
     (λ c. record { fits = omega (arith, block c .0) }) (λ c. search needs) (λ c. search needs)
-    (λ c. omega (arith, block (c .before .before) .0, call (c .before .before) .build-light-bounds .kept .1 .0, start (call (c .before .before)) .pre .0))
+    (λ c. omega (
+      arith,
+      block (c .before .before) .0,
+      call (c .before .before) .build-light-bounds .kept .1 .0,
+      start
+          (call (c .before .before)) .pre .0,
+    ))
     (λ c κs. search needs) (λ c. search needs) (λ c κs. search needs) (λ c. search needs) (λ c. search needs) returns
     (λ c. search needs) (λ c. search needs) returns-2)

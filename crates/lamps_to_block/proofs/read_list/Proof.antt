@@ -1,5 +1,5 @@
--- `lamps_to_block::read_list` meets its contract. The loop's invariant: the words counted have room in the list, and a turn that goes on
--- reads a whole chunk, which holds a word. Assumes nothing.
+-- The words counted have room in the list, and a turn that goes on reads a whole chunk, which holds a word.
+-- Assumes nothing.
 use Prim.Native.Nat.{_-_, _/_, _≤_}
 use mathlib.Core.Path.{_≡_, refl}
 use native.Mathlib.Omega.{arith}

@@ -23,7 +23,8 @@ module _ (c : tie.After-answer) where
         arith,
         c .answer .ensures .1,
         start .pre .2,
-        converted-room (take (read .read-list .result .words - 0) (read .read-list .last .0)) (read .read-list .result .stray),
+        converted-room (take (read .read-list .result .words - 0) (read .read-list .last .0))
+            (read .read-list .result .stray),
       )
 
 part-write-end-2 : tie.Need-part-write-end-2
@@ -35,10 +36,13 @@ write-requires : tie.Need-write-requires
 write-requires c κs =
     let call = c .before .before .before .before .before .before .before .before in
     let long = call .answer .ensures .1 in
-    handed (now (start call .args .out)) _ (call .answer .result) (omega (arith, fits call, long)) (call .answer .ensures .0) long
+    handed (now (start call .args .out)) _ (call .answer .result) (omega (arith, fits call, long))
+    (call .answer .ensures .0) long
 
 pub run-spec : {M : Type 1} → statement M
 run-spec =
-    tie.close (tie.spec (λ c κs. search needs) (λ c. search needs) (λ c. search needs) (λ c. search needs) (λ c κs. search needs)
-    (λ c. search needs) (λ c. search needs) (λ c. search needs) (λ c. search needs) (λ c. search needs) part-write-end-2 write-requires
+    tie.close (tie.spec (λ c κs. search needs) (λ c. search needs) (λ c. search needs) (λ c. search needs)
+    (λ c κs. search needs)
+    (λ c. search needs) (λ c. search needs) (λ c. search needs) (λ c. search needs)
+    (λ c. search needs) part-write-end-2 write-requires
     (λ c. search needs) (λ c. search needs) (λ c. search needs) (λ c. search needs) (λ c. search needs))

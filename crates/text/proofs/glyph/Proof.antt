@@ -1,4 +1,4 @@
--- `text::glyph` meets its contract: its test is the definition's. Assumes nothing.
+-- Its test is the definition's. Assumes nothing.
 use native.Mathlib.Omega.{arith}
 use borrow.Author.Needs.{needs}
 use borrow.Author.Tests.{lt-ltb, le-ltb}

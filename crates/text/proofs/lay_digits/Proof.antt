@@ -1,4 +1,4 @@
--- `text::lay_digits` meets its contract: each turn writes the last digit of what is left, before those that are written. Assumes nothing.
+-- Each turn writes the last digit of what is left, before those that are written. Assumes nothing.
 use native.Mathlib.Omega.{arith}
 use borrow.Author.Needs.{needs}
 use Rattle.text.proofs.PutLaws.{Spelled, spelled-none, spelled-next, spelled-all, spelled-digit-few}

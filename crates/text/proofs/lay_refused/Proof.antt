@@ -16,5 +16,6 @@ returns c =
 
 pub lay-refused-spec : {M : Type 1} → statement M
 lay-refused-spec =
-    tie.close (tie.spec (λ c. search needs) (λ c κs. search needs) (λ c. search needs) (λ c κs. search needs) (λ c. search needs)
+    tie.close (tie.spec (λ c. search needs) (λ c κs. search needs) (λ c. search needs) (λ c κs. search needs)
+    (λ c. search needs)
     (λ c. search needs) (λ c. ap length (returns c) ∙ simp length-sets) returns)

@@ -1,4 +1,4 @@
--- `text::places` meets its contract: each turn takes a digit off, as each step of the definition does. Assumes nothing.
+-- Each turn takes a digit off, as each step of the definition does. Assumes nothing.
 use Prim.Native.Nat.{_-_}
 use native.Mathlib.Omega.{arith}
 use borrow.Author.Tests.{leb-true, leb-false}

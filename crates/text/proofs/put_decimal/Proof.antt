@@ -8,7 +8,12 @@ use Rattle.text.proofs.put_decimal.Statement.{statement}
 use Rattle.text.proofs.put_decimal.Tie as tie
 
 lay-digits-requires : tie.Need-lay-digits-requires
-lay-digits-requires c κs = (search needs, search needs, leb-true _ _ (sym (c .before .before .fits2 .ensures) ∙ c .before .if1 .taken))
+lay-digits-requires c κs = (
+  search needs,
+  search needs,
+  leb-true _ _
+      (sym (c .before .before .fits2 .ensures) ∙ c .before .if1 .taken),
+)
 
 returns : tie.Need-returns
 unfolding decimalBytes
@@ -21,8 +26,10 @@ returns c =
 
 returns-2 : tie.Need-returns-2
 returns-2 c =
-    put-none _ _ _ _ (length-decimal _ ∙ sym (c .before .before .places .ensures .0)) (sym (c .before .fits2 .ensures) ∙ c .if1 .left)
+    put-none _ _ _ _ (length-decimal _ ∙ sym (c .before .before .places .ensures .0))
+    (sym (c .before .fits2 .ensures) ∙ c .if1 .left)
 
 pub put-decimal-spec : {M : Type 1} → statement M
 put-decimal-spec =
-    tie.close (tie.spec (λ c κs. search needs) (λ c κs. search needs) lay-digits-requires (λ c. search needs) returns returns-2)
+    tie.close (tie.spec (λ c κs. search needs) (λ c κs. search needs) lay-digits-requires
+    (λ c. search needs) returns returns-2)

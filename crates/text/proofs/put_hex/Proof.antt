@@ -8,14 +8,20 @@ use Rattle.text.proofs.put_hex.Statement.{statement}
 use Rattle.text.proofs.put_hex.Tie as tie
 
 lay-digits-requires : tie.Need-lay-digits-requires
-lay-digits-requires c κs = (search needs, search needs, leb-true _ _ (sym (c .before .before .fits2 .ensures) ∙ c .before .if1 .taken))
+lay-digits-requires c κs = (
+  search needs,
+  search needs,
+  leb-true _ _
+      (sym (c .before .before .fits2 .ensures) ∙ c .before .if1 .taken),
+)
 
 returns : tie.Need-returns
 unfolding hexBytes
 returns c =
     let put = c .before .before in
     let room = put .before .before in
-    put-all _ _ _ 8 (length-hex (room .before .before .before .args .n)) (sym (room .before .fits2 .ensures) ∙ room .if1 .taken) (put .lay-digits .ensures)
+    put-all _ _ _ 8 (length-hex (room .before .before .before .args .n))
+    (sym (room .before .fits2 .ensures) ∙ room .if1 .taken) (put .lay-digits .ensures)
 
 returns-2 : tie.Need-returns-2
 returns-2 c = put-none _ _ _ 8 (length-hex _) (sym (c .before .fits2 .ensures) ∙ c .if1 .left)

@@ -18,16 +18,19 @@ returns c =
     let room = put .before .before in
     let digits = room .before .before in
     rw (← digits .before .refusal-number .ensures)
-    (put-all _ _ _ _ (length-refusal _ ∙ rw (digits .places .ensures .0)) (sym (room .before .fits2 .ensures) ∙ room .if1 .taken)
+    (put-all _ _ _ _ (length-refusal _ ∙ rw (digits .places .ensures .0))
+    (sym (room .before .fits2 .ensures) ∙ room .if1 .taken)
     (put .lay-refused .ensures))
 
 returns-2 : tie.Need-returns-2
 returns-2 c =
     let digits = c .before .before in
     rw (← digits .before .refusal-number .ensures)
-    (put-none _ _ _ _ (length-refusal _ ∙ rw (digits .places .ensures .0)) (sym (c .before .fits2 .ensures) ∙ c .if1 .left))
+    (put-none _ _ _ _ (length-refusal _ ∙ rw (digits .places .ensures .0))
+    (sym (c .before .fits2 .ensures) ∙ c .if1 .left))
 
 pub put-refused-spec : {M : Type 1} → statement M
 put-refused-spec =
-    tie.close (tie.spec (λ c κs. search needs) (λ c κs. search needs) (λ c. search needs) (λ c κs. search needs) lay-refused-requires
+    tie.close (tie.spec (λ c κs. search needs) (λ c κs. search needs) (λ c. search needs)
+    (λ c κs. search needs) lay-refused-requires
     (λ c. search needs) returns returns-2)

@@ -10,7 +10,8 @@ mul-result : tie.Need-mul-result
 mul-result c =
     let call = c .before .before .before .before .before in
     let start = call .before .before .before .before in
-    let (same, room) = words-room (now (start .args .words)) (now (start .args .out)) (rw (c .before .n .given .1) at (call .bytes-of-words .ensures .0)) in
+    let (same, room) = words-room (now (start .args .words)) (now (start .args .out))
+    (rw (c .before .n .given .1) at (call .bytes-of-words .ensures .0)) in
     record { fits = omega (arith, same, room, start .good .0 .0) }
 
 returns : tie.Need-returns
@@ -21,9 +22,11 @@ returns c =
 returns-2 : tie.Need-returns-2
 returns-2 c =
     let call = c .before .before .before .before in
-    words-left _ _ (rw (c .enum-told .given .1) at (call .bytes-of-words .ensures .0)) (call .bytes-of-words .ensures .1)
+    words-left _ _ (rw (c .enum-told .given .1) at (call .bytes-of-words .ensures .0))
+    (call .bytes-of-words .ensures .1)
 
 pub put-words-spec : {M : Type 1} → statement M
 put-words-spec =
-    tie.close (tie.spec (λ c κs. search needs) (λ c. search needs) mul-result (λ c. search needs) (λ c. search needs) returns
+    tie.close (tie.spec (λ c κs. search needs) (λ c. search needs) mul-result (λ c. search needs)
+    (λ c. search needs) returns
     (λ c. search needs) returns-2)

@@ -19,7 +19,11 @@ module _ (c : tie.After-put-hex) where
   digits : Put (set (now (start .args .out)) (start .args .at) 32) (start .args .at + 1) (hexBytes (c .before .word-of-f32 .result))
       (c .put-hex .last .0) (start .args .at + 1 + c .put-hex .result)
   digits =
-      put-fits (rw (length-hex (c .before .word-of-f32 .result), length-set (now (start .args .out)) (start .args .at) 32) (omega (arith, start .pre)))
+      put-fits (rw (
+        length-hex (c .before .word-of-f32 .result),
+        length-set (now (start .args .out))
+            (start .args .at) 32,
+      ) (omega (arith, start .pre)))
       (c .put-hex .ensures .0) (c .put-hex .ensures .1)
 
   end : start .args .at + 1 + c .put-hex .result ≡ start .args .at + 9
@@ -35,4 +39,5 @@ returns c =
 pub put-chance-spec : {M : Type 1} → statement M
 put-chance-spec =
     tie.close (tie.spec (λ c. search needs) (λ c. search needs) (λ c κs. search needs) (λ c κs. search needs)
-    (λ c. omega (arith, end (c .before .before), start (c .before .before) .pre)) (λ c. ap length (returns c .0 .is) ∙ simp length-sets) returns)
+    (λ c. omega (arith, end (c .before .before), start (c .before .before) .pre))
+    (λ c. ap length (returns c .0 .is) ∙ simp length-sets) returns)

@@ -19,7 +19,8 @@ module _ (c : tie.After-put-decimal) where
   handle : Put (now (start .args .out)) (start .args .at) (decimalBytes (start .args .handle)) (c .put-decimal .last .0)
       (start .args .at + c .put-decimal .result)
   handle =
-      put-fits (omega (arith, decimal-short (start .args .handle), start .pre)) (c .put-decimal .ensures .0) (c .put-decimal .ensures .1)
+      put-fits (omega (arith, decimal-short (start .args .handle), start .pre)) (c .put-decimal .ensures .0)
+      (c .put-decimal .ensures .1)
 
   few : c .put-decimal .result ≤ 10
   few = omega (arith, handle .past, decimal-short (start .args .handle))
@@ -28,9 +29,13 @@ module _ (c : tie.After-put-chance) where
   abbrev number : tie.After-put-decimal
   number = c .before .before .before .before
 
-  drawn : (c .put-chance .result ≤ start number .args .at + 19) × (start number .args .at + 29 ≤ length (c .put-chance .last .0))
-  drawn =
-      (omega (arith, few number, c .put-chance .ensures .1), omega (arith, start number .pre, number .put-decimal .kept .0, c .put-chance .kept .0))
+  drawn : (c .put-chance .result ≤ start number .args .at + 19)
+      × (start number .args .at + 29 ≤ length (c .put-chance .last .0))
+  drawn = (
+    omega (arith, few number, c .put-chance .ensures .1),
+    omega
+        (arith, start number .pre, number .put-decimal .kept .0, c .put-chance .kept .0),
+  )
 
 module _ (c : tie.After-put-chance2) where
   abbrev first : tie.After-put-chance
@@ -46,14 +51,22 @@ returns : tie.Need-returns
 unfolding lineBytes
 returns c =
     let last = c .before .before in (
-      put-then (put-then (put-then (handle (number (first last))) (first last .put-chance .ensures .0)) (last .put-chance2 .ensures .0)) (put-one _ _ 10),
+      put-then (put-then (put-then (handle (number (first last))) (first last .put-chance .ensures .0))
+          (last .put-chance2 .ensures .0)) (put-one _ _ 10),
       short last,
     )
 
 pub put-lamp-spec : {M : Type 1} → statement M
 put-lamp-spec =
-    tie.close (tie.spec (λ c κs. search needs) (λ c. omega (arith, few (c .before .before), start (c .before .before) .pre))
-    (λ c κs. omega (arith, few (c .before .before .before), start (c .before .before .before) .pre, c .before .before .before .put-decimal .kept .0))
+    tie.close (tie.spec (λ c κs. search needs)
+    (λ c. omega (arith, few (c .before .before), start (c .before .before) .pre))
+    (λ c κs. omega (
+      arith,
+      few (c .before .before .before),
+      start
+          (c .before .before .before) .pre,
+      c .before .before .before .put-decimal .kept .0,
+    ))
     (λ c κs. omega (arith, drawn (c .before .before .before) .0, drawn (c .before .before .before) .1))
     (λ c. omega (arith, room (c .before .before))) (λ c. omega (arith, room (c .before .before)))
     (λ c. ap length (returns c .0 .is) ∙ simp length-sets) returns)

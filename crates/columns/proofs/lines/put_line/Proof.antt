@@ -29,7 +29,8 @@ module _ (c : tie.After-put-refused) where
 
   line : Put (now (start-2 .args .out)) (start-2 .args .at) (refusalLine (number (why .shown2 .given .0 .0))) (c .put-refused .last .0)
       (start-2 .args .at + c .put-refused .result)
-  line = put-fits (omega (arith, refusal-short (number (why .shown2 .given .0 .0)), start-2 .pre)) (c .put-refused .ensures .0) (c .put-refused .ensures .1)
+  line = put-fits (omega (arith, refusal-short (number (why .shown2 .given .0 .0)), start-2 .pre))
+      (c .put-refused .ensures .0) (c .put-refused .ensures .1)
 
   short : start-2 .args .at + c .put-refused .result ≤ start-2 .args .at + 29
   short = omega (arith, line .past, refusal-short (number (why .shown2 .given .0 .0)))
@@ -43,7 +44,8 @@ returns-2 : tie.Need-returns-2
 unfolding lineBytes
 returns-2 c =
     let put = c .before .before in
-    rw (put .before .before .before .enum-told .given .1) (none put .is, (none put .past, omega (arith, none put .past)))
+    rw (put .before .before .before .enum-told .given .1)
+    (none put .is, (none put .past, omega (arith, none put .past)))
 
 returns-3 : tie.Need-returns-3
 unfolding lineBytes
@@ -53,7 +55,9 @@ returns-3 c =
 
 pub put-line-spec : {M : Type 1} → statement M
 put-line-spec =
-    tie.close (tie.spec (λ c. search needs) (λ c κs. search needs) (λ c. search needs) (λ c. search needs) (λ c κs. search needs)
-    (λ c. omega (arith, none (c .before .before) .past, start (c .before .before) .pre)) (λ c. search needs) (λ c κs. search needs)
+    tie.close (tie.spec (λ c. search needs) (λ c κs. search needs) (λ c. search needs) (λ c. search needs)
+    (λ c κs. search needs)
+    (λ c. omega (arith, none (c .before .before) .past, start (c .before .before) .pre)) (λ c. search needs)
+    (λ c κs. search needs)
     (λ c. omega (arith, short (c .before .before), start-2 (c .before .before) .pre))
     (λ c. search needs) returns (λ c. search needs) returns-2 (λ c. search needs) returns-3)
