@@ -1,11 +1,11 @@
 -- What is handed to the write is the answer of the very words that were read. Assumes nothing.
-use Prim.Native.Nat.{_-_, _≤_}
+use Prim.Native.Nat.{_≤_}
 use native.Mathlib.Omega.{arith}
 use denote.Ref.{now}
 use borrow.Author.Needs.{needs}
-use lib.ListN.{length, take}
+use lib.ListN.{length}
 use Rattle.text.proofs.PutLaws.{handed}
-use Rattle.lamps_to_block.proofs.AnswerBytes.{converted-room}
+use Rattle.lamps_to_block.proofs.AnswerBytes.{converted-fits}
 use Rattle.lamps_to_block.proofs.run.Statement.{statement}
 use Rattle.lamps_to_block.proofs.run.Tie as tie
 
@@ -18,14 +18,7 @@ module _ (c : tie.After-answer) where
   start = read .before .before .before .before .before .before .before
 
   fits : c .answer .result ≤ length (now (start .args .out))
-  fits =
-      omega (
-        arith,
-        c .answer .ensures .1,
-        start .pre .2,
-        converted-room (take (read .read-list .result .words - 0) (read .read-list .last .0))
-            (read .read-list .result .stray),
-      )
+  fits = converted-fits _ _ _ _ (c .answer .ensures .1) (start .pre .2)
 
 part-write-end-2 : tie.Need-part-write-end-2
 part-write-end-2 c =
