@@ -36,7 +36,7 @@ block-room list room = go (buildLightBounds list room) refl
         rw (length-bytesOf (packExhaustiveBounds bs), length-block bs) (omega (arith, built-few list room bs is))
     go (refused n) is = refusal-room n
 
-converted-room : (list : List ℕ) (stray : ℕ) → length (converted list stray) ≤ 4 * blockRoom
+pub converted-room : (list : List ℕ) (stray : ℕ) → length (converted list stray) ≤ 4 * blockRoom
 unfolding converted answered
 converted-room list stray = go (crowded list) (eqb stray 0)
   where
@@ -44,10 +44,6 @@ converted-room list stray = go (crowded list) (eqb stray 0)
     go true b = refusal-room 2
     go false true = block-room list blockRoom
     go false false = refusal-room 1
-
-pub converted-fits : (list : List ℕ) (stray n : ℕ) (out : List ℕ) → n ≡ length (converted list stray) → length out ≡ 4 * blockRoom
-    → n ≤ length out
-converted-fits list stray n out long sized = omega (arith, long, sized, converted-room list stray)
 
 -- ---- the block
 
