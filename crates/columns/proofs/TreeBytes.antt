@@ -1,8 +1,8 @@
 -- The tree of a report's block, from the block's bytes to its own: what of the trays is handed on, and why it
 -- fits. Assumes nothing.
-use Prim.Native.Nat.{ℕ, _+_, _-_, _*_, _/_, _%_, _≤_, _<_}
+use Prim.Native.Nat.{ℕ, _+_, _-_, _*_, _/_, _%_, _≤_}
 use mathlib.Core.Path.{_≡_, refl, sym, ap, _∙_}
-use mathlib.Core.List.{List, [], _++_}
+use mathlib.Core.List.{List, []}
 use native.Mathlib.Nat.{zero-add}
 use native.Mathlib.Omega.{arith}
 use borrow.Author.Tests.{eq-eqb, le-leb}
@@ -24,7 +24,7 @@ use Rattle.columns.specs.Lines.{lineBytes, reportLines}
 use Rattle.columns.specs.Report.{reportLamps, blockBytes, blockLamps, treeOf}
 use Rattle.columns.specs.Report.{reportTree, headerBytes, powered, sizes}
 use Rattle.columns.specs.Report.{firstLines, nodeBytes, tableBytes, chunkLines, openedOf}
-use Rattle.columns.specs.TreeLaws.{rows-are, TreeOf, tree-of}
+use Rattle.columns.specs.TreeLaws.{rows-are, tree-of}
 use Rattle.columns.specs.declared.Opened.{Opened}
 use Rattle.columns.specs.declared.Opened.the-variants.{Groups, Ended}
 

@@ -1,25 +1,25 @@
 -- What the program hands to its writes, of a front and of the chunks behind it, is the report of all that was
 -- read. Assumes nothing.
-use Prim.Native.Nat.{ℕ, _+_, _*_, _%_, _≤_}
-use mathlib.Core.Path.{_≡_, refl, sym, ap, subst, _∙_}
+use Prim.Native.Nat.{ℕ, _+_, _%_, _≤_}
+use mathlib.Core.Path.{_≡_, refl, sym, ap, _∙_}
 use mathlib.Core.Bool.{Bool, true, false, cond}
-use mathlib.Core.List.{List, [], _∷_, _++_, map, flatten, append-assoc, append-nil}
+use mathlib.Core.List.{List, [], _∷_, _++_, flatten, append-nil}
 use mathlib.Core.Logic.{_⊎_, ⊎-elim}
 use native.Mathlib.Omega.{arith}
 use borrow.Author.Tests.{le-ltb}
 use lib.Dec.{ltb}
-use lib.ListN.{length, getD, take, drop}
+use lib.ListN.{length, getD}
 use lib.Seq.{take-append-seam, drop-at}
 use Rattle.words.specs.Answers.{Answer, given, refused}
-use Rattle.words.specs.LittleEndian.{wordsOf, bytesOf}
-use Rattle.light_bvh.specs.Build.{LightBVH, nodesWritten, tableWritten}
+use Rattle.words.specs.LittleEndian.{wordsOf}
+use Rattle.light_bvh.specs.Build.{LightBVH}
 use Rattle.columns.specs.Lines.{lineBytes, reportLines, groupLines, partLine}
-use Rattle.columns.specs.Report.{reportLamps, blockBytes, blockLamps, reportTree}
+use Rattle.columns.specs.Report.{reportLamps, blockBytes, reportTree}
 use Rattle.columns.specs.Report.{headerBytes, behindHeader, report}
 use Rattle.columns.specs.Report.{frontBytes, firstLines, nodeBytes, tableBytes}
 use Rattle.columns.specs.Report.{chunkLines, allLines, behindFirst, written}
 use Rattle.columns.specs.ReportLaws.{report-chunks, front-word, lamps-there, tree-front}
-use Rattle.columns.specs.TreeLaws.{TreeOf, tree-of}
+use Rattle.columns.specs.TreeLaws.{tree-of}
 
 -- the front that is read: as many bytes as the block takes, or all that there are
 abbrev pub Fronted : List ℕ → List ℕ → Type 0

@@ -361,7 +361,7 @@ fn lend(
     );
 }
 
-// All of it is on the stack: 310 KiB.
+// All of it is on the stack: 306 KiB.
 fn main() {
     let mut front = [0u8; 28676];
     let mut block = [0u32; 7169];

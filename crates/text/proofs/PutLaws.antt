@@ -7,9 +7,9 @@ use mathlib.Core.List.{List, [], _∷_, _++_, append-nil, append-assoc}
 use native.Mathlib.Nat.{mod-lt, lt-of-lt-of-le}
 use native.Mathlib.Omega.{arith}
 use borrow.Author.Tests.{lt-ltb, le-ltb, le-leb, lt-leb, leb-true, leb-false}
-use lib.Dec.{ltb, leb}
+use lib.Dec.{leb}
 use lib.ListN.{length, getD, take, drop, set, length-set, length-append}
-use lib.Seq.{sets, sets-eq, length-sets, set-comm, append-snoc, take-suc, take-at, length-take-le, take-length}
+use lib.Seq.{sets, sets-eq, set-comm, append-snoc, take-suc, take-at, length-take-le, take-length}
 use Rattle.io.specs.Digits.{digits, glyph}
 use Rattle.words.specs.Answers.{Answer, given, refused}
 use Rattle.words.specs.LittleEndian.{bytesOf, writtenWords}

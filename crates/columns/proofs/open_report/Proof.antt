@@ -1,7 +1,6 @@
 -- The header, then the bytes of the words at the front of the trays, or the refusal behind the header. Assumes nothing.
 use Prim.Native.Nat.{ℕ, _+_, _-_, _≤_}
 use mathlib.Core.Path.{_≡_, refl, sym, ap, _∙_}
-use mathlib.Core.List.{List}
 use native.Mathlib.Nat.{sub-zero}
 use native.Mathlib.Omega.{arith}
 use denote.Ref.{now}
@@ -11,7 +10,7 @@ use lib.Seq.{sets}
 use Rattle.words.specs.Answers.{Answer, given, refused}
 use Rattle.words.specs.LittleEndian.{bytesOf}
 use Rattle.words.specs.Refusals.{number}
-use Rattle.light_bvh.specs.Build.{LightBVH, nodesReserve}
+use Rattle.light_bvh.specs.Build.{LightBVH}
 use Rattle.text.proofs.PutLaws.{fitting-all, words-fit}
 use Rattle.columns.specs.Report.{reportLamps, reportTree, headerBytes, sizes, taken, nodeBytes, tableBytes}
 use Rattle.columns.proofs.TreeBytes.{sizes-few, nodes-front, table-front, opened-groups}

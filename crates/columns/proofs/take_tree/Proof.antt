@@ -6,7 +6,6 @@ use native.Mathlib.Omega.{arith}
 use denote.Ref.{now}
 use borrow.Author.Needs.{needs}
 use Rattle.words.specs.Answers.{counted, given, _then_}
-use Rattle.words.proofs.AnswerLaws.{not-both}
 use Rattle.columns.specs.Report.{blockBytes, reportTree, blockLamps, sizes}
 use Rattle.columns.specs.ReportLaws.{front-word, lamps-there}
 use Rattle.columns.proofs.TreeBytes.{unbuilt, sizes-given, sizes-refused}

@@ -1,15 +1,16 @@
 -- What is handed to the write is the answer of the very words that were read. Assumes nothing.
-use Prim.Native.Nat.{_-_, _≤_}
+use Prim.Native.Nat.{ℕ, _-_, _≤_}
+use mathlib.Core.List.{List}
 use native.Mathlib.Omega.{arith}
 use denote.Ref.{now}
 use borrow.Author.Needs.{needs}
 use lib.ListN.{length, take}
 use Rattle.text.proofs.PutLaws.{handed}
+use Rattle.lamps_to_block.specs.ListToBlock.{converted}
 use Rattle.lamps_to_block.proofs.AnswerBytes.{converted-room}
 use Rattle.lamps_to_block.proofs.run.Statement.{statement}
 use Rattle.lamps_to_block.proofs.run.Tie as tie
 
--- the answer has room in `out`
 module _ (c : tie.After-answer) where
   abbrev read : tie.After-read-list
   read = c .before .before .before .before .before .before .before .before .before
@@ -17,27 +18,28 @@ module _ (c : tie.After-answer) where
   abbrev start : tie.Start
   start = read .before .before .before .before .before .before .before
 
-  fits : c .answer .result ≤ length (now (start .args .out))
-  fits =
+  -- of the words and the stray bytes that were read
+  abbrev text : List ℕ
+  text = converted (take (read .read-list .result .words - 0) (read .read-list .last .0)) (read .read-list .result .stray)
+
+  room : length text ≤ length (now (start .args .out))
+  room =
       omega (
         arith,
-        c .answer .ensures .1,
         start .pre .2,
-        converted-room (take (read .read-list .result .words - 0) (read .read-list .last .0))
-            (read .read-list .result .stray),
+        converted-room (take (read .read-list .result .words - 0) (read .read-list .last .0)) (read .read-list .result .stray),
       )
 
 part-write-end-2 : tie.Need-part-write-end-2
 part-write-end-2 c =
     let call = c .before .before .before .before .before .before .before in
-    omega (arith, fits call, call .answer .kept .1 .1 .1 .0)
+    omega (arith, room call, call .answer .ensures .1, call .answer .kept .1 .1 .1 .0)
 
 write-requires : tie.Need-write-requires
 write-requires c κs =
     let call = c .before .before .before .before .before .before .before .before in
-    let long = call .answer .ensures .1 in
-    handed (now (start call .args .out)) _ (call .answer .result) (omega (arith, fits call, long))
-    (call .answer .ensures .0) long
+    handed (now (start call .args .out)) (text call) (call .answer .result) (room call) (call .answer .ensures .0)
+    (call .answer .ensures .1)
 
 pub run-spec : {M : Type 1} → statement M
 run-spec =

@@ -1,5 +1,5 @@
 -- The space, then the digits behind it; there is room for all eight. Assumes nothing.
-use Prim.Native.Nat.{_+_, _≤_}
+use Prim.Native.Nat.{_+_}
 use mathlib.Core.Path.{_≡_, ap, _∙_}
 use native.Mathlib.Omega.{arith}
 use denote.Ref.{now}

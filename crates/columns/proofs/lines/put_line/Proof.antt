@@ -1,11 +1,8 @@
 -- A way for each kind of answer; there is room for the longest line. Assumes nothing.
 use Prim.Native.Nat.{_+_, _≤_}
-use mathlib.Core.Path.{_≡_}
-use mathlib.Core.List.{[], _∷_}
 use native.Mathlib.Omega.{arith}
 use denote.Ref.{now}
 use borrow.Author.Needs.{needs}
-use lib.ListN.{length}
 use Rattle.words.specs.Refusals.{number}
 use Rattle.text.specs.Text.{Put, refusalLine}
 use Rattle.text.proofs.PutLaws.{put-fits, refusal-short}
