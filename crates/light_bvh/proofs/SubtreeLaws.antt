@@ -428,14 +428,14 @@ module _ {ws hs work nodes hs′ : List ℕ} {at left : ℕ} (s : Stand ws hs wo
   pub words-length : length (midOf 16 (32 * left - 16) nodes) ≡ 32 * left - 16
   words-length = mid-len 16 (32 * left) nodes (omega (arith, s .size, s .cut .rest))
 
-  pub left-asks : (work′ : List ℕ) → length work′ ≡ length work
+  pub left-asks : (work′ : List ℕ) → left ≤ length work′
       → Asks ws (take (left - 0) hs′) work′ (midOf 16 (32 * left - 16) nodes) (at + 1)
-  left-asks work′ same =
+  left-asks work′ room =
       let some = s .cut .some in
       let rest = s .cut .rest in
       let n = front-length in
       let m = words-length in
-      (omega (arith, n), (omega (arith, n, s .room), (omega (arith, n, m), (omega (arith, n, s .fits), s .labels))))
+      (omega (arith, n), (omega (arith, n), (omega (arith, n, m), (omega (arith, n, s .fits), s .labels))))
 
   module _ (h1 n1 : List ℕ) (same-h : length h1 ≡ length (take (left - 0) hs′)) (same-n : length n1 ≡ length (midOf 16 (32 * left - 16) nodes)) where
     pub handles-left : length (handlesLeft left hs′ h1) ≡ length hs
@@ -458,16 +458,16 @@ module _ {ws hs work nodes hs′ : List ℕ} {at left : ℕ} (s : Stand ws hs wo
     pub words-right : length (midOf (32 * left) (length (nodesLeft left nodes n1) - 32 * left) (nodesLeft left nodes n1)) ≡ length nodes - 32 * left
     words-right = mid-len (32 * left) (length (nodesLeft left nodes n1)) (nodesLeft left nodes n1) (omega arith) ∙ ap (λ (k : ℕ). k - 32 * left) nodes-left
 
-    pub right-asks : (work′ : List ℕ) → length work′ ≡ length work
+    pub right-asks : (work′ : List ℕ) → length hs - left ≤ length work′
         → Asks ws (midOf left (length hs - left) (handlesLeft left hs′ h1)) work′
         (midOf (32 * left) (length (nodesLeft left nodes n1) - 32 * left) (nodesLeft left nodes n1)) (at + 2 * left)
-    right-asks work′ same =
+    right-asks work′ room =
         let some = s .cut .some in
         let rest = s .cut .rest in
         let n = back-length in
         let m = words-right in
         let size = s .size in
-        (omega (arith, n), (omega (arith, n, s .room), (omega (arith, n, m), (omega (arith, n, s .fits), s .labels))))
+        (omega (arith, n), (omega (arith, n), (omega (arith, n, m), (omega (arith, n, s .fits), s .labels))))
 
     pub root-length : length (take 16 nodes) ≡ nodeWords
     root-length = length-take-le 16 nodes (omega (arith, s .size, s .cut .some, s .cut .rest))

@@ -123,7 +123,7 @@ pub(crate) fn build_subtree(
             match build_subtree(
                 block,
                 &mut handles[0..left],
-                work,
+                &mut work[0..left],
                 &mut nodes[NODE_WORDS..2 * NODE_WORDS * left],
                 at + 1,
                 at,
@@ -131,7 +131,7 @@ pub(crate) fn build_subtree(
                 Subtree::Built => match build_subtree(
                     block,
                     &mut handles[left..n],
-                    work,
+                    &mut work[0..n - left],
                     &mut nodes[2 * NODE_WORDS * left..],
                     at + 2 * left as u32,
                     at,

@@ -7,6 +7,7 @@ use native.Mathlib.Nat.{le-refl}
 use native.Mathlib.Omega.{arith}
 use denote.Ref.{now}
 use lib.ListN.{length, take, drop}
+use lib.Seq.{length-take-le}
 use Rattle.words.specs.Answers.{given, counted}
 use Rattle.light_bvh.specs.Subtree.{subtree, done, subtreeWords, splitCount}
 use Rattle.light_bvh.specs.declared.subtree.Subtree.{Subtree}
@@ -121,6 +122,13 @@ module _ (t : ℕ) where
   numbers : (c : Told) → Numbers (length (stretch c)) (length (nodesOf c)) (start c .args .at) (left c)
   numbers c = let s = stand c in record { some = s .cut .some; rest = s .cut .rest; size = s .size; fits = s .fits }
 
+  -- the work's front is as long as the left half
+  work-within : (c : Told) → left c ≤ length (tray c)
+  work-within c = let s = stand c in omega (arith, s .room, s .cut .rest)
+
+  work-front : (c : Told) → length (take (left c - 0) (tray c)) ≡ left c
+  work-front c = length-take-le (left c - 0) (tray c) (omega (arith, work-within c)) ∙ omega arith
+
   at-fits : (c : Told) → start c .args .at + 1 < 2 ^ 30
   at-fits c = let n = numbers c in omega arith
 
@@ -153,20 +161,23 @@ module _ (t : ℕ) where
       let e : left c ≤ length (parted c) = omega (arith, s .cut .rest, s .cut .same) in
       e
 
+  part-build-subtree-end-2 : lts.Need-part-build-subtree-end-2 (calls t) (before t) build-subtree.Post
+  part-build-subtree-end-2 c = work-within (c .before)
+
   mul-build-subtree-2 : lts.Need-mul-build-subtree-2 (calls t) (before t) build-subtree.Post
   mul-build-subtree-2 c = let n = numbers (c .before .before) in omega arith
 
-  sub-build-subtree-2 : lts.Need-sub-build-subtree-2 (calls t) (before t) build-subtree.Post
-  sub-build-subtree-2 c = let n = numbers (c .before .before) in omega arith
+  sub-build-subtree-3 : lts.Need-sub-build-subtree-3 (calls t) (before t) build-subtree.Post
+  sub-build-subtree-3 c = let n = numbers (c .before .before) in omega arith
 
-  part-build-subtree-start-2 : lts.Need-part-build-subtree-start-2 (calls t) (before t) build-subtree.Post
-  part-build-subtree-start-2 c =
+  part-build-subtree-start-3 : lts.Need-part-build-subtree-start-3 (calls t) (before t) build-subtree.Post
+  part-build-subtree-start-3 c =
       let n = numbers (c .before .before) in
       let e : 16 ≤ 32 * left (c .before .before) = omega arith in
       e
 
-  part-build-subtree-end-2 : lts.Need-part-build-subtree-end-2 (calls t) (before t) build-subtree.Post
-  part-build-subtree-end-2 c =
+  part-build-subtree-end-3 : lts.Need-part-build-subtree-end-3 (calls t) (before t) build-subtree.Post
+  part-build-subtree-end-3 c =
       let n = numbers (c .before .before) in
       let e : 32 * left (c .before .before) ≤ length (nodesOf (c .before .before)) = omega arith in
       e
@@ -176,8 +187,10 @@ module _ (t : ℕ) where
 
   build-subtree-requires : lts.Need-build-subtree-requires (calls t) (before t) build-subtree.Post
   build-subtree-requires c κs =
-      let s = stand (c .before .before .before) in
-      (omega (arith, front-length s, s .cut .rest, start (c .before .before .before) .pre .0), left-asks s (tray (c .before .before .before)) refl)
+      let p = c .before .before .before in
+      let s = stand p in
+      let work = take (left p - 0) (tray p) in
+      (omega (arith, front-length s, s .cut .rest, start p .pre .0), left-asks s work (omega (arith, work-front p)))
 
   -- ---- the right tree
 
@@ -193,8 +206,24 @@ module _ (t : ℕ) where
   same-n : (f : First) → length (n1 f) ≡ length (midOf 16 (32 * left (told f) - 16) (nodesOf (told f)))
   same-n f = f .build-subtree .kept .1 .1 .1 .0
 
-  same-tray : (f : First) → length (f .build-subtree .last .1 .1 .0) ≡ length (tray (told f))
-  same-tray f = f .build-subtree .kept .1 .1 .0
+  abbrev w1 : First → List ℕ
+  w1 f = f .build-subtree .last .1 .1 .0
+
+  abbrev tray1 : First → List ℕ
+  tray1 f = handlesLeft (left (told f)) (tray (told f)) (w1 f)
+
+  same-tray : (f : First) → length (tray1 f) ≡ length (tray (told f))
+  same-tray f = same-len-mid 0 (left (told f) - 0) (tray (told f)) (w1 f) (f .build-subtree .kept .1 .1 .0)
+
+  -- the work's front is as long as the right half
+  rest-within : (f : First) → let c = told f in length (stretch c) - left c ≤ length (tray1 f)
+  rest-within f = let s = stand (told f) in omega (arith, s .room, same-tray f)
+
+  rest-front : (f : First) → let c = told f in
+      length (take (length (stretch c) - left c - 0) (tray1 f)) ≡ length (stretch c) - left c
+  rest-front f =
+      let c = told f in
+      length-take-le (length (stretch c) - left c - 0) (tray1 f) (omega (arith, rest-within f)) ∙ omega arith
 
   abbrev handles : First → List ℕ
   handles f = handlesLeft (left (told f)) (parted (told f)) (h1 f)
@@ -211,21 +240,27 @@ module _ (t : ℕ) where
   mul-build-subtree-3 : lts.Need-mul-build-subtree-3 (calls t) (before t) build-subtree.Post
   mul-build-subtree-3 c = let n = numbers (told (c .before .before .before .before .before .before .before .before)) in omega arith
 
-  sub-build-subtree-3 : lts.Need-sub-build-subtree-3 (calls t) (before t) build-subtree.Post
-  sub-build-subtree-3 c = let n = numbers (told (c .before .before .before .before .before .before .before .before)) in omega arith
+  sub-build-subtree-4 : lts.Need-sub-build-subtree-4 (calls t) (before t) build-subtree.Post
+  sub-build-subtree-4 c = let n = numbers (told (c .before .before .before .before .before .before .before .before)) in omega arith
 
-  part-build-subtree-start-3 : lts.Need-part-build-subtree-start-3 (calls t) (before t) build-subtree.Post
-  part-build-subtree-start-3 c =
+  part-build-subtree-start-4 : lts.Need-part-build-subtree-start-4 (calls t) (before t) build-subtree.Post
+  part-build-subtree-start-4 c =
       let f = c .before .before .before .before .before .before .before .before in
       let n = numbers (told f) in
       let e : left (told f) ≤ length (stretch (told f)) = omega arith in
       e
 
-  part-build-subtree-end-3 : lts.Need-part-build-subtree-end-3 (calls t) (before t) build-subtree.Post
-  part-build-subtree-end-3 c =
+  part-build-subtree-end-4 : lts.Need-part-build-subtree-end-4 (calls t) (before t) build-subtree.Post
+  part-build-subtree-end-4 c =
       let f = c .before .before .before .before .before .before .before .before in
       let e : length (stretch (told f)) ≤ length (handles f) = omega (arith, handles-length f) in
       e
+
+  sub-build-subtree-5 : lts.Need-sub-build-subtree-5 (calls t) (before t) build-subtree.Post
+  sub-build-subtree-5 c = let n = numbers (told (c .before .before .before .before .before .before .before .before .before)) in omega arith
+
+  part-build-subtree-end-5 : lts.Need-part-build-subtree-end-5 (calls t) (before t) build-subtree.Post
+  part-build-subtree-end-5 c = rest-within (c .before .before .before .before .before .before .before .before .before)
 
   mul-build-subtree-5 : lts.Need-mul-build-subtree-5 (calls t) (before t) build-subtree.Post
   mul-build-subtree-5 c = let n = numbers (told (c .before .before .before .before .before .before .before .before .before .before)) in omega arith
@@ -248,9 +283,10 @@ module _ (t : ℕ) where
   build-subtree-requires-2 : lts.Need-build-subtree-requires-2 (calls t) (before t) build-subtree.Post
   build-subtree-requires-2 c κs =
       let f = c .before .before .before .before .before .before .before .before .before .before .before in
-      let s = stand (told f) in (
+      let s = stand (told f) in
+      let work = take (length (stretch (told f)) - left (told f) - 0) (tray1 f) in (
         omega (arith, back-length s (h1 f) (n1 f) (same-h f) (same-n f), s .cut .some, s .cut .rest, start (told f) .pre .0),
-        right-asks s (h1 f) (n1 f) (same-h f) (same-n f) (f .build-subtree .last .1 .1 .0) (same-tray f),
+        right-asks s (h1 f) (n1 f) (same-h f) (same-n f) work (omega (arith, rest-front f)),
       )
 
   -- ---- the node over both
@@ -287,8 +323,15 @@ module _ (t : ℕ) where
   tray-length : (c : Told) → length (tray c) ≡ length (now (start c .args .work))
   tray-length c = c .before .before .before .before .before .before .before .split-stretch .kept .1 .1 .0
 
-  tray2-length : (s : Second) → length (s .build-subtree2 .last .1 .1 .0) ≡ length (now (start (told (first s)) .args .work))
-  tray2-length s = s .build-subtree2 .kept .1 .1 .0 ∙ same-tray (first s) ∙ tray-length (told (first s))
+  abbrev w2 : Second → List ℕ
+  w2 s = s .build-subtree2 .last .1 .1 .0
+
+  tray2-length : (s : Second) → let c = told (first s) in
+      length (handlesLeft (length (stretch c) - left c) (tray1 (first s)) (w2 s)) ≡ length (now (start c .args .work))
+  tray2-length s =
+      let c = told (first s) in
+      same-len-mid 0 (length (stretch c) - left c - 0) (tray1 (first s)) (w2 s) (s .build-subtree2 .kept .1 .1 .0)
+      ∙ same-tray (first s) ∙ tray-length c
 
   -- ---- and the trees
 
@@ -350,10 +393,12 @@ pub +build-subtree-spec : {M : Type 1} → statement M
 +build-subtree-spec =
     close μ (λ t. lts.spec (calls t) (before t) build-subtree.Post
     (slice-read-label t) (λ c κs. tt) (slice-read-light t) (λ c κs. tt) (λ c κs. tt) (λ c. c .before .before .write-leaf .kept .0) (returns t)
-    (split-stretch-requires t) (λ c. search needs) (λ c. zero-le) (λ c. zero-le) (part-build-subtree-end t) (λ c. search needs) (mul-build-subtree-2 t)
-    (sub-build-subtree-2 t) (part-build-subtree-start-2 t) (part-build-subtree-end-2 t) (add-build-subtree t) (build-subtree-requires t)
-    (λ c. search needs) (mul-build-subtree-3 t) (sub-build-subtree-3 t) (part-build-subtree-start-3 t)
-    (part-build-subtree-end-3 t) (λ c. search needs) (mul-build-subtree-5 t)
+    (split-stretch-requires t) (λ c. search needs) (λ c. zero-le) (λ c. zero-le) (part-build-subtree-end t) (λ c. zero-le) (λ c. zero-le)
+    (part-build-subtree-end-2 t) (λ c. search needs) (mul-build-subtree-2 t)
+    (sub-build-subtree-3 t) (part-build-subtree-start-3 t) (part-build-subtree-end-3 t) (add-build-subtree t) (build-subtree-requires t)
+    (λ c. search needs) (mul-build-subtree-3 t) (sub-build-subtree-4 t) (part-build-subtree-start-4 t)
+    (part-build-subtree-end-4 t) (sub-build-subtree-5 t) (λ c. zero-le) (λ c. zero-le)
+    (part-build-subtree-end-5 t) (λ c. search needs) (mul-build-subtree-5 t)
     (mul-build-subtree-6 t) (λ c. words-within t (c .before .before .before .before .before .before .before .before .before .before))
     (λ c. words-within t (c .before .before .before .before .before .before .before .before .before .before)) (λ c. le-refl _) (cast-build-subtree t)
     (mul-build-subtree-7 t) (add-build-subtree-2 t) (build-subtree-requires-2 t) (λ c. search needs)
