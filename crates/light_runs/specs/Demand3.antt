@@ -1,7 +1,9 @@
--- Demand 3, of the definitions of build, draw and chance by name: what document 01 says of it in the last paragraph of its Agreement, a field a sentence
--- (`Demand3`), and that it holds of every block that build accepts (`demand-3`). Beside it, in a planner's words: the u that draw a lamp are those from one
--- float to another, perhaps none (`u-from-to`). Demand 3 speaks of the nodes' words alone; of the whole tray that build leaves them in, with zeros behind, draws
--- and chances are the same where a lamp has power (`tray-same`), and 12 where none has (`tray-dark`). DemandWords has the words of the sentences. Assumes nothing.
+-- Demand 3, of the definitions of build, draw and chance by name: what document 01 says of it in the last paragraph of
+-- its Agreement, a field a sentence (`Demand3`), and that it holds of every block that build accepts (`demand-3`).
+-- Beside it, in a planner's words: the u that draw a lamp are those from one float to another, perhaps none
+-- (`u-from-to`). Demand 3 speaks of the nodes' words alone; of the whole tray that build leaves them in, with zeros
+-- behind, draws and chances are the same where a lamp has power (`tray-same`), and 12 where none has (`tray-dark`).
+-- DemandWords has the words of the sentences. Assumes nothing.
 use Prim.Native.Nat.{ℕ, _*_, _-_, _≤_, _<_}
 use mathlib.Core.Path.{_≡_, refl, sym}
 use mathlib.Core.List.{List}
@@ -86,7 +88,8 @@ module _ (lights : ℕ) (ws : List ℕ) (nodesLent tableLent workLent : ℕ) (b 
   left before = tray nodesWritten (nodesReserve (b .rows)) (given b) before
 
   module _ (before : List ℕ) (reserved : length before ≡ nodesReserve (b .rows)) (q : Query) where
-    -- For k above 0 a draw, and a chance by name, over the whole tray are those over its first 16 (2 k - 1) words, with the places that they enter.
+    -- For k above 0 a draw, and a chance by name, over the whole tray are those over its first 16 (2 k - 1) words, with
+    -- the places that they enter.
     pub tray-same : 0 < b .k
         → ((u : Float) → sampleWalk (bytesOf (left before)) q u ≡ sampleWalk (nodes b) q u)
         × ((h : ℕ) → pmfWalk (bytesOf (left before)) (table b) q h ≡ pmfWalk (nodes b) (table b) q h)
@@ -99,10 +102,13 @@ module _ (lights : ℕ) (ws : List ℕ) (nodesLent tableLent workLent : ℕ) (b 
             → ((u : Float) → sampleWalk (bytesOf (left before)) q u ≡ sampleWalk (nodes b) q u)
             × ((h : ℕ) → pmfWalk (bytesOf (left before)) (table b) q h ≡ pmfWalk (nodes b) (table b) q h)
         go none is = absurd (omega (arith, accepted-none ws b parts is))
-        go (some t) is = rw (tray-is ws b parts before reserved) (draw-same ws b parts t is q, name-same ws b parts t is q)
+        go (some t) is =
+            rw (tray-is ws b parts before reserved) (draw-same ws b parts t is q, name-same ws b parts t is q)
 
-    -- With lamps of which none has power the whole tray is zeros, and no node: hand on exactly 16 (2 k - 1) words, here none.
-    pub tray-dark : b .k ≡ 0 → 0 < b .rows → (u : Float) → FromZeroToOne u → sample (bytesOf (left before)) q u ≡ refused 12
+    -- With lamps of which none has power the whole tray is zeros, and no node: hand on exactly 16 (2 k - 1) words, here
+    -- none.
+    pub tray-dark : b .k ≡ 0 → 0 < b .rows → (u : Float) → FromZeroToOne u
+        → sample (bytesOf (left before)) q u ≡ refused 12
     tray-dark dark some-lamp u unit =
         let parts = accepted-parts lights ws nodesLent tableLent workLent b accepted in
         rw (tray-is ws b parts before reserved) (dark-tray ws b parts dark some-lamp q u unit)

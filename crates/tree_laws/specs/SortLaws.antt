@@ -1,6 +1,6 @@
--- The Rust's sort changes no build: handles ascend in every stretch (StretchLaws), so `partition_handles` with its sort gives
--- the halves that it gives without (`partition-sorting`), and the whole build, its refusals too, is `buildLightBvh` for every
--- light record count, block and lent length (`build-sorting`). Assumes nothing.
+-- The Rust's sort changes no build: handles ascend in every stretch (StretchLaws), so `partition_handles` with its
+-- sort gives the halves that it gives without (`partition-sorting`), and the whole build, its refusals too, is
+-- `buildLightBvh` for every light record count, block and lent length (`build-sorting`). Assumes nothing.
 use Prim.Native.Nat.{ℕ, zero, suc, _/_}
 use mathlib.Core.Path.{_≡_, refl, ap}
 use mathlib.Core.Bool.{Bool, true, false, cond, _||_}
@@ -17,9 +17,11 @@ use Rattle.light_nodes.specs.Tree.{Tree, fork, bounds}
 use Rattle.light_split.specs.Partition.{lefts, rights, partitionHandles}
 use Rattle.light_split.specs.Split.{chooseSplit}
 use Rattle.light_split.specs.declared.split.Split.{Split}
-use Rattle.light_bvh.specs.Build.{LightBVH, boundedHandles, allBounds, validated, treeOf, builtBvh, buildCheck, buildLightBvh}
+use Rattle.light_bvh.specs.Build.{LightBVH, boundedHandles, allBounds, validated, treeOf}
+use Rattle.light_bvh.specs.Build.{builtBvh, buildCheck, buildLightBvh}
 use Rattle.light_bvh.specs.Subtree.{forked, treeBy, buildSubtree}
-use Rattle.tree_laws.specs.StretchLaws.{Ascends, no-length, sorted, sort-changes-nothing, partition-ascends, bounded-ascends}
+use Rattle.tree_laws.specs.StretchLaws.{Ascends, no-length, sorted, sort-changes-nothing}
+use Rattle.tree_laws.specs.StretchLaws.{partition-ascends, bounded-ascends}
 use Rattle.tree_laws.specs.SortingBuild.{partitionSorting, forkedSorting, treeBySorting, subtreeSorting}
 use Rattle.tree_laws.specs.SortingBuild.{treeSorting, builtSorting, buildSorting}
 
@@ -67,7 +69,8 @@ module _ (ws : List ℕ) where
 
   pub subtree-sorting : (n : ℕ) (hs : List ℕ) → Ascends hs → subtreeSorting ws n hs ≡ buildSubtree ws n hs
   unfolding subtreeSorting buildSubtree
-  subtree-sorting zero hs h = tree-sorting (λ (_ : List ℕ). refused 12) (λ (_ : List ℕ). refused 12) (λ _ _. refl) hs h
+  subtree-sorting zero hs h =
+      tree-sorting (λ (_ : List ℕ). refused 12) (λ (_ : List ℕ). refused 12) (λ _ _. refl) hs h
   subtree-sorting (suc n) hs h =
       tree-sorting (λ (hs : List ℕ). subtreeSorting ws n hs) (λ (hs : List ℕ). buildSubtree ws n hs)
       (λ hs h. subtree-sorting n hs h) hs h

@@ -1,6 +1,6 @@
--- `build_light_bvh` with `partition_handles` as `light_bvh.rs` has it: where a half is empty it sorts the handles before
--- it cuts them at the middle. Definitions only: `SortLaws` has that this is `buildLightBvh`, which does not sort. Assumes
--- nothing.
+-- `build_light_bvh` with `partition_handles` as `light_bvh.rs` has it: where a half is empty it sorts the handles
+-- before it cuts them at the middle. Definitions only: `SortLaws` has that this is `buildLightBvh`, which does not
+-- sort. Assumes nothing.
 use Prim.Native.Nat.{ℕ, zero, suc, _/_}
 use mathlib.Core.Bool.{cond, _||_}
 use mathlib.Core.List.{List, [], _∷_, _++_}
@@ -32,7 +32,8 @@ partitionSorting ws hs s =
 unfoldable pub forkedSorting : List ℕ → List ℕ → (List ℕ → Answer Tree) → Answer Tree
 forkedSorting ws hs build =
     chooseSplit ws hs then λ (s : Split). build (partitionSorting ws hs s .0) then λ (l : Tree).
-    build (partitionSorting ws hs s .1) then λ (r : Tree). union (bounds l) (bounds r) then λ (b : LightBounds). given (fork b l r)
+    build (partitionSorting ws hs s .1) then λ (r : Tree). union (bounds l) (bounds r) then λ (b : LightBounds).
+    given (fork b l r)
 
 unfoldable pub treeBySorting : List ℕ → List ℕ → (List ℕ → Answer Tree) → Answer Tree
 treeBySorting ws [] build = refused 12
