@@ -382,7 +382,8 @@ static inline uint32_t light_pmf_refusal(uint64_t answer)
  * Answers how many words were packed, light_packed_words(n) (light_pack_words); 2^32 where there is
  * no tree: no nodes, k 0 and no box (light_pack_is_none); or 2^33 and the refusal's number
  * (light_pack_refusal): 2, 1, 3; 12 where nodes, k and box do not agree; 5 or 6 of the box; then by
- * the first node that is refused 12, 5 to 8, 13 or 12.
+ * the first node that is refused 12 of its kind or side, 5 to 8 of its record, 13, or 12 of its parent
+ * or of a left child that is not the next node.
  *
  * Writes `out`, BYTES, reserve light_packed_bytes(n): words, the lowest byte first. Eight of header,
  * box min 3, 0, box max 3, 0; then eight a node, the first of a pair in the lower bits:
