@@ -1,4 +1,4 @@
--- The rows of document 01's table "Refusals and trays": the number of each. Definitions only. Assumes nothing.
+-- The refusals of docs/REQUIREMENTS.md R11: the number of each. Definitions only. Assumes nothing.
 -- tools/refusals makes the lines below of src/refusals.rt.
 use Prim.Native.Nat.{ℕ}
 use Rattle.words.specs.declared.refusals.Refusal.{Refusal}

@@ -1,7 +1,7 @@
 ghost use mathlib.Core.Path.{_≡_};
 ghost use Rattle.words.specs.Refusals.{number};
 
-// Why a call was refused: name, number and sentence of each row of document 01's table "Refusals and trays".
+// Why a call was refused: name, number and sentence of each refusal of docs/REQUIREMENTS.md R11.
 // They are told here alone. tools/refusals makes `refusal_number`, specs/Refusals.antt and the tables in
 // include/light_tree.h, rust/light_tree/src/refusal.rs and README.md of them, and fails where one differs.
 pub enum Refusal {
