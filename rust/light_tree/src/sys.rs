@@ -68,8 +68,9 @@ unsafe extern "C" {
     ) -> u32;
 }
 
+/// The refusal of a number. Another library may answer one that this crate does not know.
 fn refusal(number: u32) -> Refusal {
-    Refusal::from_number(number).unwrap_or_else(|| unreachable!("light_c has no refusal {number}"))
+    Refusal::from_number(number).unwrap_or(Refusal::Unknown(number))
 }
 
 /// 0, or a refusal's number.
@@ -168,4 +169,19 @@ pub(crate) fn alias_table(weights: &[f32], bins: &mut [PowerAliasBin], work: &mu
     let (work, work_len) = (work.as_mut_ptr().cast(), 3 * work.len());
     // SAFETY: as said above; `PowerAliasBin` is `repr(C)`, two floats and a word.
     done(unsafe { light_alias_table(weights.as_ptr().cast(), weights.len(), bins, bins_len, work, work_len) })
+}
+
+#[cfg(test)]
+mod tests {
+    use super::*;
+
+    /// A number is its refusal, whatever library answers it.
+    #[test]
+    fn unknown_numbers() {
+        assert_eq!([done(0), done(11), done(1000)], [Ok(()), Err(Refusal::BadU), Err(Refusal::Unknown(1000))]);
+        for number in 1..=1000 {
+            assert_eq!(refusal(number).number(), number);
+        }
+        assert!(refusal(1000).to_string().contains("another version"));
+    }
 }
