@@ -70,8 +70,7 @@ enum light_refusals {
     LIGHT_NOT_FINITE = 5,
     /* a box has a min above its max */
     LIGHT_INVERTED = 6,
-    /* a direction, a normal or the way from a box's centre to the point has no length to divide
-       by */
+    /* a direction, normal or way from a box's centre to the point has no length to divide by */
     LIGHT_NO_DIRECTION = 7,
     /* an emission, intensity, scale, weight, power or cosine is out of its range */
     LIGHT_OUT_OF_RANGE = 8,
@@ -81,8 +80,8 @@ enum light_refusals {
     LIGHT_LOST_UNION = 10,
     /* u is not a number from 0 to 1 */
     LIGHT_BAD_U = 11,
-    /* the nodes are no tree (a wrong kind, side, index or child, an endless walk), or k or box
-       does not fit them */
+    /* the nodes are no tree (wrong kind, side, index or child, endless walk), or k or box
+       differs */
     LIGHT_BROKEN_TREE = 12,
     /* a packed handle or child is above 2^31 - 1 */
     LIGHT_TOO_WIDE = 13

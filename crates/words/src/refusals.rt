@@ -17,7 +17,7 @@ pub enum Refusal {
     NotFinite = 5,
     // a box has a min above its max
     Inverted = 6,
-    // a direction, a normal or the way from a box's centre to the point has no length to divide by
+    // a direction, normal or way from a box's centre to the point has no length to divide by
     NoDirection = 7,
     // an emission, intensity, scale, weight, power or cosine is out of its range
     OutOfRange = 8,
@@ -27,7 +27,7 @@ pub enum Refusal {
     LostUnion = 10,
     // u is not a number from 0 to 1
     BadU = 11,
-    // the nodes are no tree (a wrong kind, side, index or child, an endless walk), or k or box does not fit them
+    // the nodes are no tree (wrong kind, side, index or child, endless walk), or k or box differs
     BrokenTree = 12,
     // a packed handle or child is above 2^31 - 1
     TooWide = 13,

@@ -147,7 +147,7 @@ fn refused_benches() {
       3 refused 11: u is not a number from 0 to 1
       5     1     2  0.5            0.5            3f000000 3f000000      0  1.0000000
       6 refused 5: a coordinate or a value of a record is infinite or NaN, such as a power that overflows
-      7 refused 7: a direction, a normal or the way from a box's centre to the point has no length to divide by
+      7 refused 7: a direction, normal or way from a box's centre to the point has no length to divide by
       8     0     1  0.5            0.5            3f000000 3f000000      0  1.0000000
 # 7 benches: 4 drawn, 0 none, 3 refused
 # both chances are the same in every row

@@ -75,12 +75,12 @@ refusals! {
     Misplaced = 4, "a handle is not its lamp's place";
     NotFinite = 5, "a coordinate or a value of a record is infinite or NaN, such as a power that overflows";
     Inverted = 6, "a box has a min above its max";
-    NoDirection = 7, "a direction, a normal or the way from a box's centre to the point has no length to divide by";
+    NoDirection = 7, "a direction, normal or way from a box's centre to the point has no length to divide by";
     OutOfRange = 8, "an emission, intensity, scale, weight, power or cosine is out of its range";
     NoArea = 9, "a triangle's area is not a finite number above 0, or a group has no triangle";
     LostUnion = 10, "bounds of lamps or triangles cannot be joined, since some fail their check";
     BadU = 11, "u is not a number from 0 to 1";
-    BrokenTree = 12, "the nodes are no tree (a wrong kind, side, index or child, an endless walk), or k or box does not fit them";
+    BrokenTree = 12, "the nodes are no tree (wrong kind, side, index or child, endless walk), or k or box differs";
     TooWide = 13, "a packed handle or child is above 2^31 - 1";
 }
 
