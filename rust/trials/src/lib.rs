@@ -25,12 +25,6 @@ pub mod rooms;
 pub mod runs;
 pub mod standins;
 pub mod stored;
-pub mod stored_alias;
-pub mod stored_bounds;
-pub mod stored_lamps;
-pub mod stored_packed;
-pub mod stored_trees;
-pub mod stored_walks;
 pub mod timing;
 #[cfg(reference)]
 pub mod tree_runs;

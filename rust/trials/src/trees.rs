@@ -40,7 +40,7 @@ pub fn lent(trays: &mut [Vec<u32>; 4]) -> Trays<'_> {
 }
 
 /// How many light records there are, a block, and how many words are lent for each tray.
-#[derive(Clone, Debug)]
+#[derive(Clone, Debug, PartialEq)]
 pub struct Case {
     pub light_count: u32,
     pub block: Vec<u32>,

@@ -10,13 +10,12 @@ use crate::lists::MOST_LAMPS;
 use crate::records::Query;
 use crate::reference::oracle::light_bounds::LightBounds;
 use crate::reference::oracle::light_bvh::{bvh_light_sampler_pmf, bvh_light_sampler_sample, LightBVH, LightBVHNode};
-use crate::reference::{self, mark, native, native_of_node, number, of_node, oracle_of_words, three, Branch, PbrtError};
+use crate::reference::{mark, native, native_of_node, number, of_node, oracle_of_words, three, Branch, PbrtError};
 use crate::reference::{
     CHILDLESS_PARENT, CROWDED, NOT_OWNED, PAST_LEAF, PAST_LEFT, PAST_PARENT, PAST_RIGHT, RAGGED, SPENT_CHANCE, SPENT_DRAW,
     UNKNOWN_NODE, UNKNOWN_PARENT, UNKNOWN_SIDE,
 };
 use crate::standins::{self, word};
-use crate::stored_walks::Walks;
 use crate::trees::{INTERIOR, LEAF, NODE, PAYLOAD};
 use crate::walks::{words, Chance, Drawn, Tree, MOST_NODES, NODE_BYTES, NONE};
 
@@ -241,11 +240,3 @@ fn ascend(nodes: &[Part], table: &[u32], p: Vector, n: Vector, handle: u32) -> R
     }
     Err(PbrtError(SPENT_CHANCE))
 }
-
-/// The oracle as the stored answers take it.
-pub const ORACLE: Walks = Walks {
-    build: reference::build_light_bvh,
-    weigh: reference::importance,
-    draw: |tree, query, u| Decoded::new(tree).sample(query, u),
-    chance: |tree, query, handle| Decoded::new(tree).pmf(query, handle),
-};

@@ -1,9 +1,8 @@
-//! The differential runs of the gate: the proved alias table against the oracle, its stored answers, and the limits.
+//! The differential runs of the gate: the proved alias table against the oracle, and the limits.
 
 use coltoctober::lists::MOST_LAMPS;
 use coltoctober::proved::alias_build_power_alias_table;
-use coltoctober::stored::{check, PATTERN};
-use coltoctober::stored_alias::Stored;
+use coltoctober::stored::PATTERN;
 
 /// The answer, and the bins and the work after the call.
 fn built(weights: &[f32], rooms: [usize; 2]) -> (Result<(), u32>, [Vec<u32>; 2]) {
@@ -29,12 +28,6 @@ fn bins(weights: &[f32]) -> Vec<[u32; 3]> {
     assert_eq!((answer, bins[3 * m], work[4 * m]), (Ok(()), PATTERN, PATTERN));
     assert!(work[..4 * m].iter().all(|word| *word == 0));
     bins.as_chunks().0.to_vec()
-}
-
-/// The oracle's stored answers, with no need of the reference.
-#[test]
-fn stored_answers() {
-    check::<Stored>(2000);
 }
 
 /// Document 01's case and the corners of sums: no power, a weight -0, a sum past the largest f32.

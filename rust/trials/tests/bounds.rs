@@ -1,11 +1,8 @@
-//! The differential runs of the gate: the proved cosines and arcs against document 01's, the proved bounds against the oracle, and
-//! the stored answers of both.
+//! The differential runs of the gate: the proved cosines and arcs against document 01's, the proved bounds against the oracle.
 
 use coltoctober::cases::Random;
 use coltoctober::functions::Function;
 use coltoctober::proved;
-use coltoctober::stored::check;
-use coltoctober::stored_bounds::Stored;
 
 const CASES: u64 = 1_000_000;
 
@@ -43,12 +40,6 @@ fn marked_angles() {
     assert_eq!(proved::cos(of(0x3fc9_0fdb)).to_bits(), 0xb33b_bd2e);
     assert_eq!(proved::acos(of(0xbf80_0000)).to_bits(), 0x4049_0fdb);
     assert_eq!(proved::asin(of(0x3f80_0000)).to_bits(), 0x3fc9_0fdb);
-}
-
-/// The oracle's stored answers, with no need of the reference.
-#[test]
-fn stored_answers() {
-    check::<Stored>(3000);
 }
 
 /// Lengths that are no record's, no query's and no tray's; 1 comes before 3, and neither writes.

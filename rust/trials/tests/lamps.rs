@@ -1,13 +1,12 @@
-//! The differential runs of the gate: the proved lamp lists and blocks against the oracle, its stored answers, the limits, and the
-//! program that turns lists into blocks.
+//! The differential runs of the gate: the proved lamp lists and blocks against the oracle, the limits, and the program
+//! that turns lists into blocks.
 
 use coltoctober::blocks;
 use coltoctober::cases::Random;
 use coltoctober::lists::{list_of, wrapping_count, Kind, BLOCK_RECORD, KINDS, MOST_LAMPS, MOST_WORDS};
 use coltoctober::programs;
 use coltoctober::proved::{lamps_build_light_bounds, lamps_check_block};
-use coltoctober::stored::{check, PATTERN};
-use coltoctober::stored_lamps::Stored;
+use coltoctober::stored::PATTERN;
 
 /// The answer, and the block of so many words after the call.
 fn built(list: &[u32], room: usize) -> (Result<(), u32>, Vec<u32>) {
@@ -36,12 +35,6 @@ fn triangle(area: f32) -> Vec<u32> {
 fn group(emission: f32, triangles: &[Vec<u32>]) -> Vec<u32> {
     let head = [3 << 30, emission.to_bits(), 1f32.to_bits(), 0, triangles.len() as u32];
     [&head[..], &triangles.concat()].concat()
-}
-
-/// The oracle's stored answers, with no need of the reference.
-#[test]
-fn stored_answers() {
-    check::<Stored>(2000);
 }
 
 /// Every cut and every room of a list of all kinds, and its order of refusals.

@@ -1,4 +1,4 @@
-//! The differential runs of the gate: the proved packing against the oracle over built and damaged words, and its stored answers.
+//! The differential runs of the gate: the proved packing against the oracle over built and damaged words.
 //! Document 01's marked cases and others known by hand are asked of the proved functions, and of the oracle where it is there.
 
 use coltoctober::both::{build_light_bvh, pack_light_bvh};
@@ -91,12 +91,6 @@ fn marked_cases() {
         let [x, y, z] = direction.map(f32::to_bits);
         assert_eq!(pair.changed(&[(1, 9, x), (1, 10, y), (1, 11, z)]).packed()[1][3], word, "{direction:?}");
     }
-}
-
-/// The oracle's stored answers, with no need of the reference.
-#[test]
-fn stored_answers() {
-    coltoctober::stored::check::<coltoctober::stored_packed::Stored>(68);
 }
 
 /// The C function's own: how the box is handed over. Any mark but 0 says that it is there; without it the corners are not read, and it
@@ -296,15 +290,5 @@ coltoctober::differential! {
         let tally = coltoctober::pack_runs::each_word(0, 2);
         println!("each word: {tally}");
         tally.check(&[0, 3, 5, 6, 7, 8, 12, 13], &["error 12: Light BVH node", "error 12: a packed", "room"]);
-    }
-
-    /// The cases that a program replays are the oracle's.
-    fn stored_sample() {
-        use coltoctober::stored::{cases, Answer, Case};
-        use coltoctober::stored_packed::{sample, Stored};
-        use coltoctober::{pack_oracle, reference};
-
-        let stored: Vec<Case> = sample(reference::build_light_bvh, pack_oracle::pack_light_bvh).iter().map(Answer::case).collect();
-        assert!(stored == cases(Stored::PART), "tools/answers makes them anew");
     }
 }

@@ -1,4 +1,4 @@
-//! The differential runs of the gate: the proved build against the oracle, its stored answers, and the stack of the deepest tree. What is
+//! The differential runs of the gate: the proved build against the oracle, and the stack of the deepest tree. What is
 //! known by hand is asked of the proved functions, and of the oracle where it is there.
 
 use coltoctober::blocks::{block_of, records};
@@ -81,12 +81,6 @@ fn drawn(records: &[Record], p: [f32; 3], u: f32) -> Drawn {
 
 fn named(records: &[Record], p: [f32; 3], handle: u32) -> Chance {
     pmf(&Words::built(build_light_bvh, records).unwrap().tree(), &query_at(p, [0.0; 3]), handle)
-}
-
-/// The oracle's stored answers, with no need of the reference.
-#[test]
-fn stored_answers() {
-    coltoctober::stored::check::<coltoctober::stored_trees::Stored>(1500);
 }
 
 /// Document 01's pair, every word of its tree; and with the places exchanged.
@@ -342,16 +336,6 @@ coltoctober::differential! {
         [9, 11, 12, 13].into_iter().for_each(|number| assert_eq!(tally.answers[number], 0, "{number}"));
         let unmet = tally.labels.iter().filter(|(label, _)| label.starts_with("never") || label.starts_with("union"));
         unmet.for_each(|(label, count)| assert_eq!(*count, 0, "{label}"));
-    }
-
-    /// The cases that a program replays are the oracle's.
-    fn stored_sample() {
-        use coltoctober::reference;
-        use coltoctober::stored::{cases, Answer, Case};
-        use coltoctober::stored_trees::{sample, Stored};
-
-        let stored: Vec<Case> = sample(reference::build_light_bvh).iter().map(Answer::case).collect();
-        assert!(stored == cases(Stored::PART), "tools/answers makes them anew");
     }
 
     /// The walk that the benchmark takes its nodes from is the reference's.

@@ -1,5 +1,5 @@
-//! The differential runs of the gate: the proved draws and chances by name against the oracle over built trees and damaged words, their
-//! stored answers; and the search for a violation of demand 3. What is known by hand is asked of the proved functions, and of the
+//! The differential runs of the gate: the proved draws and chances by name against the oracle over built trees and damaged words; and
+//! the search for a violation of demand 3. What is known by hand is asked of the proved functions, and of the
 //! oracle where it is there.
 
 use coltoctober::both::{build_light_bvh, importance, pmf, sample};
@@ -7,12 +7,6 @@ use coltoctober::light_runs::{Search, Slip, Violation, SLIPS};
 use coltoctober::records::{query_at, Query, Record};
 use coltoctober::trees::all_about;
 use coltoctober::walks::{Chance, Drawn, Tree, Words, MOST_NODES, NODE_BYTES};
-
-/// The oracle's stored answers, with no need of the reference.
-#[test]
-fn stored_answers() {
-    coltoctober::stored::check::<coltoctober::stored_walks::Stored>(616);
-}
 
 /// No violation on the proved build, draw and chance; one in each broken copy of the draw, of the kind that its slip makes.
 #[test]
@@ -318,16 +312,6 @@ coltoctober::differential! {
         let branches = ["error 12: the", "error 12: Light BVH PMF", "chance", "damage", "order", "oracle", "walk: up", "walk: no"];
         tally.check(&[0, 1, 2, 5, 6, 7, 8, 12], &[&records[..], &errors, &branches].concat());
         [3, 4, 9, 10, 11, 13].into_iter().for_each(|number| assert_eq!(tally.answers[number], 0, "{number}"));
-    }
-
-    /// The cases that a program replays are the oracle's.
-    fn stored_sample() {
-        use coltoctober::stored::{cases, Answer, Case};
-        use coltoctober::stored_walks::{sample, Stored};
-        use coltoctober::walk_oracle::ORACLE;
-
-        let stored: Vec<Case> = sample(&ORACLE).iter().map(Answer::case).collect();
-        assert!(stored == cases(Stored::PART), "tools/answers makes them anew");
     }
 
     /// Each word of each node replaced by each kind of wrong value.

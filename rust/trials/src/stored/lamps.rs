@@ -1,16 +1,21 @@
 //! The stored answers of the lamp lists: 243 words, the list's length, how many words are lent, a refusal's number or 0, the list (160
 //! words), the words lent and those behind them as they are after the call (80; a5a5a5a5 before).
 
+use super::{at_most, first, padded, Answer, Case, PATTERN};
 use crate::proved;
-use crate::stored::{padded, Answer, Case, PATTERN};
+#[cfg(reference)]
+use crate::reference;
 use std::ops::RangeInclusive;
 
 pub const LIST: usize = 160;
 pub const BLOCK: usize = 80;
 
 const KIND: u32 = 300;
+const BLOCK_AT: usize = 3 + LIST;
 
-#[derive(Debug, PartialEq)]
+type Build = fn(&[u32], &mut [u32]) -> Result<(), u32>;
+
+#[derive(PartialEq)]
 pub struct Stored {
     list: Vec<u32>,
     room: usize,
@@ -20,20 +25,23 @@ pub struct Stored {
 
 impl Stored {
     /// A case with what a function answers and writes.
-    pub fn new(list: &[u32], room: usize, build: impl FnOnce(&[u32], &mut [u32]) -> Result<(), u32>) -> Stored {
+    pub fn new(list: Vec<u32>, room: usize, build: Build) -> Stored {
         let mut block = vec![PATTERN; BLOCK];
-        let number = build(list, &mut block[..room]).err().unwrap_or(0);
-        Stored { list: list.to_vec(), room, number, block }
+        let number = build(&list, &mut block[..room]).err().unwrap_or(0);
+        Stored { list, room, number, block }
     }
 }
 
 impl Answer for Stored {
     const PART: &str = "lamps";
     const KINDS: RangeInclusive<u32> = KIND..=KIND;
+    const WORDS: usize = BLOCK_AT + BLOCK;
+    const COUNT: usize = 2000;
 
-    fn of(case: &Case) -> Stored {
+    fn of(case: &Case) -> Option<Stored> {
         let w = &case.words;
-        Stored { list: w[3..3 + w[0] as usize].to_vec(), room: w[1] as usize, number: w[2], block: w[3 + LIST..].to_vec() }
+        let (list, block) = (first(&w[3..BLOCK_AT], w[0])?, w[BLOCK_AT..].to_vec());
+        Some(Stored { list, room: at_most(w[1], BLOCK)?, number: w[2], block })
     }
 
     fn case(&self) -> Case {
@@ -42,6 +50,11 @@ impl Answer for Stored {
     }
 
     fn proved(&self) -> Stored {
-        Stored::new(&self.list, self.room, proved::lamps_build_light_bounds)
+        Stored::new(self.list.clone(), self.room, proved::lamps_build_light_bounds)
+    }
+
+    #[cfg(reference)]
+    fn oracle(&self) -> Stored {
+        Stored::new(self.list.clone(), self.room, reference::build_light_bounds)
     }
 }

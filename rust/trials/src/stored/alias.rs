@@ -1,8 +1,10 @@
 //! The stored answers of the alias table: 161 words, how many weights, how many words are lent for the bins and for the work, a
 //! refusal's number or 0, the weights (17 words), the bins (60) and the work (80) as they are after the call (a5a5a5a5 before).
 
+use super::{at_most, first, padded, Answer, Case, PATTERN};
 use crate::proved;
-use crate::stored::{padded, Answer, Case, PATTERN};
+#[cfg(reference)]
+use crate::reference;
 use std::ops::RangeInclusive;
 
 pub const WEIGHTS: usize = 17;
@@ -13,7 +15,9 @@ const KIND: u32 = 400;
 const BINS_AT: usize = 4 + WEIGHTS;
 const WORK_AT: usize = BINS_AT + BINS;
 
-#[derive(Debug, PartialEq)]
+type Build = fn(&[u32], &mut [u32], &mut [u32]) -> Result<(), u32>;
+
+#[derive(PartialEq)]
 pub struct Stored {
     weights: Vec<u32>,
     rooms: [usize; 2],
@@ -24,30 +28,23 @@ pub struct Stored {
 
 impl Stored {
     /// A case with what a function answers and writes.
-    pub fn new(
-        weights: &[u32],
-        rooms: [usize; 2],
-        build: impl FnOnce(&[u32], &mut [u32], &mut [u32]) -> Result<(), u32>,
-    ) -> Stored {
+    pub fn new(weights: Vec<u32>, rooms: [usize; 2], build: Build) -> Stored {
         let (mut bins, mut work) = (vec![PATTERN; BINS], vec![PATTERN; WORK]);
-        let number = build(weights, &mut bins[..rooms[0]], &mut work[..rooms[1]]).err().unwrap_or(0);
-        Stored { weights: weights.to_vec(), rooms, number, bins, work }
+        let number = build(&weights, &mut bins[..rooms[0]], &mut work[..rooms[1]]).err().unwrap_or(0);
+        Stored { weights, rooms, number, bins, work }
     }
 }
 
 impl Answer for Stored {
     const PART: &str = "alias";
     const KINDS: RangeInclusive<u32> = KIND..=KIND;
+    const WORDS: usize = WORK_AT + WORK;
+    const COUNT: usize = 2000;
 
-    fn of(case: &Case) -> Stored {
+    fn of(case: &Case) -> Option<Stored> {
         let w = &case.words;
-        Stored {
-            weights: w[4..4 + w[0] as usize].to_vec(),
-            rooms: [w[1] as usize, w[2] as usize],
-            number: w[3],
-            bins: w[BINS_AT..WORK_AT].to_vec(),
-            work: w[WORK_AT..].to_vec(),
-        }
+        let (weights, rooms) = (first(&w[4..BINS_AT], w[0])?, [at_most(w[1], BINS)?, at_most(w[2], WORK)?]);
+        Some(Stored { weights, rooms, number: w[3], bins: w[BINS_AT..WORK_AT].to_vec(), work: w[WORK_AT..].to_vec() })
     }
 
     fn case(&self) -> Case {
@@ -56,6 +53,11 @@ impl Answer for Stored {
     }
 
     fn proved(&self) -> Stored {
-        Stored::new(&self.weights, self.rooms, proved::alias_build_power_alias_table)
+        Stored::new(self.weights.clone(), self.rooms, proved::alias_build_power_alias_table)
+    }
+
+    #[cfg(reference)]
+    fn oracle(&self) -> Stored {
+        Stored::new(self.weights.clone(), self.rooms, reference::build_power_alias_table)
     }
 }
