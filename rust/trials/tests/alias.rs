@@ -1,8 +1,8 @@
 //! The differential runs of the gate: the proved alias table against the oracle, and the limits.
 
-use coltoctober::lists::MOST_LAMPS;
-use coltoctober::proved::alias_build_power_alias_table;
-use coltoctober::stored::PATTERN;
+use trials::inputs::lists::MOST_LAMPS;
+use trials::proved::alias_build_power_alias_table;
+use trials::stored::PATTERN;
 
 /// The answer, and the bins and the work after the call.
 fn built(weights: &[f32], rooms: [usize; 2]) -> (Result<(), u32>, [Vec<u32>; 2]) {
@@ -57,9 +57,9 @@ fn lengths() {
     assert!(bins(&most[1..]).iter().all(|bin| *bin == [0x3f80_0000, 0x3980_0000, u32::MAX]));
 }
 
-coltoctober::differential! {
+trials::differential! {
     fn alias_tables() {
-        let tally = coltoctober::runs::alias_tables(0, 300_000);
+        let tally = trials::runs::alias::alias_tables(0, 300_000);
         println!("alias tables: {tally}");
         tally.check(&[0, 2, 3, 8], &["alias", "weights", "room", "order", "bins", "error 8: Power"]);
     }

@@ -1,8 +1,8 @@
 //! The differential runs of the gate: the proved cosines and arcs against document 01's, the proved bounds against the oracle.
 
-use coltoctober::cases::Random;
-use coltoctober::functions::Function;
-use coltoctober::proved;
+use trials::inputs::random::Random;
+use trials::proved;
+use trials::runs::functions::Function;
 
 const CASES: u64 = 1_000_000;
 
@@ -72,21 +72,21 @@ fn lengths() {
     (0..6).for_each(|short| assert_eq!(proved::bounds_importance(&record, &query[..short]), Err(1)));
 }
 
-coltoctober::differential! {
+trials::differential! {
     fn validate() {
-        let tally = coltoctober::runs::validates(0, CASES);
+        let tally = trials::runs::bounds::validates(0, CASES);
         println!("validate: {tally}");
         tally.check(&[0, 1, 5, 6, 7, 8], &[]);
     }
 
     fn union() {
-        let tally = coltoctober::runs::unions(0, CASES);
+        let tally = trials::runs::bounds::unions(0, CASES);
         println!("union: {tally}");
         tally.check(&[0, 1, 10], &["union", "cones", "lost", "joined"]);
     }
 
     fn importance() {
-        let tally = coltoctober::runs::importances(0, CASES);
+        let tally = trials::runs::bounds::importances(0, CASES);
         println!("importance: {tally}");
         tally.check(&[0, 1, 5, 6, 7, 8], &["importance", "weight", "refused"]);
     }

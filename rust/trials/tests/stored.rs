@@ -1,7 +1,7 @@
 //! The oracle's stored answers, every list replayed by the proved functions with no need of the reference; what the reader of lists
 //! refuses; and, where the reference is there, the same cases answered again by the oracle.
 
-use coltoctober::stored::{changed, path, read, stored, Answer};
+use trials::stored::{Answer, changed, path, read, stored};
 
 /// Ends the test where a case of a list is answered otherwise than it is stored, or where they are not so many as they are to be.
 fn replay<A: Answer>(again: fn(&A) -> A) {
@@ -64,7 +64,7 @@ macro_rules! lists {
     ($($part:ident, $lengths:expr, $answers:expr;)*) => {
         $(mod $part {
             use super::*;
-            use coltoctober::stored::$part::Stored;
+            use trials::stored::$part::Stored;
 
             #[test]
             fn replayed() {
@@ -81,7 +81,7 @@ macro_rules! lists {
                 found_out::<Stored>(&$answers);
             }
 
-            coltoctober::differential! {
+            trials::differential! {
                 fn answered_again() {
                     replay(Stored::oracle);
                 }

@@ -1,10 +1,10 @@
 //! The stored answers of the alias table: 161 words, how many weights, how many words are lent for the bins and for the work, a
 //! refusal's number or 0, the weights (17 words), the bins (60) and the work (80) as they are after the call (a5a5a5a5 before).
 
-use super::{at_most, first, padded, Answer, Case, PATTERN};
-use crate::proved;
+use super::{Answer, Case, PATTERN, at_most, first, padded};
 #[cfg(reference)]
-use crate::reference;
+use crate::oracle::reference;
+use crate::proved;
 use std::ops::RangeInclusive;
 
 pub const WEIGHTS: usize = 17;

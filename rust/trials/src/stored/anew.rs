@@ -1,9 +1,11 @@
 //! Draws each list of stored answers anew: always the same cases, with the oracle's answers. No proved function has a part in them.
 
 use super::{alias, bounds, floats, lamps, packed, padded, trees, walks};
-use crate::cases::{stored_cases, Random};
-use crate::functions::FUNCTIONS;
-use crate::{lists, pack_oracle, reference, weights};
+use crate::inputs::floats::stored_cases;
+use crate::inputs::random::Random;
+use crate::inputs::{lists, weights};
+use crate::oracle::{packing, reference};
+use crate::runs::functions::FUNCTIONS;
 
 /// Cases as they come, each once, until so many of each number are there; 0 is the number of an answer given.
 fn filled<S: PartialEq>(quotas: &[(u32, usize)], mut next: impl FnMut() -> Option<(u32, S)>) -> Vec<S> {
@@ -55,7 +57,7 @@ pub fn bounds() -> Vec<bounds::Stored> {
 }
 
 pub fn lamps() -> Vec<lamps::Stored> {
-    use lamps::{Stored, BLOCK, LIST};
+    use lamps::{BLOCK, LIST, Stored};
 
     let mut random = Random::new(4);
     // no list meets 6
@@ -68,7 +70,7 @@ pub fn lamps() -> Vec<lamps::Stored> {
 }
 
 pub fn alias() -> Vec<alias::Stored> {
-    use alias::{Stored, BINS, WEIGHTS, WORK};
+    use alias::{BINS, Stored, WEIGHTS, WORK};
 
     let mut random = Random::new(5);
     // refusal 2 needs more weights than a case holds
@@ -81,7 +83,7 @@ pub fn alias() -> Vec<alias::Stored> {
 }
 
 pub fn trees() -> Vec<trees::Stored> {
-    use trees::{Stored, BLOCK, TRAYS};
+    use trees::{BLOCK, Stored, TRAYS};
 
     let mut random = Random::new(6);
     let given = [(100, 50), (101, 50), (102, 150), (103, 150), (104, 150), (105, 150)];
@@ -94,7 +96,7 @@ pub fn trees() -> Vec<trees::Stored> {
 }
 
 pub fn walks() -> Vec<walks::Stored> {
-    use walks::{Asked, Stored, NODES, ORACLE, TABLE};
+    use walks::{Asked, NODES, ORACLE, Stored, TABLE};
 
     let mut random = Random::new(7);
     let draws = [(20, 100), (21, 3), (22, 25), (1, 20), (5, 25), (6, 12), (7, 25), (8, 12), (11, 20), (12, 60)];
@@ -112,7 +114,7 @@ pub fn walks() -> Vec<walks::Stored> {
 }
 
 pub fn packed() -> Vec<packed::Stored> {
-    use packed::{Stored, NODES, OUT};
+    use packed::{NODES, OUT, Stored};
 
     let mut random = Random::new(8);
     let quotas = [(20, 24), (21, 2), (1, 4), (3, 5), (5, 5), (6, 4), (7, 4), (8, 4), (12, 12), (13, 4)];
@@ -120,6 +122,6 @@ pub fn packed() -> Vec<packed::Stored> {
         let (words, built) = random.grown_with_box(reference::build_light_bvh, 5);
         let (case, _) = random.packing_case(&words, built);
         let fits = case.nodes.len() <= 4 * NODES && case.room <= 4 * OUT && u32::try_from(case.k).is_ok();
-        fits.then(|| Stored::new(case, pack_oracle::pack_light_bvh)).map(|stored| (stored.ending(), stored))
+        fits.then(|| Stored::new(case, packing::pack_light_bvh)).map(|stored| (stored.ending(), stored))
     })
 }

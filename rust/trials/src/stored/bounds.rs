@@ -2,12 +2,12 @@
 //! and asin of the word a; 205 is the check of the record a, 206 the union of a and b, 207 the importance of a for the query b. What
 //! a kind does not use is 0.
 
-use super::{padded, Answer, Case};
-use crate::proved;
-use crate::records::{Query, Record};
-use crate::standins::word;
+use super::{Answer, Case, padded};
+use crate::inputs::records::{Query, Record};
+use crate::oracle::standins::word;
 #[cfg(reference)]
-use crate::{reference, trig};
+use crate::oracle::{reference, trig};
+use crate::proved;
 use std::ops::RangeInclusive;
 
 /// What answers.

@@ -2,7 +2,7 @@
 //! its number in `functions.rs`. The oracle is the stand-in, which needs no reference.
 
 use super::{Answer, Case};
-use crate::functions::{self, Function, FUNCTIONS};
+use crate::runs::functions::{self, FUNCTIONS, Function};
 use std::ops::RangeInclusive;
 
 const BEFORE: u32 = 100;

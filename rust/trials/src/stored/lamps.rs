@@ -1,10 +1,10 @@
 //! The stored answers of the lamp lists: 243 words, the list's length, how many words are lent, a refusal's number or 0, the list (160
 //! words), the words lent and those behind them as they are after the call (80; a5a5a5a5 before).
 
-use super::{at_most, first, padded, Answer, Case, PATTERN};
-use crate::proved;
+use super::{Answer, Case, PATTERN, at_most, first, padded};
 #[cfg(reference)]
-use crate::reference;
+use crate::oracle::reference;
+use crate::proved;
 use std::ops::RangeInclusive;
 
 pub const LIST: usize = 160;

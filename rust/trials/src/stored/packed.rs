@@ -3,13 +3,13 @@
 //! they are after the call (a5 before). Refusal 2 needs more than a case holds.
 
 use super::walks::filled_up;
-use super::{at_most, first, padded, Answer, Case, PATTERN};
+use super::{Answer, Case, PATTERN, at_most, first, padded};
+use crate::inputs::packing::{Case as Packing, Pack};
+use crate::inputs::trees::NODE;
+use crate::inputs::walks::{bytes, words};
 #[cfg(reference)]
-use crate::pack_oracle;
-use crate::packing::{Case as Packing, Pack};
+use crate::oracle::packing::pack_light_bvh;
 use crate::proved;
-use crate::trees::NODE;
-use crate::walks::{bytes, words};
 use std::ops::RangeInclusive;
 
 /// Five lamps, and four words behind the reserve.
@@ -81,6 +81,6 @@ impl Answer for Stored {
 
     #[cfg(reference)]
     fn oracle(&self) -> Stored {
-        Stored::new(self.case.clone(), pack_oracle::pack_light_bvh)
+        Stored::new(self.case.clone(), pack_light_bvh)
     }
 }

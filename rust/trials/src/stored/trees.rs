@@ -2,11 +2,11 @@
 //! work, a refusal's number or 0, k, whether there is a box, the box (6), the block (71), then nodes (147), table (8) and work (13) as
 //! they are after the call (a5a5a5a5 before).
 
-use super::{at_most, first, padded, Answer, Case, PATTERN};
-use crate::proved;
+use super::{Answer, Case, PATTERN, at_most, first, padded};
+use crate::inputs::trees::{self, ANSWER, Build, Built, built};
 #[cfg(reference)]
-use crate::reference;
-use crate::trees::{self, built, Build, Built, ANSWER};
+use crate::oracle::reference;
+use crate::proved;
 use std::ops::RangeInclusive;
 
 /// Five lamps, and three words behind each reserve.

@@ -2,13 +2,13 @@
 //! refusal's number or 0, whether a chance is given, the handle drawn, the chance, then nodes (208) and table (8), a5 past their bytes.
 //! Kind 600 is a draw, 601 a chance by name. Refusal 2 needs more than a case holds.
 
-use super::{first, padded, Answer, Case, PATTERN};
-use crate::proved;
-use crate::records::Query;
-use crate::trees::NODE;
+use super::{Answer, Case, PATTERN, first, padded};
+use crate::inputs::records::Query;
+use crate::inputs::trees::NODE;
+use crate::inputs::walks::{Chance, Drawn, Tree, bytes, words};
 #[cfg(reference)]
-use crate::walk_oracle::Decoded;
-use crate::walks::{bytes, words, Chance, Drawn, Tree};
+use crate::oracle::walks::Decoded;
+use crate::proved;
 use std::ops::RangeInclusive;
 
 /// Seven lamps, and a table word more.
