@@ -2,7 +2,7 @@
 
 use std::process::ExitCode;
 
-/// Whether all is as it is to be, or why the arguments cannot be taken.
+/// Whether all is as it is to be, or why the part could not be called: its arguments, or a file.
 pub type Ended = Result<bool, String>;
 
 /// One thing that a program does.
@@ -22,7 +22,7 @@ impl Part {
 }
 
 /// Calls the part that the program's arguments name. The program ends with 0 where all is as it is to be, with 1 where something is not,
-/// and with 2 where the arguments cannot be taken.
+/// and with 2 where the part could not be called.
 pub fn main(program: &str, about: &str, parts: &[Part]) -> ExitCode {
     let arguments: Vec<String> = std::env::args().skip(1).collect();
     let all = || parts.iter().map(Part::help).collect::<String>();
@@ -42,7 +42,7 @@ pub fn main(program: &str, about: &str, parts: &[Part]) -> ExitCode {
     match (part.call)(rest) {
         Ok(good) => ExitCode::from(u8::from(!good)),
         Err(why) => {
-            eprintln!("{program} {name}: {why}; it is called so:\n{}", part.help());
+            eprintln!("{program} {name}: {why}; `{program} {name} --help` tells how it is called");
             ExitCode::from(2)
         }
     }

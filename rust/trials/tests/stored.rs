@@ -1,20 +1,20 @@
 //! The oracle's stored answers, every list replayed by the proved functions with no need of the reference; what the reader of lists
 //! refuses; and, where the reference is there, the same cases answered again by the oracle.
 
-use trials::stored::{Answer, changed, path, read, stored};
+use trials::stored::{Answer, changed, read, stored};
 
 /// Ends the test where a case of a list is answered otherwise than it is stored, or where they are not so many as they are to be.
 fn replay<A: Answer>(again: fn(&A) -> A) {
     let stored: Vec<A> = stored().unwrap();
     let differ = changed(&stored, again);
-    println!("{}: {} answers replayed, {} differ", A::PART, stored.len(), differ.len());
-    assert!(stored.len() == A::COUNT && differ.is_empty(), "{} of {}: {:x?}", differ.len(), A::COUNT, differ.first());
+    println!("{}: {} answers replayed, {} differ", A::LIST.part, stored.len(), differ.len());
+    assert!(stored.len() == A::LIST.count && differ.is_empty(), "{} of {}: {:x?}", differ.len(), A::LIST.count, differ.first());
 }
 
 /// The words of the first case, its kind and its count with them.
 fn first_case<A: Answer>() -> Vec<u32> {
-    let bytes = std::fs::read(path::<A>()).unwrap();
-    bytes[..8 + 4 * A::WORDS].as_chunks().0.iter().map(|word| u32::from_le_bytes(*word)).collect()
+    let bytes = std::fs::read(A::LIST.path()).unwrap();
+    bytes[..A::LIST.case_bytes()].as_chunks().0.iter().map(|word| u32::from_le_bytes(*word)).collect()
 }
 
 /// Why such words, and some bytes behind them, are no list.
@@ -22,12 +22,12 @@ fn first_case<A: Answer>() -> Vec<u32> {
 fn refused<A: Answer>(words: &[u32], behind: usize, why: &str) {
     let bytes: Vec<u8> = words.iter().flat_map(|word| word.to_le_bytes()).chain(vec![0; behind]).collect();
     let said = read::<A>(&bytes).err().unwrap_or_default();
-    assert!(said.contains(why), "{}: {said:?}, not {why:?}", A::PART);
+    assert!(said.contains(why), "{}: {said:?}, not {why:?}", A::LIST.part);
 }
 
 /// A list that is cut, a kind or a count that is not the part's, and words (their places given) that ask for more than a case has.
 fn misfits<A: Answer>(lengths: &[usize]) {
-    let case = first_case::<A>();
+    let (case, [first, last], words) = (first_case::<A>(), A::LIST.kinds, A::LIST.words as u32);
     let with = |place: usize, word: u32| {
         let mut case = case.clone();
         case[place] = word;
@@ -37,9 +37,9 @@ fn misfits<A: Answer>(lengths: &[usize]) {
     refused::<A>(&case[..1], 0, "case 1, which begins at byte 0: the list ends");
     refused::<A>(&case[..case.len() - 1], 3, "the list ends 3 bytes into a word");
     (1..4).for_each(|stray| refused::<A>(&case, stray, &format!("case 2, which begins at byte {}: the list", 4 * case.len())));
-    [0, A::KINDS.start() - 1, A::KINDS.end() + 1, u32::MAX].into_iter().for_each(|kind| refused::<A>(&with(0, kind), 0, "kind"));
-    for count in [0, A::WORDS as u32 - 1, A::WORDS as u32 + 1, u32::MAX] {
-        refused::<A>(&with(1, count), 4, &format!("{count} words, but a case of {} has {}", A::PART, A::WORDS));
+    [0, first - 1, last + 1, u32::MAX].into_iter().for_each(|kind| refused::<A>(&with(0, kind), 0, "kind"));
+    for count in [0, words - 1, words + 1, u32::MAX] {
+        refused::<A>(&with(1, count), 4, &format!("{count} words, but a case of {} has {}", A::LIST.part, words));
     }
     for place in lengths {
         refused::<A>(&with(2 + place, 4 * 256), 0, "it asks for more words than a case has");
@@ -49,13 +49,13 @@ fn misfits<A: Answer>(lengths: &[usize]) {
 
 /// A bit of an answer's word changed, in the first case and in the last: that case differs and no other.
 fn found_out<A: Answer>(places: &[usize]) {
-    let bytes = std::fs::read(path::<A>()).unwrap();
-    for (case, place) in [1, A::COUNT].into_iter().flat_map(|case| places.iter().map(move |place| (case, place))) {
+    let bytes = std::fs::read(A::LIST.path()).unwrap();
+    for (case, place) in [1, A::LIST.count].into_iter().flat_map(|case| places.iter().map(move |place| (case, place))) {
         let mut wrong = bytes.clone();
-        wrong[(case - 1) * (8 + 4 * A::WORDS) + 8 + 4 * place] ^= 1;
+        wrong[(case - 1) * A::LIST.case_bytes() + 8 + 4 * place] ^= 1;
         let stored: Vec<A> = read(&wrong).unwrap();
         let places: Vec<usize> = changed(&stored, A::proved).into_iter().map(|(place, ..)| place).collect();
-        assert_eq!(places, [case], "{} word {place}", A::PART);
+        assert_eq!(places, [case], "{} word {place}", A::LIST.part);
     }
 }
 

@@ -69,6 +69,20 @@ const PARTS: &[Part] = &[
         call: fuzz::by_hand,
     },
     Part {
+        name: "answers-again",
+        takes: "[--store] [LIST…]",
+        does: "The stored cases answered again by the oracle: which changed, and how; with --store the new answers are stored.",
+        time: "all lists, which are meant where none is named: TIME",
+        call: with_reference!(trials::stored::again::answers_again),
+    },
+    Part {
+        name: "answers-anew",
+        takes: "LIST…",
+        does: "Draws lists of stored answers anew, cases and all, and stores them: floats, bounds, lamps, alias, trees, walks, packed.",
+        time: "all lists: TIME",
+        call: with_reference!(trials::stored::again::answers_anew),
+    },
+    Part {
         name: "columns-input",
         takes: "LAMPS GROUPS",
         does: "To standard output, an office's block and groups as the program columns reads them.",

@@ -1,11 +1,10 @@
 //! The stored answers of the alias table: 161 words, how many weights, how many words are lent for the bins and for the work, a
 //! refusal's number or 0, the weights (17 words), the bins (60) and the work (80) as they are after the call (a5a5a5a5 before).
 
-use super::{Answer, Case, PATTERN, at_most, first, padded};
+use super::{Answer, Case, List, PATTERN, at_most, first, padded};
 #[cfg(reference)]
 use crate::oracle::reference;
 use crate::proved;
-use std::ops::RangeInclusive;
 
 pub const WEIGHTS: usize = 17;
 pub const BINS: usize = 60;
@@ -36,10 +35,7 @@ impl Stored {
 }
 
 impl Answer for Stored {
-    const PART: &str = "alias";
-    const KINDS: RangeInclusive<u32> = KIND..=KIND;
-    const WORDS: usize = WORK_AT + WORK;
-    const COUNT: usize = 2000;
+    const LIST: List = List { part: "alias", kinds: [KIND, KIND], words: WORK_AT + WORK, count: 2000 };
 
     fn of(case: &Case) -> Option<Stored> {
         let w = &case.words;

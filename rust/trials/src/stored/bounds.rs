@@ -2,13 +2,12 @@
 //! and asin of the word a; 205 is the check of the record a, 206 the union of a and b, 207 the importance of a for the query b. What
 //! a kind does not use is 0.
 
-use super::{Answer, Case, padded};
+use super::{Answer, Case, List, padded};
 use crate::inputs::records::{Query, Record};
 use crate::oracle::standins::word;
 #[cfg(reference)]
 use crate::oracle::{reference, trig};
 use crate::proved;
-use std::ops::RangeInclusive;
 
 /// What answers.
 pub struct Side {
@@ -59,10 +58,7 @@ impl Stored {
 }
 
 impl Answer for Stored {
-    const PART: &str = "bounds";
-    const KINDS: RangeInclusive<u32> = 201..=207;
-    const WORDS: usize = 40;
-    const COUNT: usize = 3000;
+    const LIST: List = List { part: "bounds", kinds: [201, 207], words: 40, count: 3000 };
 
     fn of(case: &Case) -> Option<Stored> {
         let w = &case.words;

@@ -1,9 +1,8 @@
 //! The stored answers of the library functions: six words, a low and high, b, c, the result low and high. A function's kind is 100 and
 //! its number in `functions.rs`. The oracle is the stand-in, which needs no reference.
 
-use super::{Answer, Case};
+use super::{Answer, Case, List};
 use crate::runs::functions::{self, FUNCTIONS, Function};
-use std::ops::RangeInclusive;
 
 const BEFORE: u32 = 100;
 
@@ -20,10 +19,7 @@ impl Stored {
 }
 
 impl Answer for Stored {
-    const PART: &str = "floats";
-    const KINDS: RangeInclusive<u32> = BEFORE + 1..=BEFORE + 17;
-    const WORDS: usize = 6;
-    const COUNT: usize = 4352;
+    const LIST: List = List { part: "floats", kinds: [BEFORE + 1, BEFORE + 17], words: 6, count: 4352 };
 
     fn of(case: &Case) -> Option<Stored> {
         let function = FUNCTIONS.iter().find(|function| BEFORE + function.op == case.kind)?;

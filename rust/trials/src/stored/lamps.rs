@@ -1,11 +1,10 @@
 //! The stored answers of the lamp lists: 243 words, the list's length, how many words are lent, a refusal's number or 0, the list (160
 //! words), the words lent and those behind them as they are after the call (80; a5a5a5a5 before).
 
-use super::{Answer, Case, PATTERN, at_most, first, padded};
+use super::{Answer, Case, List, PATTERN, at_most, first, padded};
 #[cfg(reference)]
 use crate::oracle::reference;
 use crate::proved;
-use std::ops::RangeInclusive;
 
 pub const LIST: usize = 160;
 pub const BLOCK: usize = 80;
@@ -33,10 +32,7 @@ impl Stored {
 }
 
 impl Answer for Stored {
-    const PART: &str = "lamps";
-    const KINDS: RangeInclusive<u32> = KIND..=KIND;
-    const WORDS: usize = BLOCK_AT + BLOCK;
-    const COUNT: usize = 2000;
+    const LIST: List = List { part: "lamps", kinds: [KIND, KIND], words: BLOCK_AT + BLOCK, count: 2000 };
 
     fn of(case: &Case) -> Option<Stored> {
         let w = &case.words;

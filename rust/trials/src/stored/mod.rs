@@ -4,17 +4,17 @@
 //! 101 to 117 for floats, 201 to 207 for bounds, 300 for lamp lists, 400 for alias tables, 500 for trees, 600 and 601 for walks, 700 for
 //! packing.
 
+#[cfg(reference)]
+pub mod again;
 pub mod alias;
 #[cfg(reference)]
-pub mod anew;
+mod anew;
 pub mod bounds;
 pub mod floats;
 pub mod lamps;
 pub mod packed;
 pub mod trees;
 pub mod walks;
-
-use std::ops::RangeInclusive;
 
 /// What stands in lent words before a call.
 pub const PATTERN: u32 = 0xa5a5_a5a5;
@@ -33,14 +33,31 @@ impl Case {
     }
 }
 
+/// What a list is.
+pub struct List {
+    pub part: &'static str,
+    /// The first kind and the last.
+    pub kinds: [u32; 2],
+    /// The words of a case.
+    pub words: usize,
+    /// How many cases are stored.
+    pub count: usize,
+}
+
+impl List {
+    pub fn path(&self) -> String {
+        format!("{}/answers/{}.words", env!("CARGO_MANIFEST_DIR"), self.part)
+    }
+
+    /// The bytes of a case.
+    pub fn case_bytes(&self) -> usize {
+        8 + 4 * self.words
+    }
+}
+
 /// A stored answer of one part.
 pub trait Answer: Sized {
-    const PART: &str;
-    const KINDS: RangeInclusive<u32>;
-    /// The words of a case.
-    const WORDS: usize;
-    /// How many are stored.
-    const COUNT: usize;
+    const LIST: List;
     /// None where the words ask for more than a case has room for.
     fn of(case: &Case) -> Option<Self>;
     fn case(&self) -> Case;
@@ -51,21 +68,16 @@ pub trait Answer: Sized {
     fn oracle(&self) -> Self;
 }
 
-/// The list of a part.
-pub fn path<A: Answer>() -> String {
-    format!("{}/answers/{}.words", env!("CARGO_MANIFEST_DIR"), A::PART)
-}
-
 /// The stored cases of a part.
 pub fn stored<A: Answer>() -> Result<Vec<A>, String> {
-    let path = path::<A>();
+    let path = A::LIST.path();
     let bytes = std::fs::read(&path).map_err(|why| format!("{path}: {why}"))?;
     read(&bytes).map_err(|why| format!("{path}: {why}"))
 }
 
 /// Stores the cases of a part.
 pub fn store<A: Answer>(stored: &[A]) -> Result<(), String> {
-    let (path, bytes) = (path::<A>(), stored.iter().flat_map(|answer| answer.case().bytes()).collect::<Vec<u8>>());
+    let (path, bytes) = (A::LIST.path(), stored.iter().flat_map(|answer| answer.case().bytes()).collect::<Vec<u8>>());
     std::fs::write(&path, bytes).map_err(|why| format!("{path}: {why}"))
 }
 
@@ -74,7 +86,7 @@ pub fn read<A: Answer>(bytes: &[u8]) -> Result<Vec<A>, String> {
     let (mut answers, mut left) = (Vec::new(), bytes);
     while !left.is_empty() {
         let answer = next(&mut left);
-        let at = || format!("case {}, which begins at byte {}", answers.len() + 1, answers.len() * (8 + 4 * A::WORDS));
+        let at = || format!("case {}, which begins at byte {}", answers.len() + 1, answers.len() * A::LIST.case_bytes());
         answers.push(answer.map_err(|why| format!("{}: {why}", at()))?);
     }
     Ok(answers)
@@ -82,12 +94,13 @@ pub fn read<A: Answer>(bytes: &[u8]) -> Result<Vec<A>, String> {
 
 /// Takes the first case of the bytes.
 fn next<A: Answer>(left: &mut &[u8]) -> Result<A, String> {
+    let List { part, kinds: [first, last], words, .. } = A::LIST;
     let [kind, count] = [take(left)?, take(left)?];
-    if !A::KINDS.contains(&kind) {
-        return Err(format!("kind {kind}, but {} has {:?}", A::PART, A::KINDS));
+    if !(first..=last).contains(&kind) {
+        return Err(format!("kind {kind}, but {part} has {first} to {last}"));
     }
-    if count as usize != A::WORDS {
-        return Err(format!("{count} words, but a case of {} has {}", A::PART, A::WORDS));
+    if count as usize != words {
+        return Err(format!("{count} words, but a case of {part} has {words}"));
     }
     let case = Case { kind, words: (0..count).map(|_| take(left)).collect::<Result<Vec<u32>, String>>()? };
     let answer = A::of(&case).ok_or("it asks for more words than a case has")?;

@@ -3,14 +3,13 @@
 //! they are after the call (a5 before). Refusal 2 needs more than a case holds.
 
 use super::walks::filled_up;
-use super::{Answer, Case, PATTERN, at_most, first, padded};
+use super::{Answer, Case, List, PATTERN, at_most, first, padded};
 use crate::inputs::packing::{Case as Packing, Pack};
 use crate::inputs::trees::NODE;
 use crate::inputs::walks::{bytes, words};
 #[cfg(reference)]
 use crate::oracle::packing::pack_light_bvh;
 use crate::proved;
-use std::ops::RangeInclusive;
 
 /// Five lamps, and four words behind the reserve.
 pub const NODES: usize = 9 * NODE;
@@ -51,10 +50,7 @@ impl Stored {
 }
 
 impl Answer for Stored {
-    const PART: &str = "packed";
-    const KINDS: RangeInclusive<u32> = KIND..=KIND;
-    const WORDS: usize = OUT_AT + OUT;
-    const COUNT: usize = 68;
+    const LIST: List = List { part: "packed", kinds: [KIND, KIND], words: OUT_AT + OUT, count: 68 };
 
     fn of(case: &Case) -> Option<Stored> {
         let w = &case.words;

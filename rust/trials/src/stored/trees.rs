@@ -2,12 +2,11 @@
 //! work, a refusal's number or 0, k, whether there is a box, the box (6), the block (71), then nodes (147), table (8) and work (13) as
 //! they are after the call (a5a5a5a5 before).
 
-use super::{Answer, Case, PATTERN, at_most, first, padded};
+use super::{Answer, Case, List, PATTERN, at_most, first, padded};
 use crate::inputs::trees::{self, ANSWER, Build, Built, built};
 #[cfg(reference)]
 use crate::oracle::reference;
 use crate::proved;
-use std::ops::RangeInclusive;
 
 /// Five lamps, and three words behind each reserve.
 pub const BLOCK: usize = 71;
@@ -47,10 +46,7 @@ impl Stored {
 }
 
 impl Answer for Stored {
-    const PART: &str = "trees";
-    const KINDS: RangeInclusive<u32> = KIND..=KIND;
-    const WORDS: usize = TRAYS_AT + TRAYS[0] + TRAYS[1] + TRAYS[2];
-    const COUNT: usize = 1500;
+    const LIST: List = List { part: "trees", kinds: [KIND, KIND], words: TRAYS_AT + TRAYS[0] + TRAYS[1] + TRAYS[2], count: 1500 };
 
     fn of(case: &Case) -> Option<Stored> {
         let w = &case.words;

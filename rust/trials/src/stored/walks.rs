@@ -2,14 +2,13 @@
 //! refusal's number or 0, whether a chance is given, the handle drawn, the chance, then nodes (208) and table (8), a5 past their bytes.
 //! Kind 600 is a draw, 601 a chance by name. Refusal 2 needs more than a case holds.
 
-use super::{Answer, Case, PATTERN, first, padded};
+use super::{Answer, Case, List, PATTERN, first, padded};
 use crate::inputs::records::Query;
 use crate::inputs::trees::NODE;
 use crate::inputs::walks::{Chance, Drawn, Tree, bytes, words};
 #[cfg(reference)]
 use crate::oracle::walks::Decoded;
 use crate::proved;
-use std::ops::RangeInclusive;
 
 /// Seven lamps, and a table word more.
 pub const NODES: usize = 13 * NODE;
@@ -96,10 +95,7 @@ pub fn filled_up(bytes: &[u8], count: usize) -> Vec<u32> {
 }
 
 impl Answer for Stored {
-    const PART: &str = "walks";
-    const KINDS: RangeInclusive<u32> = DRAW..=CHANCE;
-    const WORDS: usize = TABLE_AT + TABLE;
-    const COUNT: usize = 616;
+    const LIST: List = List { part: "walks", kinds: [DRAW, CHANCE], words: TABLE_AT + TABLE, count: 616 };
 
     fn of(case: &Case) -> Option<Stored> {
         let w = &case.words;

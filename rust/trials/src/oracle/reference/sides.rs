@@ -11,59 +11,34 @@ pub struct Light;
 /// No node and no lamp.
 pub const INVALID_INDEX: u32 = u32::MAX;
 
-/// Document 01's library functions as methods, under the names that substitution.rs puts in.
-trait Standin {
-    fn standin_min(self, other: f32) -> f32;
-    fn standin_max(self, other: f32) -> f32;
-    fn standin_clamp(self, lo: f32, hi: f32) -> f32;
-    fn standin_abs(self) -> f32;
-    fn standin_sqrt(self) -> f32;
-    fn standin_floor(self) -> f32;
-    fn standin_ceil(self) -> f32;
-    fn standin_round(self) -> f32;
-    fn standin_cos(self) -> f32;
-    fn standin_acos(self) -> f32;
-    fn standin_sin_cos(self) -> (f32, f32);
-    fn standin_word(self) -> u32;
+/// Document 01's library functions as methods, under the names that `substitution.rs` puts in.
+macro_rules! standins {
+    ($($name:ident($($other:ident),*) -> $answer:ty: $function:expr;)*) => {
+        trait Standin {
+            $(fn $name(self, $($other: f32),*) -> $answer;)*
+        }
+
+        impl Standin for f32 {
+            $(fn $name(self, $($other: f32),*) -> $answer {
+                $function(self, $($other),*)
+            })*
+        }
+    };
 }
 
-impl Standin for f32 {
-    fn standin_min(self, other: f32) -> f32 {
-        standins::min(self, other)
-    }
-    fn standin_max(self, other: f32) -> f32 {
-        standins::max(self, other)
-    }
-    fn standin_clamp(self, lo: f32, hi: f32) -> f32 {
-        standins::clamp(self, lo, hi)
-    }
-    fn standin_abs(self) -> f32 {
-        standins::abs(self)
-    }
-    fn standin_sqrt(self) -> f32 {
-        standins::sqrt(self)
-    }
-    fn standin_floor(self) -> f32 {
-        standins::floor(self)
-    }
-    fn standin_ceil(self) -> f32 {
-        standins::ceil(self)
-    }
-    fn standin_round(self) -> f32 {
-        standins::round(self)
-    }
-    fn standin_cos(self) -> f32 {
-        trig::cos(self)
-    }
-    fn standin_acos(self) -> f32 {
-        trig::acos(self)
-    }
-    fn standin_sin_cos(self) -> (f32, f32) {
-        (trig::sin(self), trig::cos(self))
-    }
-    fn standin_word(self) -> u32 {
-        standins::word(self)
-    }
+standins! {
+    standin_min(other) -> f32: standins::min;
+    standin_max(other) -> f32: standins::max;
+    standin_clamp(lo, hi) -> f32: standins::clamp;
+    standin_abs() -> f32: standins::abs;
+    standin_sqrt() -> f32: standins::sqrt;
+    standin_floor() -> f32: standins::floor;
+    standin_ceil() -> f32: standins::ceil;
+    standin_round() -> f32: standins::round;
+    standin_cos() -> f32: trig::cos;
+    standin_acos() -> f32: trig::acos;
+    standin_sin_cos() -> (f32, f32): |x| (trig::sin(x), trig::cos(x));
+    standin_word() -> u32: standins::word;
 }
 
 /// What the reference borrows: a vector whose sums run left to right, and sampling.rs's `angle_between`.
