@@ -1,23 +1,17 @@
-//! The differential runs of the gate: the proved draws and chances by name against the oracle over built trees and damaged words, their
-//! stored answers; and the search for a violation of demand 3. What is known by hand is asked of the proved functions, and of the
+//! The differential runs of the gate: the proved draws and chances by name against the oracle over built trees and damaged words; and
+//! the search for a violation of demand 3. What is known by hand is asked of the proved functions, and of the
 //! oracle where it is there.
 
-use coltoctober::both::{build_light_bvh, importance, pmf, sample};
-use coltoctober::light_runs::{Search, Slip, Violation, SLIPS};
-use coltoctober::records::{query_at, Query, Record};
-use coltoctober::trees::all_about;
-use coltoctober::walks::{Chance, Drawn, Tree, Words, MOST_NODES, NODE_BYTES};
-
-/// The oracle's stored answers, with no need of the reference.
-#[test]
-fn stored_answers() {
-    coltoctober::stored::check::<coltoctober::stored_walks::Stored>(616);
-}
+use trials::inputs::records::{Query, Record, query_at};
+use trials::inputs::trees::all_about;
+use trials::inputs::walks::{Chance, Drawn, MOST_NODES, NODE_BYTES, Tree, Words};
+use trials::runs::both::{build_light_bvh, importance, pmf, sample};
+use trials::runs::demand3::{SLIPS, Search, Slip, Violation};
 
 /// No violation on the proved build, draw and chance; one in each broken copy of the draw, of the kind that its slip makes.
 #[test]
 fn demand_3() {
-    let search = Search::run(&coltoctober::proved::sampler_sample, 0, 60_000, false);
+    let search = Search::run(&trials::proved::sampler_sample, 0, 60_000, false);
     println!("demand 3: {search}");
     assert!(search.found.is_empty() && search.trees == 60_000);
     let met = [search.lone, search.infinite_roots, search.none, search.draws_refused, search.mixed, search.nan_chances];
@@ -40,10 +34,10 @@ fn demand_3() {
 /// What the search says of a tree that is not whole: of each head, child and parent word, each box and each table word.
 #[test]
 fn shapes() {
-    use coltoctober::light_runs::shape_flaw;
+    use trials::runs::demand3::shape_flaw;
 
     let records = [0.0, 1.0, 3.0, 7.0].map(|x| all_about([x; 3], [x + 1.0; 3], if x == 3.0 { 0.0 } else { 1.0 }));
-    let sound = Words::built(coltoctober::proved::tree_build_light_bvh, &records).unwrap();
+    let sound = Words::built(trials::proved::tree_build_light_bvh, &records).unwrap();
     assert_eq!((sound.nodes.len(), shape_flaw(&records, &sound)), (5, None));
     let flawed = |change: &dyn Fn(&mut Words)| {
         let mut words = sound.clone();
@@ -297,10 +291,10 @@ fn cycles() {
     assert!(answers[0] && !answers[256] && answers.iter().filter(|given| **given).count() > 128);
 }
 
-coltoctober::differential! {
+trials::differential! {
     /// Random trees, sound and damaged: every refusal, every branch and every damage is met.
     fn draws() {
-        let tally = coltoctober::walk_runs::draws(0, 200_000);
+        let tally = trials::runs::walks::draws(0, 200_000);
         println!("draws: {tally}");
         let records = ["error 5: Light bounds", "error 6: Light", "error 7: Light bounds", "error 8: Light bounds"];
         let errors = ["error 5: Imp", "error 7: Light direction", "error 11"];
@@ -311,7 +305,7 @@ coltoctober::differential! {
     }
 
     fn chances() {
-        let tally = coltoctober::walk_runs::chances(0, 200_000);
+        let tally = trials::runs::walks::chances(0, 200_000);
         println!("chances: {tally}");
         let records = ["error 5: Light bounds", "error 6: Light", "error 7: Light bounds", "error 8: Light bounds"];
         let errors = ["error 5: Imp", "error 7: Light direction"];
@@ -320,19 +314,9 @@ coltoctober::differential! {
         [3, 4, 9, 10, 11, 13].into_iter().for_each(|number| assert_eq!(tally.answers[number], 0, "{number}"));
     }
 
-    /// The cases that a program replays are the oracle's.
-    fn stored_sample() {
-        use coltoctober::stored::{cases, Answer, Case};
-        use coltoctober::stored_walks::{sample, Stored};
-        use coltoctober::walk_oracle::ORACLE;
-
-        let stored: Vec<Case> = sample(&ORACLE).iter().map(Answer::case).collect();
-        assert!(stored == cases(Stored::PART), "tools/answers makes them anew");
-    }
-
     /// Each word of each node replaced by each kind of wrong value.
     fn each_word() {
-        let [draws, chances] = coltoctober::walk_runs::each_word(0, 3);
+        let [draws, chances] = trials::runs::walks::each_word(0, 3);
         println!("each word, draws: {draws}each word, chances: {chances}");
         draws.check(&[0, 5, 6, 7, 8, 12], &["oracle: the"]);
         chances.check(&[0, 5, 6, 7, 8, 12], &["oracle: the"]);

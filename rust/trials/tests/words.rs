@@ -1,9 +1,9 @@
 //! The differential runs of the gate: words in slices, proved against std's, with all that lies about a slice held in view.
 
-use coltoctober::cases::Random;
-use coltoctober::lent::{byte, word, Lent};
-use coltoctober::proved;
 use std::fmt::Debug;
+use trials::inputs::lent::{Lent, byte, word};
+use trials::inputs::random::Random;
+use trials::proved;
 
 const CASES: usize = 1_000_000;
 
