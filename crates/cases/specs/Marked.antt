@@ -26,10 +26,10 @@ use Rattle.light_bounds.specs.Cones.{safeSqrt, cosSubClamped, sinSubClamped, bo
 use Rattle.light_bounds.specs.LightBounds.{isCosine, rangeCheck, coneCheck, validate, join, union}
 use Rattle.light_bounds.specs.Importance.{sine, cosW, cosP, normalFactor, withNormal, toward, distance2, geometry}
 use Rattle.light_bounds.specs.Importance.{finish, checkedImportance, importanceBy, importance, weigh}
-use Rattle.light_bounds.specs.RecordWords.{vecAt, recordAt, recordList}
-use Rattle.lamps.specs.Block.{blockLayout, blockHandles}
-use Rattle.light_nodes.specs.Nodes.{nodeList, nodeCount, nodeOf, nodeAt, boundsAt}
-use Rattle.light_nodes.specs.Tree.{leaves, flatten}
+use Rattle.light_rows.specs.RecordWords.{vecAt, recordAt, recordList}
+use Rattle.light_rows.specs.Block.{blockLayout, blockHandles}
+use Rattle.light_rows.specs.Nodes.{nodeList, nodeCount, nodeOf, nodeAt, boundsAt}
+use Rattle.light_rows.specs.Tree.{leaves, flatten}
 use Rattle.light_split.specs.Lights.{folded, component, widen, centroidEnds, bucketIndex, bucketOf}
 use Rattle.light_split.specs.Buckets.{joinTo, fillBuckets, unionRange, unionBucketRange, mOmega, kr, evaluateCost, sideCost, cutCost, slotList}
 use Rattle.light_split.specs.Split.{combinedBounds, better, cuts, axis, chooseSplit}

@@ -16,7 +16,7 @@ use Rattle.words.specs.TrayLaws.{tray-early}
 use Rattle.words.proofs.AnswerLaws.{given-injective, refused-injective, not-both, Early}
 use Rattle.words.proofs.AnswerLaws.{only-given, only-refused, only-cond, only-number}
 use Rattle.words.proofs.LittleEndianLaws.{length-wordsOf, length-bytesOf}
-use Rattle.lamps.specs.Block.{blockWords}
+use Rattle.light_rows.specs.Block.{blockWords}
 use Rattle.light_bvh.specs.Build.{LightBVH, nodesReserve, nodesWritten, tableWritten, summary}
 use Rattle.text.specs.Text.{refusalLine, fitting, Put}
 use Rattle.text.proofs.PutLaws.{tray-front, refusal-short, put-fits, put-then, handed}

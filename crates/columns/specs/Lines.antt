@@ -12,7 +12,7 @@ use Rattle.ieee.specs.Single.{single}
 use Rattle.words.specs.Answers.{Answer, given, refused, _then_}
 use Rattle.words.specs.LittleEndian.{wordsOf}
 use Rattle.words.specs.Refusals.{number}
-use Rattle.light_bounds.specs.RecordWords.{vecAt}
+use Rattle.light_rows.specs.RecordWords.{vecAt}
 use Rattle.light_bounds.specs.declared.importance.Query.{Query}
 use Rattle.light_sampler.specs.Sampler.{sample, pmf}
 use Rattle.light_sampler.specs.Walks.{Draw}

@@ -11,7 +11,7 @@ use lib.ListN.{length, getD, take, drop}
 use Rattle.words.specs.Answers.{Answer, given, refused, _then_}
 use Rattle.words.specs.LittleEndian.{wordsOf, bytesOf}
 use Rattle.words.specs.Refusals.{number}
-use Rattle.lamps.specs.Block.{blockWords}
+use Rattle.light_rows.specs.Block.{blockWords}
 use Rattle.light_bvh.specs.Build.{LightBVH, buildLightBvh, nodesReserve, workReserve, nodesWritten, tableWritten}
 use Rattle.light_bounds.specs.declared.bounds.Bounds3.{Bounds3}
 use Rattle.columns.specs.declared.Opened.{Opened}

@@ -12,7 +12,7 @@ use Rattle.words.specs.Limits.{crowded}
 use Rattle.words.specs.LittleEndian.{wordsOf}
 use Rattle.words.specs.Rows.{below}
 use Rattle.words.proofs.AnswerLaws.{then-given, given-injective, not-both}
-use Rattle.lamps.specs.Block.{blockWords, sideAt, blockLayout, blockHandles}
+use Rattle.light_rows.specs.Block.{blockWords, sideAt, blockLayout, blockHandles}
 use Rattle.light_bvh.specs.Build.{LightBVH, validated, builtBvh, isShort, buildCheck}
 use Rattle.light_bvh.specs.Build.{buildLightBvh, nodesReserve, nodesWritten, tableWritten}
 use Rattle.light_bvh.proofs.RowsLaws.{bounded-few}

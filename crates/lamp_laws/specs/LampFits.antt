@@ -17,7 +17,7 @@ use Rattle.words.proofs.AnswerLaws.{Gives, gives, gives-none, gives-cond, gives
 use Rattle.light_bounds.specs.Bounds.{boxCheck}
 use Rattle.light_bounds.specs.BoundsLaws.{union-given}
 use Rattle.light_bounds.specs.LightBounds.{areCosines, validate, union, join}
-use Rattle.light_bounds.specs.RecordLaws.{VecFits, BoxFits, RecordFits, vec-fits-read, least-fits, greatest-fits, normalize-fits, z-fits, join-fits}
+use Rattle.light_rows.specs.RecordLaws.{VecFits, BoxFits, RecordFits, vec-fits-read, least-fits, greatest-fits, normalize-fits, z-fits, join-fits}
 use Rattle.light_bounds.specs.Vecmath.{finiteVec, normalize}
 use Rattle.light_bounds.specs.declared.bounds.Bounds3.{Bounds3}
 use Rattle.light_bounds.specs.declared.light_bounds.LightBounds.{LightBounds}

@@ -16,14 +16,14 @@ use Rattle.words.specs.Rows.{rowsFrom, below}
 use Rattle.words.proofs.AnswerLaws.{then-given, given-injective, not-both, gives-value}
 use Rattle.words.proofs.LimitLaws.{few-lamps}
 use Rattle.words.proofs.RowLaws.{row-at, below-true, below-at}
-use Rattle.light_bounds.specs.RecordLaws.{RecordFits, reread, read-words, behind-record}
-use Rattle.light_bounds.specs.RecordWords.{recordWords, vecAt, boxAt, readRecord, recordList, sidePlace}
+use Rattle.light_rows.specs.RecordLaws.{RecordFits, reread, read-words, behind-record}
+use Rattle.light_rows.specs.RecordWords.{recordWords, vecAt, boxAt, readRecord, recordList, sidePlace}
 use Rattle.light_bounds.specs.Side.{sideKnown, sideOf}
 use Rattle.light_bounds.specs.SideLaws.{side-known}
 use Rattle.light_bounds.specs.declared.light_bounds.LightBounds.{LightBounds}
-use Rattle.light_bounds.proofs.RecordPlaces.{recordAt-found}
-use Rattle.lamps.specs.Block.{boundsWords, boundsRow, blockWords, packExhaustiveBounds, handlePlace, recordPlace, sideAt, handleAt, blockLayout}
-use Rattle.lamps.specs.Block.{blockHandles, blockCheck, blockRecord}
+use Rattle.light_rows.specs.RecordPlaces.{recordAt-found}
+use Rattle.light_rows.specs.Block.{boundsWords, boundsRow, blockWords, packExhaustiveBounds, handlePlace, recordPlace, sideAt, handleAt, blockLayout}
+use Rattle.light_rows.specs.Block.{blockHandles, blockCheck, blockRecord}
 use Rattle.lamps.specs.Build.{boundsOf, allBounds, buildLightBounds}
 use Rattle.lamps.specs.LampList.{lampList}
 use Rattle.lamps.specs.declared.lamp_list.Reading.{Reading}

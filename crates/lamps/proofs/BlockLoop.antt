@@ -12,10 +12,10 @@ use Rattle.words.specs.Tray.{tray}
 use Rattle.words.specs.TrayLaws.{tray-full}
 use Rattle.words.proofs.Reserves.{tray-zeroed}
 use Rattle.words.proofs.RowLaws.{Written, written-none, written-one, written-under, written-behind, Walked, walked-none, walked-one, walked-refused, walked-all}
-use Rattle.light_bounds.specs.RecordWords.{recordList, writtenAt}
+use Rattle.light_rows.specs.RecordWords.{recordList, writtenAt}
 use Rattle.light_bounds.specs.declared.light_bounds.LightBounds.{LightBounds}
-use Rattle.light_bounds.proofs.RecordPlaces.{writtenAt-sets}
-use Rattle.lamps.specs.Block.{boundsWords, boundsRow, blockWords, handlePlace, recordPlace, packExhaustiveBounds}
+use Rattle.light_rows.specs.RecordPlaces.{writtenAt-sets}
+use Rattle.light_rows.specs.Block.{boundsWords, boundsRow, blockWords, handlePlace, recordPlace, packExhaustiveBounds}
 use Rattle.lamps.specs.Build.{Passed, nextBounds, buildLightBounds}
 use Rattle.lamps.specs.LampList.{lampList}
 use Rattle.lamps.proofs.BuildLaws.{list-counted, build-refused, build-given, row-width, length-block}

@@ -22,8 +22,8 @@ use Rattle.light_bounds.specs.Vecmath.{finiteVec}
 use Rattle.light_bounds.specs.declared.light_bounds.LightBounds.{LightBounds}
 use Rattle.light_bounds.specs.declared.vecmath.Vec3.{Vec3}
 use Rattle.light_bounds.proofs.LateLaws.{late-box, late-normalize, late-validate, late-union}
-use Rattle.light_bounds.proofs.RecordPlaces.{length-recordList}
-use Rattle.lamps.specs.Block.{blockWords, boundsWords, boundsRow, packExhaustiveBounds}
+use Rattle.light_rows.specs.RecordPlaces.{length-recordList}
+use Rattle.light_rows.specs.Block.{blockWords, boundsWords, boundsRow, packExhaustiveBounds}
 use Rattle.lamps.specs.Build.{allBounds, buildLightBounds}
 use Rattle.lamps.specs.LampBounds.{pointBox, triangleBounds, noArea, emissionBad, validateEmission, checked, pointBounds, spotRecord}
 use Rattle.lamps.specs.LampBounds.{spotBounds, facedRecord, triangleAt, triangleRecord, joinNext, unionFrom, groupBounds, lightBoundsForInput}

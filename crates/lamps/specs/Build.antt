@@ -7,7 +7,7 @@ use lib.ListN.{length}
 use Rattle.words.specs.Answers.{Answer, given, refused, _then_}
 use Rattle.words.specs.Refusals.{number}
 use Rattle.light_bounds.specs.declared.light_bounds.LightBounds.{LightBounds}
-use Rattle.lamps.specs.Block.{blockWords}
+use Rattle.light_rows.specs.Block.{blockWords}
 use Rattle.lamps.specs.LampBounds.{lightBoundsForInput}
 use Rattle.lamps.specs.LampList.{lampAt, lampList, trianglesOf}
 use Rattle.lamps.specs.declared.build.Next.{Next}

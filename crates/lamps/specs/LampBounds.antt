@@ -10,7 +10,7 @@ use Rattle.trig.specs.Trig.{cos, acos}
 use Rattle.words.specs.Answers.{Answer, given, refused, _then_}
 use Rattle.light_bounds.specs.Bounds.{boxCheck, leastOf, greatestOf}
 use Rattle.light_bounds.specs.LightBounds.{lampRecord, areCosines, validate, union}
-use Rattle.light_bounds.specs.RecordWords.{vecAt}
+use Rattle.light_rows.specs.RecordWords.{vecAt}
 use Rattle.light_bounds.specs.Vecmath.{vec, finiteVec, normalize}
 use Rattle.light_bounds.specs.declared.bounds.Bounds3.{Bounds3}
 use Rattle.light_bounds.specs.declared.light_bounds.LightBounds.{LightBounds}

@@ -11,7 +11,7 @@ use Rattle.words.specs.Answers.{Answer, given, refused, _then_}
 use Rattle.words.specs.Refusals.{number}
 use Rattle.words.specs.Heads.{kindOf, handleOf}
 use Rattle.words.specs.Limits.{crowded}
-use Rattle.light_bounds.specs.RecordWords.{vecAt}
+use Rattle.light_rows.specs.RecordWords.{vecAt}
 use Rattle.lamps.specs.declared.lamp_list.Cursor.{Cursor}
 use Rattle.lamps.specs.declared.lamp_list.Lamp.{Lamp}
 use Rattle.lamps.specs.declared.lamp_list.Lamp.the-variants.{Point, Spot, AreaGroup}

@@ -1,4 +1,3 @@
 pub mod LampList
 pub mod LampBounds
-pub mod Block
 pub mod Build

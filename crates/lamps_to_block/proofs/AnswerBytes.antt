@@ -13,7 +13,7 @@ use Rattle.words.specs.Tray.{tray}
 use Rattle.words.proofs.AnswerLaws.{count-given, count-refused}
 use Rattle.words.proofs.LittleEndianLaws.{length-bytesOf}
 use Rattle.light_bounds.specs.declared.light_bounds.LightBounds.{LightBounds}
-use Rattle.lamps.specs.Block.{blockWords, packExhaustiveBounds}
+use Rattle.light_rows.specs.Block.{blockWords, packExhaustiveBounds}
 use Rattle.lamps.specs.Build.{buildLightBounds}
 use Rattle.lamps.proofs.BuildLaws.{length-block}
 use Rattle.lamp_laws.specs.ListLaws.{built-few}

@@ -9,7 +9,7 @@ use Rattle.words.specs.Answers.{Answer, given, refused}
 use Rattle.words.specs.Limits.{maxLamps, crowded}
 use Rattle.words.specs.LittleEndian.{wordsOf, bytesOf}
 use Rattle.light_bounds.specs.declared.light_bounds.LightBounds.{LightBounds}
-use Rattle.lamps.specs.Block.{blockWords, packExhaustiveBounds}
+use Rattle.light_rows.specs.Block.{blockWords, packExhaustiveBounds}
 use Rattle.lamps.specs.Build.{buildLightBounds}
 use Rattle.text.specs.Text.{refusalLine}
 

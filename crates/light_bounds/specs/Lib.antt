@@ -6,7 +6,5 @@ pub mod LightBounds
 pub mod Importance
 pub mod Weighing
 pub mod WeighingLaws
-pub mod RecordWords
 pub mod SideLaws
-pub mod RecordLaws
 pub mod BoundsLaws

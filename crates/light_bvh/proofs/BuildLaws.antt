@@ -23,8 +23,8 @@ use Rattle.words.proofs.Reserves.{tray-zeroed}
 use Rattle.light_bounds.specs.declared.bounds.Bounds3.{Bounds3}
 use Rattle.light_bounds.specs.LightBounds.{validate}
 use Rattle.light_bounds.proofs.LateLaws.{late-validate}
-use Rattle.lamps.specs.Block.{blockWords, sideAt, handleAt, blockLayout, blockHandles}
-use Rattle.light_nodes.specs.Nodes.{nodePlace}
+use Rattle.light_rows.specs.Block.{blockWords, sideAt, handleAt, blockLayout, blockHandles}
+use Rattle.light_rows.specs.Nodes.{nodePlace}
 use Rattle.light_split.specs.Lights.{lightOf}
 use Rattle.light_split.specs.Partition.{laid}
 use Rattle.light_split.proofs.PartitionLaws.{laid-next}

@@ -15,10 +15,10 @@ use Rattle.words.specs.TrayLaws.{tray-full}
 use Rattle.words.proofs.FillLaws.{filled-within}
 use Rattle.words.proofs.Reserves.{zeroed, tray-zeroed}
 use Rattle.light_bounds.specs.declared.bounds.Bounds3.{Bounds3}
-use Rattle.lamps.specs.Block.{blockWords, blockHandles}
-use Rattle.light_nodes.specs.Nodes.{nodeWords, invalidIndex}
-use Rattle.light_nodes.specs.Tree.{Tree, leaves, treeWords}
-use Rattle.light_nodes.specs.TreeLaws.{length-flatten}
+use Rattle.light_rows.specs.Block.{blockWords, blockHandles}
+use Rattle.light_rows.specs.Nodes.{nodeWords, invalidIndex}
+use Rattle.light_rows.specs.Tree.{Tree, leaves, treeWords}
+use Rattle.light_rows.specs.TreeLaws.{length-flatten}
 use Rattle.light_split.specs.Partition.{laid}
 use Rattle.light_bvh.specs.Subtree.{labelOf, buildSubtree, subtree, done, subtreeWords}
 use Rattle.light_bvh.specs.Build.{boundedHandles, allBounds, LightBVH, treeOf, builtBvh, nodesReserve, workReserve, nodesWritten, tableWritten}

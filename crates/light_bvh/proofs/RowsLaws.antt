@@ -18,8 +18,8 @@ use Rattle.words.proofs.RowLaws.{below-at}
 use Rattle.light_bounds.specs.Bounds.{boxUnion}
 use Rattle.light_bounds.specs.LightBounds.{union}
 use Rattle.light_bounds.specs.declared.bounds.Bounds3.{Bounds3}
-use Rattle.lamps.specs.Block.{blockWords, handlePlace, handleAt, blockHandles}
-use Rattle.light_nodes.specs.Tree.{Tree, bounds}
+use Rattle.light_rows.specs.Block.{blockWords, handlePlace, handleAt, blockHandles}
+use Rattle.light_rows.specs.Tree.{Tree, bounds}
 use Rattle.light_split.specs.Lights.{lightOf, centroidEnds}
 use Rattle.light_split.specs.Partition.{kept, goesLeft, goesRight, lefts, rights, partitionHandles}
 use Rattle.light_split.specs.Split.{chooseSplit}

@@ -17,15 +17,15 @@ use Rattle.words.proofs.AnswerLaws.{Gives, gives, gives-none, gives-any, gives-
 use Rattle.words.proofs.AnswerLaws.{only-number}
 use Rattle.light_bounds.specs.BoundsLaws.{union-given}
 use Rattle.light_bounds.specs.LightBounds.{union}
-use Rattle.light_bounds.specs.RecordLaws.{RecordFits, join-fits, record-fits-read}
-use Rattle.light_bounds.specs.RecordWords.{readRecord, recordAt, recordWords, sidePlace}
+use Rattle.light_rows.specs.RecordLaws.{RecordFits, join-fits, record-fits-read}
+use Rattle.light_rows.specs.RecordWords.{readRecord, recordAt, recordWords, sidePlace}
 use Rattle.light_bounds.specs.Side.{sideKnown}
 use Rattle.light_bounds.specs.declared.light_bounds.LightBounds.{LightBounds}
-use Rattle.light_nodes.specs.Nodes.{LightBVHNode, leaf as leafNode, interior, nodeWords, nodePlace, boundsPlace}
-use Rattle.light_nodes.specs.Nodes.{boundsAt, nodeList, headFits, nodeWritten}
-use Rattle.light_nodes.specs.Tree.{Tree, leaf, fork, bounds, leaves, flatten, rightPlace}
-use Rattle.light_nodes.specs.TreeLaws.{length-nodeList, length-flatten, root-bounds-at}
-use Rattle.light_nodes.proofs.NodePlaces.{nodeWritten-room}
+use Rattle.light_rows.specs.Nodes.{LightBVHNode, leaf as leafNode, interior, nodeWords, nodePlace, boundsPlace}
+use Rattle.light_rows.specs.Nodes.{boundsAt, nodeList, headFits, nodeWritten}
+use Rattle.light_rows.specs.Tree.{Tree, leaf, fork, bounds, leaves, flatten, rightPlace}
+use Rattle.light_rows.specs.TreeLaws.{length-nodeList, length-flatten, root-bounds-at}
+use Rattle.light_rows.proofs.NodePlaces.{nodeWritten-room}
 use Rattle.light_split.specs.Lights.{lightOf}
 use Rattle.light_split.specs.Partition.{lefts, rights, partitionHandles, partedCount, partedHandles}
 use Rattle.light_split.specs.Split.{chooseSplit}

@@ -9,11 +9,11 @@ use native.Mathlib.Omega.{arith}
 use lib.ListN.{length, getD, set, length-set}
 use lib.Seq.{getD-at, set-append-left}
 use Rattle.words.specs.Heads.{handleOf}
-use Rattle.light_bounds.specs.RecordWords.{recordList}
+use Rattle.light_rows.specs.RecordWords.{recordList}
 use Rattle.light_bounds.specs.declared.light_bounds.LightBounds.{LightBounds}
-use Rattle.light_nodes.specs.Nodes.{LightBVHNode, leaf as leafNode, interior, nodePlace, headWord, rightChild, parent, nodeList}
-use Rattle.light_nodes.specs.Tree.{Tree, leaf, fork, leaves, rightPlace, flatten, treeWords}
-use Rattle.light_nodes.specs.TreeLaws.{leaves-pos, left-place, right-place}
+use Rattle.light_rows.specs.Nodes.{LightBVHNode, leaf as leafNode, interior, nodePlace, headWord, rightChild, parent, nodeList}
+use Rattle.light_rows.specs.Tree.{Tree, leaf, fork, leaves, rightPlace, flatten, treeWords}
+use Rattle.light_rows.specs.TreeLaws.{leaves-pos, left-place, right-place}
 use Rattle.light_bvh.specs.Build.{tabled, tabledBelow}
 use Rattle.light_bvh.proofs.BuildLaws.{tabled-leaf, tabled-other}
 

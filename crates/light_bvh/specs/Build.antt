@@ -13,9 +13,9 @@ use Rattle.words.specs.Refusals.{number}
 use Rattle.light_bounds.specs.Bounds.{boxUnion}
 use Rattle.light_bounds.specs.LightBounds.{validate}
 use Rattle.light_bounds.specs.declared.bounds.Bounds3.{Bounds3}
-use Rattle.lamps.specs.Block.{blockLayout, blockHandles}
-use Rattle.light_nodes.specs.Nodes.{nodeWords, nodePlace, invalidIndex}
-use Rattle.light_nodes.specs.Tree.{Tree, leaf, fork, rightPlace, treeWords}
+use Rattle.light_rows.specs.Block.{blockLayout, blockHandles}
+use Rattle.light_rows.specs.Nodes.{nodeWords, nodePlace, invalidIndex}
+use Rattle.light_rows.specs.Tree.{Tree, leaf, fork, rightPlace, treeWords}
 use Rattle.light_split.specs.Lights.{lightOf}
 use Rattle.light_bvh.specs.Subtree.{buildSubtree}
 use Rattle.light_bvh.specs.declared.build.Built.{Built}

@@ -5,10 +5,10 @@ use lib.ListN.{length, getD}
 use Rattle.words.specs.Answers.{Answer, given, refused, _then_}
 use Rattle.light_bounds.specs.LightBounds.{union}
 use Rattle.light_bounds.specs.declared.light_bounds.LightBounds.{LightBounds}
-use Rattle.lamps.specs.Block.{handlePlace}
-use Rattle.light_bounds.specs.RecordWords.{readRecord}
-use Rattle.light_nodes.specs.Nodes.{interior, boundsPlace, nodeWritten}
-use Rattle.light_nodes.specs.Tree.{Tree, leaf, fork, bounds, flatten}
+use Rattle.light_rows.specs.Block.{handlePlace}
+use Rattle.light_rows.specs.RecordWords.{readRecord}
+use Rattle.light_rows.specs.Nodes.{interior, boundsPlace, nodeWritten}
+use Rattle.light_rows.specs.Tree.{Tree, leaf, fork, bounds, flatten}
 use Rattle.light_split.specs.Lights.{lightOf}
 use Rattle.light_split.specs.Partition.{partitionHandles}
 use Rattle.light_split.specs.Split.{chooseSplit}

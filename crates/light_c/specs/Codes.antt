@@ -7,7 +7,7 @@ use lib.Dec.{eqb, ltb}
 use lib.Ieee.{Float, binary32, toBits}
 use lib.ListN.{replicate}
 use Rattle.words.specs.Answers.{Answer, given, refused, _then_}
-use Rattle.light_bounds.specs.RecordWords.{vecWords}
+use Rattle.light_rows.specs.RecordWords.{vecWords}
 use Rattle.light_bounds.specs.Vecmath.{vec}
 use Rattle.light_bounds.specs.declared.bounds.Bounds3.{Bounds3}
 use Rattle.light_bounds.specs.declared.importance.Query.{Query}

@@ -10,7 +10,7 @@ ghost use lib.Seq.{sets};
 ghost use Rattle.words.specs.Answers.{code, refused};
 ghost use Rattle.words.specs.Refusals.{number};
 ghost use Rattle.words.specs.Tray.{tray};
-ghost use Rattle.lamps.specs.Block.{blockWords, packExhaustiveBounds};
+ghost use Rattle.light_rows.specs.Block.{blockWords, packExhaustiveBounds};
 ghost use Rattle.lamps.specs.Build.{buildLightBounds};
 ghost use Rattle.light_bounds.specs.Bounds.{allBoundsOf};
 ghost use Rattle.light_bvh.specs.Build.{nodesWritten, tableWritten, workWritten, nodesReserve, workReserve};

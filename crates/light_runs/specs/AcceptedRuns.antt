@@ -17,8 +17,8 @@ use Rattle.ieee.specs.Single.{onef}
 use Rattle.words.specs.Answers.{Answer, given, refused}
 use Rattle.words.proofs.AnswerLaws.{given-injective}
 use Rattle.light_bounds.specs.declared.importance.Query.{Query}
-use Rattle.light_nodes.specs.Nodes.{LightBVHNode, leaf as leafNode, interior, nodeAt}
-use Rattle.light_nodes.specs.Tree.{Tree}
+use Rattle.light_rows.specs.Nodes.{LightBVHNode, leaf as leafNode, interior, nodeAt}
+use Rattle.light_rows.specs.Tree.{Tree}
 use Rattle.light_bvh.specs.Build.{LightBVH, nodesWritten}
 use Rattle.light_sampler.specs.Fork.{most}
 use Rattle.light_sampler.specs.Sampler.{sampleWalk, sample, pmf}

@@ -16,9 +16,9 @@ use Rattle.words.specs.Answers.{given, _then_}
 use Rattle.words.specs.Limits.{maxLamps}
 use Rattle.words.proofs.AnswerLaws.{given-injective}
 use Rattle.light_bounds.specs.declared.importance.Query.{Query}
-use Rattle.light_nodes.specs.Nodes.{leaf as leafNode, invalidIndex, nodeAt, nodeCount}
-use Rattle.light_nodes.specs.Tree.{Tree}
-use Rattle.light_nodes.specs.TreeLaws.{leaves-pos}
+use Rattle.light_rows.specs.Nodes.{leaf as leafNode, invalidIndex, nodeAt, nodeCount}
+use Rattle.light_rows.specs.Tree.{Tree}
+use Rattle.light_rows.specs.TreeLaws.{leaves-pos}
 use Rattle.light_bvh.specs.Build.{LightBVH, nodesWritten}
 use Rattle.light_sampler.specs.Fork.{most}
 use Rattle.light_sampler.specs.Sampler.{sampleCheck, fromRoot, sampleWalk, pmfCheck, leafOf, fromLeaf, pmfWalk}

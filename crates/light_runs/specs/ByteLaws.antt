@@ -14,14 +14,14 @@ use lib.ListN.{length, getD, set, replicate}
 use Rattle.words.specs.Answers.{given}
 use Rattle.words.specs.LittleEndian.{wordsOf, bytesOf}
 use Rattle.words.proofs.LittleEndianLaws.{length-bytesOf, wordsOf-bytesOf}
-use Rattle.light_bounds.specs.RecordLaws.{VecFits, RecordFits}
-use Rattle.light_bounds.specs.RecordWords.{vecWords, restWords, recordList}
+use Rattle.light_rows.specs.RecordLaws.{VecFits, RecordFits}
+use Rattle.light_rows.specs.RecordWords.{vecWords, restWords, recordList}
 use Rattle.light_bounds.specs.declared.light_bounds.LightBounds.{LightBounds}
 use Rattle.light_bounds.specs.declared.vecmath.Vec3.{Vec3}
-use Rattle.light_nodes.specs.Nodes.{LightBVHNode, leaf as leafNode, interior, invalidIndex, maxNodes}
-use Rattle.light_nodes.specs.Nodes.{nodeWords, nodeBytes, headWord, rightChild, parent, nodeList, nodeCount}
-use Rattle.light_nodes.specs.Tree.{Tree, leaf, fork, leaves, rightPlace, flatten}
-use Rattle.light_nodes.specs.TreeLaws.{leaves-pos}
+use Rattle.light_rows.specs.Nodes.{LightBVHNode, leaf as leafNode, interior, invalidIndex, maxNodes}
+use Rattle.light_rows.specs.Nodes.{nodeWords, nodeBytes, headWord, rightChild, parent, nodeList, nodeCount}
+use Rattle.light_rows.specs.Tree.{Tree, leaf, fork, leaves, rightPlace, flatten}
+use Rattle.light_rows.specs.TreeLaws.{leaves-pos}
 use Rattle.light_bvh.specs.Build.{LightBVH, nodesWritten, tabled, tableWritten}
 use Rattle.light_bvh.proofs.RowsLaws.{All, all-append, bounded-few}
 use Rattle.tree_laws.specs.AcceptedTree.{Parts, accepted-sound, nodes-are, table-is, places-fit}

@@ -17,8 +17,8 @@ use Rattle.words.specs.Answers.{given, refused}
 use Rattle.words.specs.LittleEndian.{bytesOf}
 use Rattle.words.specs.Tray.{tray}
 use Rattle.light_bounds.specs.declared.importance.Query.{Query}
-use Rattle.light_nodes.specs.Nodes.{leaf, interior, invalidIndex, nodeWords, nodeAt}
-use Rattle.light_nodes.specs.Tree.{Tree}
+use Rattle.light_rows.specs.Nodes.{leaf, interior, invalidIndex, nodeWords, nodeAt}
+use Rattle.light_rows.specs.Tree.{Tree}
 use Rattle.light_bvh.specs.Build.{LightBVH, isPowered, buildLightBvh, nodesReserve, nodesWritten, tableWritten}
 use Rattle.light_sampler.specs.Sampler.{sampleWalk, sample, pmfWalk, pmf}
 use Rattle.tree_laws.specs.AcceptedTree.{Parts, accepted-parts, accepted-none, handles-count}

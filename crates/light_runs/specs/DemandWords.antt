@@ -13,7 +13,7 @@ use Rattle.words.specs.LittleEndian.{bytesOf}
 use Rattle.light_bounds.specs.BoundsLaws.{Holds}
 use Rattle.light_bounds.specs.declared.importance.Query.{Query}
 use Rattle.light_bounds.specs.declared.light_bounds.LightBounds.{LightBounds}
-use Rattle.light_nodes.specs.Nodes.{LightBVHNode, leaf, interior, invalidIndex, nodeAt, boundsAt}
+use Rattle.light_rows.specs.Nodes.{LightBVHNode, leaf, interior, invalidIndex, nodeAt, boundsAt}
 use Rattle.light_bvh.specs.Build.{LightBVH, isPowered, nodesWritten, tableWritten}
 use Rattle.light_sampler.specs.Sampler.{sampleWalk, sample, pmfWalk}
 

@@ -13,8 +13,8 @@ use Rattle.light_bounds.specs.BoundsLaws.{importance-nonneg}
 use Rattle.light_bounds.specs.Importance.{weigh}
 use Rattle.light_bounds.specs.declared.importance.Query.{Query}
 use Rattle.light_bounds.specs.declared.light_bounds.LightBounds.{LightBounds}
-use Rattle.light_nodes.specs.Tree.{Tree, leaf, fork, bounds, leaves, rightPlace}
-use Rattle.light_nodes.specs.TreeLaws.{leaves-pos}
+use Rattle.light_rows.specs.Tree.{Tree, leaf, fork, bounds, leaves, rightPlace}
+use Rattle.light_rows.specs.TreeLaws.{leaves-pos}
 use Rattle.light_sampler.specs.Fork.{Turn, neither, left, right}
 use Rattle.light_sampler.specs.Walks.{Walked, entering, Draw, byQuery, weighAt, weights, turn, taken, onward, descend}
 use Rattle.light_runs.specs.StandingLaws.{stands-root}

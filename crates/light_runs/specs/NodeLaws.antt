@@ -15,9 +15,9 @@ use lib.ListN.{length, getD, replicate, length-append, length-replicate, List·g
 use Rattle.words.specs.Answers.{given}
 use Rattle.words.proofs.AnswerLaws.{given-injective, not-both}
 use Rattle.light_bounds.specs.declared.light_bounds.LightBounds.{LightBounds}
-use Rattle.light_nodes.specs.Nodes.{LightBVHNode, leaf as leafNode, interior, invalidIndex, nodeWords, nodeAt}
-use Rattle.light_nodes.specs.Tree.{Tree, leaf, fork, bounds, leaves, leafHandles, rightPlace}
-use Rattle.light_nodes.specs.TreeLaws.{leaves-pos, nodeAt-past}
+use Rattle.light_rows.specs.Nodes.{LightBVHNode, leaf as leafNode, interior, invalidIndex, nodeWords, nodeAt}
+use Rattle.light_rows.specs.Tree.{Tree, leaf, fork, bounds, leaves, leafHandles, rightPlace}
+use Rattle.light_rows.specs.TreeLaws.{leaves-pos, nodeAt-past}
 use Rattle.light_bvh.specs.Build.{LightBVH, isPowered, boundedHandles, nodesWritten, tableWritten}
 use Rattle.tree_laws.specs.AcceptedTree.{Parts, accepted-none, accepted-nothing, accepted-sound, accepted-leaves, accepted-words, accepted-count, accepted-read}
 use Rattle.tree_laws.specs.AcceptedTree.{table-is, accepted-table, accepted-unpowered}

@@ -7,9 +7,9 @@ use mathlib.Core.Option.{some}
 use native.Mathlib.Omega.{arith}
 use borrow.Author.Tests.{lt-ltb}
 use lib.ListN.{length}
-use Rattle.light_nodes.specs.Nodes.{interior, invalidIndex, nodePlace, nodeList}
-use Rattle.light_nodes.specs.Tree.{Tree, leaf, fork, bounds, leaves, leafHandles, rightPlace, flatten, treeWords}
-use Rattle.light_nodes.specs.TreeLaws.{leaves-pos, root, root-at, root-bounds-at, left-place, right-place}
+use Rattle.light_rows.specs.Nodes.{interior, invalidIndex, nodePlace, nodeList}
+use Rattle.light_rows.specs.Tree.{Tree, leaf, fork, bounds, leaves, leafHandles, rightPlace, flatten, treeWords}
+use Rattle.light_rows.specs.TreeLaws.{leaves-pos, root, root-at, root-bounds-at, left-place, right-place}
 use Rattle.light_bvh.specs.Build.{LightBVH, nodesWritten}
 use Rattle.tree_laws.specs.AcceptedTree.{Parts, accepted-sound, labels-fit, places-fit, nodes-are}
 use Rattle.tree_laws.specs.PlaceLaws.{RecordsFit, sound-records, headEnd, LabelsFit, Reads, in-left, in-right}

@@ -5,8 +5,8 @@ use lib.Ieee.{Float}
 use Rattle.words.specs.Answers.{given, _then_}
 use Rattle.light_bounds.specs.Importance.{weigh}
 use Rattle.light_bounds.specs.declared.importance.Query.{Query}
-use Rattle.light_nodes.specs.Nodes.{leaf as leafNode, interior}
-use Rattle.light_nodes.specs.Tree.{Tree, leaf, fork, bounds, rightPlace}
+use Rattle.light_rows.specs.Nodes.{leaf as leafNode, interior}
+use Rattle.light_rows.specs.Tree.{Tree, leaf, fork, bounds, rightPlace}
 use Rattle.tree_laws.specs.PlaceLaws.{Reads}
 use Rattle.light_runs.specs.WeightedTree.{Weighted, leaf as weightedLeaf, fork as weightedFork}
 

@@ -18,9 +18,9 @@ use Rattle.words.proofs.AnswerLaws.{given-injective, not-both}
 use Rattle.light_bounds.specs.Importance.{weigh}
 use Rattle.light_bounds.specs.declared.importance.Query.{Query}
 use Rattle.light_bounds.specs.declared.light_bounds.LightBounds.{LightBounds}
-use Rattle.light_nodes.specs.Nodes.{LightBVHNode, leaf as leafNode, interior, invalidIndex, parent, nodeAt}
-use Rattle.light_nodes.specs.Tree.{Tree, leaf, fork, bounds, leaves, rightPlace}
-use Rattle.light_nodes.specs.TreeLaws.{leaves-pos, root}
+use Rattle.light_rows.specs.Nodes.{LightBVHNode, leaf as leafNode, interior, invalidIndex, parent, nodeAt}
+use Rattle.light_rows.specs.Tree.{Tree, leaf, fork, bounds, leaves, rightPlace}
+use Rattle.light_rows.specs.TreeLaws.{leaves-pos, root}
 use Rattle.light_sampler.specs.Fork.{Turn, neither, left, right, most, parted, fork as forkOf}
 use Rattle.light_sampler.specs.Walks.{Walked, entering, Draw, byQuery, weights, taken}
 use Rattle.light_sampler.specs.Walks.{part, partOf, rise, risen, upward, ascend}

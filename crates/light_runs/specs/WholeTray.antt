@@ -21,10 +21,10 @@ use Rattle.words.specs.LittleEndian.{wordsOf, bytesOf}
 use Rattle.words.specs.Tray.{tray}
 use Rattle.light_bounds.specs.declared.importance.Query.{Query}
 use Rattle.light_bounds.specs.declared.light_bounds.LightBounds.{LightBounds}
-use Rattle.light_nodes.specs.Nodes.{LightBVHNode, invalidIndex, parent}
-use Rattle.light_nodes.specs.Nodes.{nodeWords, nodePlace, nodeCount, nodeOf, nodeAt}
-use Rattle.light_nodes.specs.Tree.{Tree, leaf, fork, leaves, rightPlace}
-use Rattle.light_nodes.specs.TreeLaws.{leaves-pos, root}
+use Rattle.light_rows.specs.Nodes.{LightBVHNode, invalidIndex, parent}
+use Rattle.light_rows.specs.Nodes.{nodeWords, nodePlace, nodeCount, nodeOf, nodeAt}
+use Rattle.light_rows.specs.Tree.{Tree, leaf, fork, leaves, rightPlace}
+use Rattle.light_rows.specs.TreeLaws.{leaves-pos, root}
 use Rattle.light_bvh.specs.Build.{LightBVH, isPowered, nodesReserve, nodesWritten, tableWritten}
 use Rattle.light_bvh.proofs.RowsLaws.{All, all-append, bounded-few}
 use Rattle.light_sampler.specs.Fork.{most}

@@ -19,8 +19,8 @@ use Rattle.light_bounds.specs.WeighingLaws.{weigh-prepared}
 use Rattle.light_bounds.specs.declared.light_bounds.LightBounds.{LightBounds}
 use Rattle.light_bounds.specs.declared.importance.Query.{Query}
 use Rattle.light_bounds.specs.declared.importance.Prepared.{Prepared}
-use Rattle.light_nodes.specs.Nodes.{LightBVHNode, leaf, interior, invalidIndex, nodeAt, nodeWords}
-use Rattle.light_nodes.specs.TreeLaws.{nodeAt-past}
+use Rattle.light_rows.specs.Nodes.{LightBVHNode, leaf, interior, invalidIndex, nodeAt, nodeWords}
+use Rattle.light_rows.specs.TreeLaws.{nodeAt-past}
 use Rattle.light_sampler.specs.Fork.{neither, left, right, most}
 use Rattle.light_sampler.specs.Sampler.{fromRoot}
 use Rattle.light_sampler.specs.Turns.{byPrepared, parentOf}

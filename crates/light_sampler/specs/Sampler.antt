@@ -14,7 +14,7 @@ use Rattle.words.specs.Limits.{maxLamps}
 use Rattle.words.specs.LittleEndian.{wordsOf}
 use Rattle.words.specs.Refusals.{number}
 use Rattle.light_bounds.specs.declared.importance.Query.{Query}
-use Rattle.light_nodes.specs.Nodes.{invalidIndex, nodeCount}
+use Rattle.light_rows.specs.Nodes.{invalidIndex, nodeCount}
 use Rattle.light_sampler.specs.Fork.{most}
 use Rattle.light_sampler.specs.Walks.{Walked, ended, afterCheck, Draw, descend, ascend}
 use Rattle.light_sampler.specs.declared.sample.Drawn.{Drawn}

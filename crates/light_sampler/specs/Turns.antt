@@ -7,7 +7,7 @@ use Rattle.words.specs.Refusals.{number}
 use Rattle.light_bounds.specs.Weighing.{weighHeld}
 use Rattle.light_bounds.specs.declared.light_bounds.LightBounds.{LightBounds}
 use Rattle.light_bounds.specs.declared.importance.Prepared.{Prepared}
-use Rattle.light_nodes.specs.Nodes.{LightBVHNode, parent}
+use Rattle.light_rows.specs.Nodes.{LightBVHNode, parent}
 use Rattle.light_sampler.specs.Fork.{Turn as Turned, neither, left, right}
 use Rattle.light_sampler.specs.Walks.{Weighing, Rise, nought, part}
 use Rattle.light_sampler.specs.declared.fork.Turn.{Turn}

@@ -12,7 +12,7 @@ use Rattle.words.specs.Answers.{Answer, given, refused, _then_}
 use Rattle.light_bounds.specs.Importance.{weigh}
 use Rattle.light_bounds.specs.declared.importance.Query.{Query}
 use Rattle.light_bounds.specs.declared.light_bounds.LightBounds.{LightBounds}
-use Rattle.light_nodes.specs.Nodes.{LightBVHNode, leaf, interior, invalidIndex, parent, nodeAt, boundsAt}
+use Rattle.light_rows.specs.Nodes.{LightBVHNode, leaf, interior, invalidIndex, parent, nodeAt, boundsAt}
 use Rattle.light_sampler.specs.Fork.{Turn, neither, left, right, fork}
 
 -- ---- a walk

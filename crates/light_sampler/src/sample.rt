@@ -16,9 +16,9 @@ use floats::choose::min;
 use light_bounds::importance::Prepared;
 use light_bounds::importance::Query;
 use light_bounds::importance::prepare;
-use light_nodes::nodes::Node;
-use light_nodes::nodes::node_at;
-use light_nodes::nodes::node_count;
+use light_rows::nodes::Node;
+use light_rows::nodes::node_at;
+use light_rows::nodes::node_count;
 use words::answers::Counted;
 use words::refusals::Refusal;
 

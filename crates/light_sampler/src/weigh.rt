@@ -8,8 +8,8 @@ ghost use Rattle.light_sampler.specs.Turns.{byPrepared, bothWeights};
 use light_bounds::importance::Prepared;
 use light_bounds::importance::Weight;
 use light_bounds::importance::weigh_prepared;
-use light_bounds::record_words::Found;
-use light_nodes::nodes::bounds_at;
+use light_rows::nodes::bounds_at;
+use light_rows::record_words::Found;
 use words::refusals::Refusal;
 
 // The weight of the node at a place: 12 past the end and of an unknown side, the record's refusals, the importance's.

@@ -7,12 +7,12 @@ use lib.Ieee.{Float, inf, eq}
 use Rattle.ieee.specs.Single.{_⊖_, _⊗_, _⊘_, single}
 use Rattle.ieee.specs.Whole.{toUsize}
 use Rattle.light_bounds.specs.Bounds.{boxUnion, centroid}
-use Rattle.light_bounds.specs.RecordWords.{readRecord}
+use Rattle.light_rows.specs.RecordWords.{readRecord}
 use Rattle.light_bounds.specs.Vecmath.{vec}
 use Rattle.light_bounds.specs.declared.bounds.Bounds3.{Bounds3}
 use Rattle.light_bounds.specs.declared.light_bounds.LightBounds.{LightBounds}
 use Rattle.light_bounds.specs.declared.vecmath.Vec3.{Vec3}
-use Rattle.lamps.specs.Block.{recordPlace}
+use Rattle.light_rows.specs.Block.{recordPlace}
 
 -- `light_bounds[handle]`
 abbrev pub lightOf : List ℕ → ℕ → LightBounds

@@ -3,14 +3,14 @@ ghost use mathlib.Core.Path.{_≡_};
 ghost use Rattle.light_split.specs.Lights.{lightOf, component as componentOf, centroidOf, widen as widenOf, centroidEnds, bucketIndex, bucketOf, nBuckets};
 ghost use Prim.Native.Nat.{_<_};
 use floats::whole::to_usize;
-use lamps::block::EXHAUSTIVE_BOUNDS_WORDS;
 use light_bounds::bounds::Bounds3;
 use light_bounds::bounds::centroid;
 use light_bounds::bounds::union;
 use light_bounds::light_bounds::LightBounds;
-use light_bounds::record_words::box_at;
-use light_bounds::record_words::record_or_zeros;
 use light_bounds::vecmath::Vec3;
+use light_rows::block::EXHAUSTIVE_BOUNDS_WORDS;
+use light_rows::record_words::box_at;
+use light_rows::record_words::record_or_zeros;
 use words::places::wide;
 
 // Buckets along an axis.

@@ -23,15 +23,15 @@ use Rattle.words.proofs.Reserves.{tray-zeroed}
 use Rattle.words.proofs.Stores.{sets-append}
 use Rattle.light_bounds.specs.Bounds.{boxCheck}
 use Rattle.light_bounds.specs.LightBounds.{validate}
-use Rattle.light_bounds.specs.RecordWords.{recordAt, recordWords, sidePlace}
+use Rattle.light_rows.specs.RecordWords.{recordAt, recordWords, sidePlace}
 use Rattle.light_bounds.specs.Side.{sideKnown}
 use Rattle.light_bounds.specs.Vecmath.{normalizeByDivision, dividing, vecLength}
 use Rattle.light_bounds.specs.declared.bounds.Bounds3.{Bounds3}
 use Rattle.light_bounds.specs.declared.light_bounds.LightBounds.{LightBounds}
 use Rattle.light_bounds.specs.declared.vecmath.Vec3.{Vec3}
 use Rattle.light_bounds.proofs.LateLaws.{late-validate, late-box}
-use Rattle.light_nodes.specs.Nodes.{LightBVHNode, leaf, interior, invalidIndex, parent, nodePlace, boundsPlace, nodeAt, nodeOf, boundsAt, nodeCount}
-use Rattle.light_nodes.specs.Nodes.{nodeBytes, maxNodes}
+use Rattle.light_rows.specs.Nodes.{LightBVHNode, leaf, interior, invalidIndex, parent, nodePlace, boundsPlace, nodeAt, nodeOf, boundsAt, nodeCount}
+use Rattle.light_rows.specs.Nodes.{nodeBytes, maxNodes}
 use Rattle.packed_bvh.specs.Packed.{indexMax, payload, payloadWord, compactWords, payloadCheck, parentCheck, leftCheck, packNode, packNodes, header}
 use Rattle.packed_bvh.specs.Packed.{packedReserve}
 use Rattle.packed_bvh.specs.Packed.{packCheck, agreed, packedTree, packLightBvh, packedBytes, bytesReserve, wordsPacked}

@@ -12,12 +12,12 @@ use Rattle.words.specs.LittleEndian.{wordsOf, bytesOf}
 use Rattle.words.specs.Refusals.{number}
 use Rattle.light_bounds.specs.Bounds.{boxCheck}
 use Rattle.light_bounds.specs.LightBounds.{validate}
-use Rattle.light_bounds.specs.RecordWords.{vecWords}
+use Rattle.light_rows.specs.RecordWords.{vecWords}
 use Rattle.light_bounds.specs.Vecmath.{normalizeByDivision}
 use Rattle.light_bounds.specs.declared.bounds.Bounds3.{Bounds3}
 use Rattle.light_bounds.specs.declared.light_bounds.LightBounds.{LightBounds}
 use Rattle.light_bounds.specs.declared.vecmath.Vec3.{Vec3}
-use Rattle.light_nodes.specs.Nodes.{LightBVHNode, leaf, interior, invalidIndex, parent, nodeBytes, nodeCount, nodeAt, boundsAt}
+use Rattle.light_rows.specs.Nodes.{LightBVHNode, leaf, interior, invalidIndex, parent, nodeBytes, nodeCount, nodeAt, boundsAt}
 use Rattle.packed_bvh.specs.Quantize.{quantizeBounds, quantizeCos, encodeOctahedral}
 use Rattle.packed_bvh.specs.declared.pack.Packed.{Packed}
 use Rattle.packed_bvh.specs.declared.pack.Packed.the-variants.{Words, Nothing, Refused}

@@ -8,7 +8,7 @@ use Rattle.light_bounds.specs.Vecmath.{normalizeByDivision}
 use Rattle.light_bounds.specs.declared.bounds.Bounds3.{Bounds3}
 use Rattle.light_bounds.specs.declared.light_bounds.LightBounds.{LightBounds}
 use Rattle.light_bounds.specs.declared.vecmath.Vec3.{Vec3}
-use Rattle.light_nodes.specs.Nodes.{LightBVHNode, parent, boundsAt}
+use Rattle.light_rows.specs.Nodes.{LightBVHNode, parent, boundsAt}
 use Rattle.packed_bvh.specs.Packed.{payloadWord, compactWords, payloadCheck, parentCheck, leftCheck}
 use Rattle.packed_bvh.specs.declared.pack.Compact.{Compact}
 use Rattle.packed_bvh.specs.declared.pack.Placed.{Placed}

@@ -20,9 +20,9 @@ use Rattle.light_bounds.specs.Vecmath.{normalizeByDivision, dividing, dot, vecL
 use Rattle.light_bounds.specs.declared.bounds.Bounds3.{Bounds3}
 use Rattle.light_bounds.specs.declared.light_bounds.LightBounds.{LightBounds}
 use Rattle.light_bounds.specs.declared.vecmath.Vec3.{Vec3}
-use Rattle.light_nodes.specs.Nodes.{LightBVHNode, leaf as leafNode, interior, invalidIndex, parent, nodeAt}
-use Rattle.light_nodes.specs.Tree.{Tree, leaf, fork, leaves, rightPlace}
-use Rattle.light_nodes.specs.TreeLaws.{leaves-pos}
+use Rattle.light_rows.specs.Nodes.{LightBVHNode, leaf as leafNode, interior, invalidIndex, parent, nodeAt}
+use Rattle.light_rows.specs.Tree.{Tree, leaf, fork, leaves, rightPlace}
+use Rattle.light_rows.specs.TreeLaws.{leaves-pos}
 use Rattle.light_bvh.specs.Build.{LightBVH, buildLightBvh, nodesWritten}
 use Rattle.light_bvh.proofs.RowsLaws.{bounded-few, bounds-none, bounds-there}
 use Rattle.tree_laws.specs.AcceptedTree.{Parts, accepted-parts, accepted-none, accepted-leaves, accepted-read}

@@ -26,9 +26,9 @@ use Rattle.light_bounds.specs.LightBounds.{validate, coneCheck, join, joinPower
 use Rattle.light_bounds.specs.Vecmath.{finiteVec}
 use Rattle.light_bounds.specs.declared.bounds.Bounds3.{Bounds3}
 use Rattle.light_bounds.specs.declared.light_bounds.LightBounds.{LightBounds}
-use Rattle.light_nodes.specs.Nodes.{LightBVHNode, leaf as leafNode, interior, invalidIndex, nodeWords, boundsAt}
-use Rattle.light_nodes.specs.Tree.{Tree, leaf, fork, bounds, rightPlace}
-use Rattle.light_nodes.specs.TreeLaws.{boundsAt-past}
+use Rattle.light_rows.specs.Nodes.{LightBVHNode, leaf as leafNode, interior, invalidIndex, nodeWords, boundsAt}
+use Rattle.light_rows.specs.Tree.{Tree, leaf, fork, bounds, rightPlace}
+use Rattle.light_rows.specs.TreeLaws.{boundsAt-past}
 use Rattle.light_split.specs.Lights.{lightOf}
 use Rattle.light_bvh.specs.Build.{isPowered, boundedHandles, grown, allBounds, validated, LightBVH, treeOf, builtBvh, buildCheck, buildLightBvh, nodesWritten}
 use Rattle.light_bvh.specs.Subtree.{buildSubtree}

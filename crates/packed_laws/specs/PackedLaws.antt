@@ -21,7 +21,7 @@ use Rattle.light_bounds.specs.Vecmath.{normalizeByDivision}
 use Rattle.light_bounds.specs.declared.bounds.Bounds3.{Bounds3}
 use Rattle.light_bounds.specs.declared.light_bounds.LightBounds.{LightBounds}
 use Rattle.light_bounds.specs.declared.vecmath.Vec3.{Vec3}
-use Rattle.light_nodes.specs.Nodes.{LightBVHNode, leaf, interior, parent, nodeBytes, nodeCount, nodeAt, boundsAt}
+use Rattle.light_rows.specs.Nodes.{LightBVHNode, leaf, interior, parent, nodeBytes, nodeCount, nodeAt, boundsAt}
 use Rattle.packed_bvh.specs.Packed.{indexMax, paired, payload, payloadWord, compactWords, payloadCheck, parentCheck, leftCheck, packNode, packNodes, header}
 use Rattle.packed_bvh.specs.Packed.{packedReserve, packCheck, agreed, packedTree, packLightBvh}
 use Rattle.packed_bvh.specs.Quantize.{quantizeBounds}

@@ -15,7 +15,7 @@ use Rattle.words.specs.LittleEndian.{bytesOf, wordsOf}
 use Rattle.light_bounds.specs.BoundsLaws.{Holds}
 use Rattle.light_bounds.specs.declared.bounds.Bounds3.{Bounds3}
 use Rattle.light_bounds.specs.declared.light_bounds.LightBounds.{LightBounds}
-use Rattle.light_nodes.specs.Nodes.{interior, nodeBytes, nodeAt, boundsAt}
+use Rattle.light_rows.specs.Nodes.{interior, nodeBytes, nodeAt, boundsAt}
 use Rattle.light_bvh.specs.Build.{LightBVH, buildLightBvh, nodesWritten}
 use Rattle.tree_laws.specs.AcceptedTree.{Parts, accepted-parts}
 use Rattle.light_runs.specs.ByteLaws.{nodes-words, nodes-bytes}

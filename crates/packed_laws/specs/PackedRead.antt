@@ -6,7 +6,7 @@ use mathlib.Core.List.{List}
 use lib.Dec.{leb}
 use lib.ListN.{getD}
 use Rattle.light_bounds.specs.declared.bounds.Bounds3.{Bounds3}
-use Rattle.light_nodes.specs.Nodes.{LightBVHNode, leaf, interior}
+use Rattle.light_rows.specs.Nodes.{LightBVHNode, leaf, interior}
 use Rattle.packed_bvh.specs.Quantize.{quantizeBounds}
 
 -- the node at place i that two packed words stand for: a leaf where bit 31 of the payload is set; a left child is the next node

@@ -8,8 +8,8 @@ use lib.ListN.{length}
 use Rattle.words.specs.Answers.{Answer, given, refused, _then_}
 use Rattle.light_bounds.specs.Importance.{importance}
 use Rattle.light_bounds.specs.LightBounds.{validate, union}
-use Rattle.light_bounds.specs.RecordWords.{recordAt, recordWords, vecAt}
-use Rattle.light_bounds.specs.declared.importance.Query.{Query}
+use Rattle.light_rows.specs.QueryWords.{queryWords, queryOf}
+use Rattle.light_rows.specs.RecordWords.{recordAt, recordWords}
 use Rattle.light_bounds.specs.declared.light_bounds.LightBounds.{LightBounds}
 
 -- a count, or the largest number where it is refused
@@ -20,12 +20,8 @@ countCode (refused k) = 0xffff_ffff_ffff_ffff
 unfoldable pub validateWords : List ℕ → Answer (Unit {0})
 validateWords ws = recordAt 1 ws 0 then λ r. validate r
 
--- point, normal
-unfoldable pub queryOf : List ℕ → Query
-queryOf ws = record { p = vecAt ws 0; n = vecAt ws 3 }
-
 unfoldable pub importanceWords : List ℕ → List ℕ → Answer Float
-importanceWords ws qs = cond (leb 6 (length qs)) (recordAt 1 ws 0 then λ r. importance r (queryOf qs)) (refused 1)
+importanceWords ws qs = cond (leb queryWords (length qs)) (recordAt 1 ws 0 then λ r. importance r (queryOf qs)) (refused 1)
 
 -- `room` words are lent for the answer
 unfoldable pub unionWords : List ℕ → List ℕ → ℕ → Answer LightBounds

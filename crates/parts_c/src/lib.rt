@@ -16,24 +16,24 @@ ghost use Rattle.trig.specs.Trig.{cos as cosOf, sin as sinOf, acos as acosOf, a
 ghost use Rattle.light_bounds.specs.Bounds.{validity};
 ghost use Rattle.light_bounds.specs.Importance.{weight};
 ghost use Rattle.light_bounds.specs.LightBounds.{union as unionOf};
-ghost use Rattle.light_bounds.specs.RecordWords.{recordList, recordWords};
-ghost use Rattle.lamps.specs.Block.{blockCheck};
+ghost use Rattle.light_rows.specs.RecordWords.{recordList, recordWords};
+ghost use Rattle.light_rows.specs.Block.{blockCheck};
 ghost use Rattle.light_c.specs.Codes.{valueCode};
-ghost use Rattle.parts_c.specs.Codes.{countCode, validateWords, importanceWords, unionWords, queryOf};
-use lamps::block::check_block;
+ghost use Rattle.parts_c.specs.Codes.{countCode, validateWords, importanceWords, unionWords};
 use light_bounds::bounds::Validity;
-use light_bounds::importance::Query;
 use light_bounds::importance::Weight;
 use light_bounds::importance::importance;
 use light_bounds::light_bounds::Bounded;
 use light_bounds::light_bounds::LightBounds;
 use light_bounds::light_bounds::union;
 use light_bounds::light_bounds::validate;
-use light_bounds::record_words::Found;
-use light_bounds::record_words::RECORD_WORDS;
-use light_bounds::record_words::read_record;
-use light_bounds::record_words::vec_at;
-use light_bounds::record_words::write_record;
+use light_rows::block::check_block;
+use light_rows::query_words::QUERY_WORDS;
+use light_rows::query_words::query_of;
+use light_rows::record_words::Found;
+use light_rows::record_words::RECORD_WORDS;
+use light_rows::record_words::read_record;
+use light_rows::record_words::write_record;
 use words::answers::Counted;
 use words::answers::counted_code;
 use words::fill::zero_words;
@@ -282,21 +282,12 @@ fn validity_code(answer: Validity) -> u32
     }
 }
 
-// Point, normal.
-fn query_of(words: &[u32]) -> Query
-    ensures { λ r. ⌜ r ≡ queryOf (now (words .entry)) ⌝ }
-{
-    let p = vec_at(words, 0);
-    let n = vec_at(words, 3);
-    Query { p, n }
-}
-
 // The importance's bits, or 2^32 and the refusal's number.
 #[no_mangle]
 pub extern "C" fn bounds_importance(record: &[u32], query: &[u32]) -> u64
     ensures { λ r. ⌜ r ≡ valueCode (importanceWords (now («record» .entry)) (now (query .entry))) ⌝ }
 {
-    if query.len() < 6 {
+    if query.len() < QUERY_WORDS {
         return 0x1_0000_0001;
     }
     match read_record(record, 0) {

@@ -17,9 +17,9 @@ use Rattle.words.specs.Rows.{below}
 use Rattle.words.proofs.AnswerLaws.{then-given, given-injective, not-both}
 use Rattle.words.proofs.LimitLaws.{few-lamps}
 use Rattle.light_bounds.specs.declared.light_bounds.LightBounds.{LightBounds}
-use Rattle.lamps.specs.Block.{blockWords, sideAt, handleAt, blockLayout, blockHandles}
-use Rattle.light_nodes.specs.Nodes.{LightBVHNode, leaf as leafNode, invalidIndex, nodeWords, nodeAt, boundsAt}
-use Rattle.light_nodes.specs.Tree.{Tree, leaves, leafHandles, treeWords}
+use Rattle.light_rows.specs.Block.{blockWords, sideAt, handleAt, blockLayout, blockHandles}
+use Rattle.light_rows.specs.Nodes.{LightBVHNode, leaf as leafNode, invalidIndex, nodeWords, nodeAt, boundsAt}
+use Rattle.light_rows.specs.Tree.{Tree, leaves, leafHandles, treeWords}
 use Rattle.light_split.specs.Lights.{lightOf}
 use Rattle.light_bvh.specs.Build.{isPowered, boundedHandles, allBounds, validated, LightBVH, treeOf, builtBvh, isShort, buildCheck, buildLightBvh}
 use Rattle.light_bvh.specs.Build.{nodesWritten, tabled, tableWritten}

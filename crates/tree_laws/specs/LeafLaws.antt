@@ -14,10 +14,10 @@ use Rattle.words.specs.Rows.{below}
 use Rattle.words.proofs.AnswerLaws.{given-injective, not-both}
 use Rattle.words.proofs.RowLaws.{below-at}
 use Rattle.light_bounds.specs.declared.light_bounds.LightBounds.{LightBounds}
-use Rattle.lamps.specs.Block.{handleAt, blockHandles}
-use Rattle.light_nodes.specs.Nodes.{nodeWords, invalidIndex}
-use Rattle.light_nodes.specs.Tree.{Tree, leaf, fork, leaves, leafHandles, treeWords}
-use Rattle.light_nodes.specs.TreeLaws.{leaves-pos, length-flatten}
+use Rattle.light_rows.specs.Block.{handleAt, blockHandles}
+use Rattle.light_rows.specs.Nodes.{nodeWords, invalidIndex}
+use Rattle.light_rows.specs.Tree.{Tree, leaf, fork, leaves, leafHandles, treeWords}
+use Rattle.light_rows.specs.TreeLaws.{leaves-pos, length-flatten}
 use Rattle.light_split.specs.Lights.{lightOf}
 use Rattle.light_bvh.specs.Build.{isPowered, boundedHandles}
 use Rattle.light_bvh.specs.Subtree.{labelOf, buildSubtree}

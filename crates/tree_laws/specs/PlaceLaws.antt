@@ -14,12 +14,12 @@ use lib.Dec.{eqb, ltb}
 use lib.ListN.{length, getD, set, replicate, length-set, length-replicate, getD-replicate}
 use lib.Seq.{getD-set-same, getD-set-other}
 use Rattle.words.specs.Answers.{given}
-use Rattle.light_bounds.specs.RecordLaws.{RecordFits}
+use Rattle.light_rows.specs.RecordLaws.{RecordFits}
 use Rattle.light_bounds.specs.declared.light_bounds.LightBounds.{LightBounds}
-use Rattle.light_nodes.specs.Nodes.{LightBVHNode, leaf as leafNode, interior, invalidIndex, nodePlace, nodeList}
-use Rattle.light_nodes.specs.Nodes.{headFits, nodeAt, boundsAt}
-use Rattle.light_nodes.specs.Tree.{Tree, leaf, fork, bounds, leaves, leafHandles, rightPlace, flatten, treeWords}
-use Rattle.light_nodes.specs.TreeLaws.{leaves-pos, root, root-at, root-bounds-at, left-place, right-place}
+use Rattle.light_rows.specs.Nodes.{LightBVHNode, leaf as leafNode, interior, invalidIndex, nodePlace, nodeList}
+use Rattle.light_rows.specs.Nodes.{headFits, nodeAt, boundsAt}
+use Rattle.light_rows.specs.Tree.{Tree, leaf, fork, bounds, leaves, leafHandles, rightPlace, flatten, treeWords}
+use Rattle.light_rows.specs.TreeLaws.{leaves-pos, root, root-at, root-bounds-at, left-place, right-place}
 use Rattle.light_bvh.specs.Build.{tabled}
 use Rattle.tree_laws.specs.LeafLaws.{LeavesBy}
 use Rattle.tree_laws.specs.RecordsOfTree.{Sound}

@@ -12,10 +12,10 @@ use Rattle.words.specs.Answers.{given}
 use Rattle.words.proofs.AnswerLaws.{then-given}
 use Rattle.light_bounds.specs.BoundsLaws.{Holds, union-given, union-power, union-holds}
 use Rattle.light_bounds.specs.LightBounds.{validate, join, union}
-use Rattle.light_bounds.specs.RecordLaws.{RecordFits, record-fits-read, join-fits}
+use Rattle.light_rows.specs.RecordLaws.{RecordFits, record-fits-read, join-fits}
 use Rattle.light_bounds.specs.declared.light_bounds.LightBounds.{LightBounds}
-use Rattle.lamps.specs.Block.{recordPlace}
-use Rattle.light_nodes.specs.Tree.{Tree, leaf, fork, bounds}
+use Rattle.light_rows.specs.Block.{recordPlace}
+use Rattle.light_rows.specs.Tree.{Tree, leaf, fork, bounds}
 use Rattle.light_split.specs.Lights.{lightOf}
 use Rattle.light_bvh.specs.Build.{isPowered, boundedHandles, validated}
 use Rattle.light_bvh.specs.Subtree.{buildSubtree}

@@ -13,7 +13,7 @@ use lib.ListN.{length, take, drop}
 use Rattle.words.specs.Answers.{Answer, given, refused, _then_}
 use Rattle.light_bounds.specs.LightBounds.{union}
 use Rattle.light_bounds.specs.declared.light_bounds.LightBounds.{LightBounds}
-use Rattle.light_nodes.specs.Tree.{Tree, fork, bounds}
+use Rattle.light_rows.specs.Tree.{Tree, fork, bounds}
 use Rattle.light_split.specs.Partition.{lefts, rights, partitionHandles}
 use Rattle.light_split.specs.Split.{chooseSplit}
 use Rattle.light_split.specs.declared.split.Split.{Split}

@@ -2,7 +2,7 @@
 use denote.Ref.{now}
 use native.Mathlib.Nat.{sub-zero}
 use borrow.Author.Needs.{needs}
-use Rattle.lamps.specs.Block.{blockWords}
+use Rattle.light_rows.specs.Block.{blockWords}
 use Rattle.columns.specs.Report.{blockBytes}
 use Rattle.columns.proofs.TreeBytes.{block-read}
 use Rattle.columns.proofs.make_tree.Statement.{statement}

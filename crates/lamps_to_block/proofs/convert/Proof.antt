@@ -10,7 +10,7 @@ use lib.ListN.{length, take}
 use Rattle.words.specs.Answers.{counted}
 use Rattle.words.specs.LittleEndian.{bytesOf}
 use Rattle.words.specs.Limits.{maxLamps}
-use Rattle.lamps.specs.Block.{blockWords}
+use Rattle.light_rows.specs.Block.{blockWords}
 use Rattle.lamps.specs.Build.{buildLightBounds}
 use Rattle.text.proofs.PutLaws.{fitting-all}
 use Rattle.lamps_to_block.specs.ListToBlock.{blockRoom, answerBytes}

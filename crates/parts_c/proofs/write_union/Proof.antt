@@ -9,9 +9,9 @@ use Rattle.words.proofs.AnswerLaws.{only-number}
 use Rattle.words.proofs.Reserves.{tray-zeroed}
 use Rattle.words.proofs.Stores.{stored}
 use Rattle.light_bounds.specs.LightBounds.{bounded}
-use Rattle.light_bounds.specs.RecordWords.{recordList, recordWords}
+use Rattle.light_rows.specs.RecordWords.{recordList, recordWords}
 use Rattle.light_bounds.proofs.LateLaws.{late-union}
-use Rattle.light_bounds.proofs.RecordPlaces.{length-recordList, writtenAt-sets}
+use Rattle.light_rows.specs.RecordPlaces.{length-recordList, writtenAt-sets}
 use borrow.Author.Needs.{needs}
 use Rattle.parts_c.proofs.write_union.Statement.{statement}
 use Rattle.parts_c.proofs.write_union.Tie as tie

@@ -1,6 +1,6 @@
 -- `columns::lines::group_query` meets its contract: float by float. Assumes nothing.
 use borrow.Author.Needs.{needs}
-use Rattle.light_bounds.specs.RecordWords.{vecAt}
+use Rattle.light_rows.specs.RecordWords.{vecAt}
 use Rattle.columns.proofs.lines.group_query.Statement.{statement}
 use Rattle.columns.proofs.lines.group_query.Tie as tie
 

@@ -10,7 +10,7 @@ use Rattle.words.specs.Refusals.{number}
 use Rattle.words.specs.Tray.{tray}
 use Rattle.words.specs.TrayLaws.{tray-early}
 use Rattle.words.proofs.AnswerLaws.{count-refused, only-number}
-use Rattle.lamps.specs.Block.{blockWords, packExhaustiveBounds}
+use Rattle.light_rows.specs.Block.{blockWords, packExhaustiveBounds}
 use Rattle.lamps.specs.LampList.{lampList}
 use Rattle.lamps.proofs.BuildLaws.{list-counted, build-unread, build-short, early-list}
 use borrow.Author.Needs.{needs}

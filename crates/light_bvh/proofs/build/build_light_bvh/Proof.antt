@@ -10,7 +10,7 @@ use Rattle.words.specs.Answers.{given, counted}
 use Rattle.words.specs.Limits.{maxLamps}
 use Rattle.words.specs.Refusals.{number}
 use Rattle.light_bounds.specs.Bounds.{validity}
-use Rattle.lamps.specs.Block.{blockWords, blockHandles}
+use Rattle.light_rows.specs.Block.{blockWords, blockHandles}
 use Rattle.light_bvh.specs.Build.{isShort, buildCheck}
 use Rattle.light_bvh.proofs.BuildLaws.{build-checked, outcome-early, outcome-late, outcome-rows}
 use Rattle.light_bvh.proofs.build.build_light_bvh.Statement.{statement}

@@ -25,7 +25,7 @@ use Rattle.light_bvh.proofs.subtree.+build_subtree.Lts-build_subtree as
 use Rattle.light_bvh.proofs.subtree.join_children.Reads as join-children-reads
 use Rattle.light_bvh.proofs.subtree.label.Reads as label-reads
 use Rattle.light_bvh.proofs.subtree.split_stretch.Reads as split-stretch-reads
-use Rattle.light_nodes.proofs.nodes.write_leaf.Reads as write-leaf-reads
+use Rattle.light_rows.proofs.nodes.write_leaf.Reads as write-leaf-reads
 use Rattle.light_split.proofs.lights.light.Reads as light-reads
 use Rattle.light_bvh.proofs.subtree.+build_subtree.{statement}
 use Rattle.light_bvh.proofs.subtree.+build_subtree.Tie.{close}

@@ -4,7 +4,7 @@ use denote.Ref.{now}
 use lib.ListN.{List·getD-eq-default}
 use Rattle.words.specs.LittleEndian.{wordsOf}
 use Rattle.words.proofs.LittleEndianLaws.{length-wordsOf}
-use Rattle.light_nodes.specs.Nodes.{invalidIndex}
+use Rattle.light_rows.specs.Nodes.{invalidIndex}
 use Rattle.light_sampler.specs.Sampler.{leafOf}
 use Rattle.light_sampler.proofs.WalkLaws.{getD-within}
 use borrow.Author.Needs.{needs}

@@ -11,7 +11,7 @@ use Rattle.words.specs.LittleEndian.{wordsOf}
 use Rattle.light_bounds.specs.Weighing.{prepared}
 use Rattle.light_bounds.specs.declared.importance.Query.{Query}
 use Rattle.words.proofs.LittleEndianLaws.{length-wordsOf}
-use Rattle.light_nodes.specs.Nodes.{node}
+use Rattle.light_rows.specs.Nodes.{node}
 use Rattle.light_sampler.specs.Turns.{wayOf, turned}
 use Rattle.light_sampler.specs.Walks.{descend}
 use Rattle.light_sampler.proofs.WalkLaws.{turn-held, node-within, descend-spent, descend-leaf, descend-unknown}

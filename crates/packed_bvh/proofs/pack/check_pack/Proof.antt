@@ -6,7 +6,7 @@ use native.Mathlib.Omega.{arith}
 use borrow.Author.Needs.{needs}
 use borrow.Author.Tests.{lt-ltb, le-ltb}
 use Rattle.words.specs.Answers.{_then_, counted}
-use Rattle.light_nodes.specs.Nodes.{maxNodes}
+use Rattle.light_rows.specs.Nodes.{maxNodes}
 use Rattle.packed_bvh.specs.Packed.{packCheck}
 use Rattle.packed_bvh.proofs.PackLaws.{count-known, reserve-small}
 use Rattle.packed_bvh.proofs.pack.check_pack.Statement.{statement}

@@ -11,7 +11,7 @@ use borrow.Author.Needs.{needs}
 use Rattle.words.specs.Answers.{given, counted}
 use Rattle.words.specs.Refusals.{number}
 use Rattle.light_bounds.specs.Bounds.{validity}
-use Rattle.light_nodes.specs.Nodes.{maxNodes}
+use Rattle.light_rows.specs.Nodes.{maxNodes}
 use Rattle.packed_bvh.specs.Packed.{packCheck, packedReserve}
 use Rattle.packed_bvh.proofs.PackLaws.{check-known, filled-none, agreed-empty, agreed-dark, agreed-valid, agreed-refused, agreed-nothing, agreed-lamps}
 use Rattle.packed_bvh.proofs.PackLaws.{agreed-nodes, outcome-early, outcome-late, outcome-agreed, outcome-nothing}

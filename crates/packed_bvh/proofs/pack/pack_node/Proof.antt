@@ -3,7 +3,7 @@ use mathlib.Core.Path.{sym, ap, _∙_}
 use denote.Ref.{now}
 use borrow.Author.Needs.{needs}
 use Rattle.words.specs.LittleEndian.{wordsOf}
-use Rattle.light_nodes.specs.Nodes.{leaf, interior, node}
+use Rattle.light_rows.specs.Nodes.{leaf, interior, node}
 use Rattle.packed_bvh.proofs.PackLaws.{node-placed, node-refused}
 use Rattle.packed_bvh.proofs.pack.pack_node.Statement.{statement}
 use Rattle.packed_bvh.proofs.pack.pack_node.Tie as tie
