@@ -2,7 +2,7 @@
 use mathlib.Core.Path.{sym, subst}
 use lib.Dec.{T}
 use lib.Ieee.{binary32, ofBits}
-use Rattle.packed_bvh.proofs.AbsLaws.{abs-greater}
+use Rattle.ieee.specs.AbsLaws.{abs-greater}
 use Rattle.packed_bvh.proofs.quantize.abs.Statement.{statement}
 use Rattle.packed_bvh.proofs.quantize.abs.Tie as tie
 
