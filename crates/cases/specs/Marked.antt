@@ -30,10 +30,11 @@ use Rattle.light_rows.specs.RecordWords.{vecAt, recordAt, recordList}
 use Rattle.light_rows.specs.Block.{blockLayout, blockHandles}
 use Rattle.light_rows.specs.Nodes.{nodeList, nodeCount, nodeOf, nodeAt, boundsAt}
 use Rattle.light_rows.specs.Tree.{leaves, flatten}
-use Rattle.light_split.specs.Lights.{folded, component, widen, centroidEnds, bucketIndex, bucketOf}
+use Rattle.light_split.specs.Lights.{component, widen, centroidEnds, bucketIndex, bucketOf}
+use Rattle.words.specs.Lists.{folded, kept}
 use Rattle.light_split.specs.Buckets.{joinTo, fillBuckets, unionRange, unionBucketRange, mOmega, kr, evaluateCost, sideCost, cutCost, slotList}
 use Rattle.light_split.specs.Split.{combinedBounds, better, cuts, axis, chooseSplit}
-use Rattle.light_split.specs.Partition.{kept, goesLeft, goesRight, lefts, rights, partitionHandles, partedCount, partedHandles, partedWork}
+use Rattle.light_split.specs.Partition.{goesLeft, goesRight, lefts, rights, partitionHandles, partedCount, partedHandles, partedWork}
 use Rattle.light_bvh.specs.Subtree.{forked, treeBy, buildSubtree}
 use Rattle.light_bvh.specs.Build.{LightBVH, boundedHandles, grown, allBounds, validated, treeOf, builtBvh, buildCheck, buildLightBvh, nodesWritten, tabled}
 use Rattle.light_bvh.specs.Build.{tableWritten}

@@ -12,14 +12,14 @@ use lib.Seq.{sets, length-sets, length-take-le}
 use Rattle.words.specs.Answers.{Answer, given, refused, _then_}
 use Rattle.words.specs.LittleEndian.{wordsOf, bytesOf, wordCount, readWords}
 use Rattle.words.specs.Tray.{tray}
-use Rattle.words.specs.TrayLaws.{tray-early}
+use Rattle.words.specs.TrayLaws.{tray-early, tray-front}
 use Rattle.words.proofs.AnswerLaws.{given-injective, refused-injective, not-both, Early}
 use Rattle.words.proofs.AnswerLaws.{only-given, only-refused, only-cond, only-number}
 use Rattle.words.proofs.LittleEndianLaws.{length-wordsOf, length-bytesOf}
 use Rattle.light_rows.specs.Block.{blockWords}
 use Rattle.light_bvh.specs.Build.{LightBVH, nodesReserve, nodesWritten, tableWritten, summary}
 use Rattle.text.specs.Text.{refusalLine, fitting, Put}
-use Rattle.text.proofs.PutLaws.{tray-front, refusal-short, put-fits, put-then, handed}
+use Rattle.text.proofs.PutLaws.{refusal-short, put-fits, put-then, handed}
 use Rattle.columns.specs.Lines.{lineBytes, reportLines}
 use Rattle.columns.specs.Report.{reportLamps, blockBytes, blockLamps, treeOf}
 use Rattle.columns.specs.Report.{reportTree, headerBytes, powered, sizes}

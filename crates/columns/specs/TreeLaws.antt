@@ -17,7 +17,7 @@ use Rattle.light_bvh.specs.Build.{LightBVH, validated, builtBvh, isShort, build
 use Rattle.light_bvh.specs.Build.{buildLightBvh, nodesReserve, nodesWritten, tableWritten}
 use Rattle.light_bvh.proofs.RowsLaws.{bounded-few}
 use Rattle.tree_laws.specs.AcceptedTree.{Parts, accepted-parts, handles-count}
-use Rattle.light_runs.specs.NodeLaws.{node-words, table-words}
+use Rattle.tree_laws.specs.NodeLaws.{node-words, table-words}
 use Rattle.columns.specs.Report.{reportLamps, blockBytes, blockLamps, treeOf, reportTree}
 use Rattle.columns.specs.ReportLaws.{lamps-there}
 

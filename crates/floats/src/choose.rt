@@ -25,17 +25,12 @@ pub fn clamp(x: f32, lo: f32, hi: f32) -> f32
     if hi < y { hi } else { y }
 }
 
-// The value without its sign.
+// The value without its sign: the greater of x and 0 - x, with no branch by the sign, and of zeros 0 - x, which is +0.
 pub fn abs(x: f32) -> f32
     ensures { λ r. ⌜ r ≡ fabs x ⌝ }
 {
-    if x < 0.0 {
-        -x
-    } else if x == 0.0 {
-        0.0
-    } else {
-        x
-    }
+    let y = 0.0 - x;
+    if y < x { x } else { y }
 }
 
 // Whether the word that x is stored as has its sign bit; a NaN's has none.

@@ -1,23 +1,20 @@
 -- Floats of the format: what a word stands for, and what the functions of Choose and Sqrt give, the format holds (those of Whole stand in WholeLaws,
 -- narrow's in NarrowLaws, the operators' in lib.Ieee.Fits). The format holds a number with its sign in one way, so a value of it is its own rounding.
 -- Assumes nothing.
-use Prim.Native.Nat.{ℕ, zero, suc, _+_, _-_, _*_, _^_}
-use mathlib.Core.Path.{_≡_, refl, sym, _∙_, ap}
+use Prim.Native.Nat.{ℕ, zero, suc, _*_, _^_}
+use mathlib.Core.Path.{_≡_, refl}
 use mathlib.Core.Bool.{Bool, true, false, cond}
-use native.Mathlib.Nat.{mul-one, mul-assoc}
 use lib.Dec.{T}
-use lib.IntN.{ℤ, pos, negsuc}
-use lib.Pow.{pow-add}
-use lib.Ieee.{Format, binary32, Float, nan, inf, fin, low, up, down, round, lt, isNan, fits}
+use lib.IntN.{ℤ}
+use lib.Ieee.{Format, binary32, Float, nan, inf, fin, up, down, round, lt, isNan, fits}
 use lib.Ieee.Bits.{ofBits-fits}
-use lib.Ieee.Digits.{back}
 use lib.Ieee.Exact.{HasValue, round-exact}
 use lib.Ieee.Fits.{down-pos, nan-fits, inf-fits, round-fits, cond-fits}
 use Rattle.ieee.specs.Single.{single}
 use Rattle.ieee.specs.Choose.{fmin, fmax, clamp, fabs}
 use Rattle.ieee.specs.Sqrt.{rootOf, sqrt}
-use Rattle.ieee.specs.NearestLaws.{Held, held, held-units}
-use Rattle.ieee.specs.Patterns.{pow-le-inv, same-value}
+use Rattle.ieee.specs.NearestLaws.{Held, held, held-shift, held-units}
+use Rattle.ieee.specs.Patterns.{same-value}
 
 -- ---- a word is a float of binary32, whatever its size
 
@@ -60,19 +57,11 @@ sqrt-fits f (fin false (suc m) e) h = round-fits f false _ _
 
 -- ---- a value of the format is its own rounding
 
-self-value : (f : Format) (s : Bool) (m : ℕ) (e : ℤ) → Held f m e → HasValue (round f s (m * up e) (down e)) s (m * up e) (down e)
-self-value f s m (pos j) H =
-    let v : m * 2 ^ j * 2 ^ low f ≡ m * 2 ^ (j + low f) * 1 =
-    mul-assoc m (2 ^ j) (2 ^ low f) ∙ ap (λ (z : ℕ). m * z) (sym (pow-add 2 j (low f))) ∙ sym (mul-one (m * 2 ^ (j + low f)))
-    in
-    round-exact f s (m * 2 ^ j) 1 m (j + low f) (down-pos (pos j)) (H .digits) (held-units f m (pos j) (m * 2 ^ (j + low f)) H v) v
-self-value f s m (negsuc j) H =
-    let i = low f - suc j in
-    let l : 2 ^ low f ≡ 2 ^ i * 2 ^ suc j = ap (λ (z : ℕ). 2 ^ z) (sym (back (low f) (suc j) (pow-le-inv (suc j) (low f) (H .places)))) ∙ pow-add 2 i (suc j) in
-    let v : m * 1 * 2 ^ low f ≡ m * 2 ^ i * 2 ^ suc j =
-    ap (λ (z : ℕ). z * 2 ^ low f) (mul-one m) ∙ ap (λ (z : ℕ). m * z) l ∙ sym (mul-assoc m (2 ^ i) (2 ^ suc j))
-    in
-    round-exact f s (m * 1) (2 ^ suc j) m i (down-pos (negsuc j)) (H .digits) (held-units f m (negsuc j) (m * 2 ^ i) H v) v
+self-value : (f : Format) (s : Bool) (m : ℕ) (e : ℤ) → Held f m e
+    → HasValue (round f s (m * up e) (down e)) s (m * up e) (down e)
+self-value f s m e H =
+    let (i, is) = held-shift f m e H in
+    round-exact f s (m * up e) (down e) m i (down-pos e) (H .digits) (held-units f m e (m * 2 ^ i) H is) is
 
 pub round-self : (f : Format) (s : Bool) (m : ℕ) (e : ℤ) → T (fits f (fin s m e)) → round f s (m * up e) (down e) ≡ fin s m e
 round-self f s m e F =

@@ -20,4 +20,10 @@ pub mod SqrtNearest
 pub mod WholeNumbers
 pub mod OrderLaws
 pub mod ChooseOrder
+pub mod RoundOrder
+pub mod SumOrder
 pub mod OperationOrder
+pub mod CutLaws
+pub mod AbsLaws
+pub mod WordOrder
+pub mod RootOrder

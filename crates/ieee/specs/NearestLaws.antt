@@ -74,24 +74,28 @@ held-units f m e u H v =
     let a : m * up e * 2 ^ low f < 2 ^ suc (emax f) * down e * 2 ^ low f = mul-lt-mul-of-pos-right (H .limit) (pow-pos (low f)) in
     subst (λ (z : ℕ). u < z) (sym (overflow-units f)) (lt-of-mul-lt-mul-right (down e) (omega arith))
 
--- in units a value of the format is a number of at most prec digits times a power of two
-shape : (f : Format) (y : Float) (s : Bool) (h : ℕ) → T (fits f y) → HasValue y s h (2 ^ low f) → (m : ℕ) × (i : ℕ) × (m < 2 ^ prec f) × (h ≡ m * 2 ^ i)
+-- in units it is its digits times a power of two
+pub held-shift : (f : Format) (m : ℕ) (e : ℤ) → Held f m e → (i : ℕ) × (m * up e * 2 ^ low f ≡ m * 2 ^ i * down e)
+held-shift f m (pos j) H = (
+  j + low f,
+  mul-assoc m (2 ^ j) (2 ^ low f) ∙ ap (λ (z : ℕ). m * z) (sym (pow-add 2 j (low f))) ∙ sym (mul-one (m * 2 ^ (j + low f))),
+)
+held-shift f m (negsuc j) H =
+    let i = low f - suc j in
+    let enough : suc j ≤ low f = pow-le-inv (suc j) (low f) (H .places) in
+    let split : 2 ^ low f ≡ 2 ^ i * 2 ^ suc j =
+    ap (λ (z : ℕ). 2 ^ z) (sym (back (low f) (suc j) enough)) ∙ pow-add 2 i (suc j) in
+    (i, ap (λ (z : ℕ). z * 2 ^ low f) (mul-one m) ∙ ap (λ (z : ℕ). m * z) split ∙ sym (mul-assoc m (2 ^ i) (2 ^ suc j)))
+
+-- so a value of the format that is h units has h of at most prec digits times a power of two
+shape : (f : Format) (y : Float) (s : Bool) (h : ℕ) → T (fits f y) → HasValue y s h (2 ^ low f)
+    → (m : ℕ) × (i : ℕ) × (m < 2 ^ prec f) × (h ≡ m * 2 ^ i)
 shape f nan s h F v = absurd v
 shape f (inf t) s h F v = absurd v
-shape f (fin t m (pos j)) s h F v = (
-  m,
-  j + low f,
-  held f t m (pos j) F .digits,
-  sym (mul-one h) ∙ sym (v .1) ∙ mul-assoc m (2 ^ j) (2 ^ low f)
-      ∙ ap (λ (z : ℕ). m * z) (sym (pow-add 2 j (low f))),
-)
-shape f (fin t m (negsuc j)) s h F v =
-    let i = low f - suc j in
-    let r : suc j ≤ low f = pow-le-inv (suc j) (low f) (held f t m (negsuc j) F .places) in
-    let l : 2 ^ low f ≡ 2 ^ i * 2 ^ suc j = ap (λ (z : ℕ). 2 ^ z) (sym (back (low f) (suc j) r)) ∙ pow-add 2 i (suc j) in
-    let e : h * 2 ^ suc j ≡ m * 2 ^ i * 2 ^ suc j =
-    sym (v .1) ∙ ap (λ (z : ℕ). z * 2 ^ low f) (mul-one m) ∙ ap (λ (z : ℕ). m * z) l ∙ sym (mul-assoc m (2 ^ i) (2 ^ suc j)) in
-    (m, i, held f t m (negsuc j) F .digits, eq-of-mul-eq-mul-right (2 ^ suc j) (pow-pos (suc j)) h (m * 2 ^ i) e)
+shape f (fin t m e) s h F v =
+    let H = held f t m e F in
+    let (i, is) = held-shift f m e H in
+    (m, i, H .digits, eq-of-mul-eq-mul-right (down e) (down-pos e) h (m * 2 ^ i) (sym (v .1) ∙ is))
 
 -- so from hid * 2 ^ k units on it is a multiple of 2 ^ k
 grid-multiple : (f : Format) (y : Float) (s : Bool) (h k : ℕ) → T (fits f y) → HasValue y s h (2 ^ low f) → hid f * 2 ^ k ≤ h → (c : ℕ) × (h ≡ c * 2 ^ k)

@@ -1,119 +1,31 @@
 -- How sums, differences, products and quotients keep the order of floats, over the format but for the last lemma. Assumes nothing.
-use Prim.Native.Nat.{ℕ, zero, suc, _+_, _-_, _*_, _/_, _%_, _^_, _≤_, _<_, zero-le, compare}
+use Prim.Native.Nat.{ℕ, _+_, _*_, _≤_, _<_, zero-le}
 use mathlib.Core.Path.{_≡_, refl, sym, _∙_, ap, subst}
 use mathlib.Core.Bool.{Bool, true, false, not, _&&_, _||_, cond}
 use mathlib.Core.Logic.{_⊎_, inl, inr}
-use native.Mathlib.Nat.{mul-pos, mul-comm, mul-le-mul, mul-sub, mul-one, eq-zero-or-pos, zero-mul, mul-le-mul-right}
+use native.Mathlib.Nat.{mul-pos, mul-comm, mul-le-mul, mul-one, eq-zero-or-pos, zero-mul, mul-le-mul-right}
 use native.Mathlib.Omega.{arith}
-use lib.Dec.{T, ltb, eqb, eqb→eq, ltb→lt, lt→ltb, nltb→le}
+use lib.Dec.{T, eqb, eqb→eq, ltb→lt, lt→ltb}
 use lib.IntN.{ℤ, pos}
-use lib.Ieee.{Format, binary32, Float, nan, inf, fin, prec, emax, low, unlike, up, down, size, nearest, odd, units, round, sum, neg, add, sub, mul, div, lt, le}
+use lib.Ieee.{Format, binary32, Float, nan, inf, fin, unlike, up, down, round, sum, neg, add, sub, mul, div, lt, le}
 use lib.Ieee.{fits, isNan, ofBits}
-use lib.Ieee.Fits.{eq→eqb, up-pos, down-pos, round-is, and-l, and-r}
-use lib.Ieee.Exact.{HasValue, round-exact}
-use lib.Ieee.Order.{round-mono}
+use lib.Ieee.Fits.{up-pos, down-pos, and-l, and-r}
 use lib.Ieee.Scale.{finite}
 use lib.Ieee.Positive.{num, den, den-pos, positive}
-use lib.Pow.{pow-pos}
 use borrow.Author.Tests.{le-ltb, ne-eqb}
 use Rattle.ieee.specs.Choose.{fabs}
 use Rattle.ieee.specs.FormatLaws.{fabs-fits, round-self}
-use Rattle.ieee.specs.OrderLaws.{finite-below, gain, le-fin, le-left, le-refl, le-right, le-sizes, le-top, le-trans, le→nonneg, loss, lt-of-lt-of-le}
+use Rattle.ieee.specs.OrderLaws.{finite-below, gain, le-refl, le-right, le-sizes, le-top, le→nonneg, loss, lt-of-lt-of-le}
 use Rattle.ieee.specs.OrderLaws.{lt→le, nonneg, nonneg→le, nonneg-known, nonneg-up, or-right}
-
--- ---- what an operation gives, up to the sign of a zero
-
-abs-odd : (d : ℕ) (s : Bool) (q k l : ℕ) → fabs (odd d s q k l) ≡ odd d false q k l
-unfolding odd fabs
-abs-odd d s zero k l = refl
-abs-odd d s (suc q) k l = refl
-
-abs-units : (f : Format) (s : Bool) (q k : ℕ) → fabs (units f s q k) ≡ units f false q k
-unfolding units fabs
-abs-units f s q k = go (ltb (q * 2 ^ k) (2 ^ (low f + suc (emax f))))
-  where
-    go : (b : Bool) → fabs (cond b (odd (suc (prec f)) s q k (low f)) (inf s)) ≡ cond b (odd (suc (prec f)) false q k (low f)) (inf false)
-    go true = abs-odd (suc (prec f)) s q k (low f)
-    go false = refl
-
-abs-round : (f : Format) (s : Bool) (n d : ℕ) → fabs (round f s n d) ≡ round f false n d
-abs-round f s n d =
-    let k = size (n * 2 ^ low f / d) - prec f in
-    let u = d * 2 ^ k in
-    ap fabs (round-is f s n d) ∙ abs-units f s (nearest (n * 2 ^ low f / u) (compare (n * 2 ^ low f % u * 2) u)) k ∙ sym (round-is f false n d)
-
-abs-nonneg : (x : Float) → T (not (isNan x)) → T (nonneg (fabs x))
-unfolding fabs isNan
-abs-nonneg nan h = h
-abs-nonneg (inf s) h = tt
-abs-nonneg (fin s m e) h = tt
-
-value-zero : (x : Float) (s : Bool) (c : ℕ) → 0 < c → HasValue x s 0 c → T (nonneg x)
-value-zero nan s c C h = absurd h
-value-zero (inf t) s c C h = absurd h
-value-zero (fin t m e) s c C h =
-    let z : m ≡ 0 = elim (eq-zero-or-pos m) [ inl z ↦ z | inr p ↦ absurd (omega (arith, mul-pos (mul-pos p (up-pos e)) C, h .1)) ] in
-    or-right (not t) (eqb m 0) (eq→eqb z)
-
-round-nonneg : (f : Format) (s : Bool) (n d : ℕ) → 0 < d → (T s → n ≡ 0) → T (nonneg (round f s n d))
-round-nonneg f true n d D h =
-    subst (λ (z : ℕ). T (nonneg (round f true z d))) (sym (h tt))
-    (value-zero (round f true 0 d) true d D (round-exact f true 0 d 0 0 D (pow-pos (prec f)) (pow-pos (low f + suc (emax f))) (simp zero-mul)))
-round-nonneg f false n d D h = subst (λ (z : Float). T (nonneg z)) (abs-round f false n d) (abs-nonneg (round f false n d) known)
-  where
-    known : T (not (isNan (round f false n d)))
-    known = le-left (round f false n d) (round f false n d) (round-mono f n d n d D D (omega arith))
-
--- x is not below zero, and in size it is n / d rounded
-abbrev Rounds : Format → Float → ℕ → ℕ → Type 0
-Rounds f x n d = T (nonneg x) × (fabs x ≡ round f false n d)
-
-rounds : (f : Format) (s : Bool) (n d n' : ℕ) → 0 < d → n ≡ n' → (T s → n ≡ 0) → Rounds f (round f s n d) n' d
-rounds f s n d n' D e h = (round-nonneg f s n d D h, abs-round f s n d ∙ ap (λ (z : ℕ). round f false z d) e)
-
-abs-le : (x : Float) → T (nonneg x) → T (le x (fabs x)) × T (le (fabs x) x)
-unfolding fabs
-abs-le nan h = absurd h
-abs-le (inf true) h = absurd h
-abs-le (inf false) h = (unfold le in tt, unfold le in tt)
-abs-le (fin true m e) h =
-    let z : m * up e ≡ 0 = ap (λ (z : ℕ). z * up e) (eqb→eq m 0 h) ∙ zero-mul (up e) in
-    (le-fin true m e false m e .1 (omega arith), le-fin false m e true m e .1 (omega (arith, ap (λ (k : ℕ). k * down e) z)))
-abs-le (fin false m e) h = (le-refl (fin false m e) (unfold isNan in tt), le-refl (fin false m e) (unfold isNan in tt))
-
-le-rounds : (f : Format) (x y : Float) (a b c d : ℕ) → 0 < b → 0 < d → Rounds f x a b → Rounds f y c d → a * d ≤ c * b → T (le x y)
-le-rounds f x y a b c d B D p q h =
-    le-trans x (fabs x) y (abs-le x (p .0) .0)
-    (le-trans (fabs x) (fabs y) y
-    (subst (λ (z : Float). T (le z (fabs y))) (sym (p .1)) (subst (λ (z : Float). T (le (round f false a b) z)) (sym (q .1)) (round-mono f a b c d B D h)))
-    (abs-le y (q .0) .1))
+use Rattle.ieee.specs.RoundOrder.{Rounds, rounds, le-rounds}
+use Rattle.ieee.specs.SumOrder.{sum-rounds, sum-mono, sub-known, difference-mono, difference-nonneg}
 
 -- ---- each operation on values that are finite and not below zero
-
-sum-rounds : (f : Format) (s : Bool) (a : ℕ) (t : Bool) (b c : ℕ) → 0 < c → loss s a + loss t b ≤ gain s a + gain t b
-    → Rounds f (sum f s a t b c) (gain s a + gain t b - (loss s a + loss t b)) c
-unfolding sum
-sum-rounds f false a false b c C h = rounds f false (a + b) c (a + b - (0 + 0)) C (omega arith) (λ t. absurd t)
-sum-rounds f false a true b c C h = go (ltb a b) (ltb→lt a b)
-  where
-    go : (p : Bool) → (T p → a < b) → Rounds f (cond p (round f true (b - a) c) (round f false (a - b) c)) (a + 0 - (0 + b)) c
-    go true k = absurd (omega (arith, k tt))
-    go false k = rounds f false (a - b) c (a + 0 - (0 + b)) C (omega arith) (λ t. absurd t)
-sum-rounds f true a false b c C h = go (ltb a b) (nltb→le a b)
-  where
-    go : (p : Bool) → (T (not p) → b ≤ a) → Rounds f (cond p (round f false (b - a) c) (round f (ltb b a) (a - b) c)) (0 + b - (a + 0)) c
-    go true k = rounds f false (b - a) c (0 + b - (a + 0)) C (omega arith) (λ t. absurd t)
-    go false k = rounds f (ltb b a) (a - b) c (0 + b - (a + 0)) C (omega (arith, k tt)) (λ t. omega (arith, k tt))
-sum-rounds f true a true b c C h = rounds f true (a + b) c (0 + 0 - (a + b)) C (omega arith) (λ t. omega arith)
 
 -- such a value's size counts as a gain, whatever its sign
 own : (s : Bool) (m : ℕ) (e : ℤ) (k : ℕ) → T (nonneg (fin s m e)) → (gain s (m * up e * k) ≡ m * up e * k) × (loss s (m * up e * k) ≡ 0)
 own true m e k h = let z : m * up e * k ≡ 0 = ap (λ (z : ℕ). z * up e * k) (eqb→eq m 0 h) ∙ ap (λ (z : ℕ). z * k) (zero-mul (up e)) ∙ zero-mul k in (sym z, z)
 own false m e k h = (refl, refl)
-
-turned : (t : Bool) (b : ℕ) → (gain (not t) b ≡ loss t b) × (loss (not t) b ≡ gain t b)
-turned true b = (refl, refl)
-turned false b = (refl, refl)
 
 cross : (x y : Float) → T (nonneg x) → T (nonneg y) → T (finite x) → T (finite y) → T (le x y) → num x * den y ≤ num y * den x
 unfolding le
@@ -137,23 +49,6 @@ add-rounds f (fin s m e) (fin t n d) p q a b =
     let h = own t n d (down e) q in
     subst (λ (z : ℕ). Rounds f (sum f s A t B (down e * down d)) z (down e * down d)) (omega (arith, g, h))
     (sum-rounds f s A t B (down e * down d) (mul-pos (down-pos e) (down-pos d)) (omega (arith, g, h)))
-
-sub-rounds : (f : Format) (x y : Float) → T (nonneg x) → T (nonneg y) → T (finite x) → T (finite y) → T (le y x)
-    → Rounds f (sub f x y) (num x * den y - num y * den x) (den x * den y)
-unfolding sub
-sub-rounds f nan y p q a b l = absurd a
-sub-rounds f (inf s) y p q a b l = absurd a
-sub-rounds f (fin s m e) nan p q a b l = absurd b
-sub-rounds f (fin s m e) (inf t) p q a b l = absurd b
-sub-rounds f (fin s m e) (fin t n d) p q a b l =
-    let A = m * up e * down d in
-    let B = n * up d * down e in
-    let g = own s m e (down d) p in
-    let h = own t n d (down e) q in
-    let i = turned t B in
-    let c : B ≤ A = cross (fin t n d) (fin s m e) q p b a l in
-    subst (λ (z : ℕ). Rounds f (sum f s A (not t) B (down e * down d)) z (down e * down d)) (omega (arith, g, h, i))
-    (sum-rounds f s A (not t) B (down e * down d) (mul-pos (down-pos e) (down-pos d)) (omega (arith, g, h, i)))
 
 -- a product or a quotient with a sign has a factor that is zero
 zero-size : (m : ℕ) (e : ℤ) (k : ℕ) → T (eqb m 0) → m * up e * k ≡ 0
@@ -227,7 +122,7 @@ add-nonneg f (fin s m e) (fin t n d) p q = add-rounds f (fin s m e) (fin t n d) 
 
 -- the difference, for a y up to x
 pub sub-nonneg : (f : Format) (x y : Float) → T (nonneg y) → T (finite x) → T (le y x) → T (nonneg (sub f x y))
-sub-nonneg f x y q a l = sub-rounds f x y (nonneg-up y x q l) q a (finite-below y x q l a) l .0
+sub-nonneg f x y q a l = difference-nonneg f y x (finite-below y x q l a) a l
 
 inf-or-nan : (b t : Bool) → T (not t || b) → (cond b nan (inf t) ≡ nan) ⊎ T (nonneg (cond b nan (inf t)))
 inf-or-nan true t h = inl refl
@@ -272,17 +167,6 @@ module _ (f : Format) (u v w z : Float) (p : T (nonneg u)) (q : T (nonneg w)) (h
   nonneg-z : T (nonneg z)
   nonneg-z = nonneg-up w z q k
 
-  add-finite : T (finite v) → T (finite z) → T (le (add f u w) (add f v z))
-  add-finite a b =
-      let c = finite-below u v p h a in
-      let d = finite-below w z q k b in
-      let x : num u * den v ≤ num v * den u = cross u v p nonneg-v c a h in
-      let y : num w * den z ≤ num z * den w = cross w z q nonneg-z d b k in
-      let x' : num u * den v * (den w * den z) ≤ num v * den u * (den w * den z) = mul-le-mul-right (den w * den z) x in
-      let y' : num w * den z * (den u * den v) ≤ num z * den w * (den u * den v) = mul-le-mul-right (den u * den v) y in
-      le-rounds f (add f u w) (add f v z) (num u * den w + num w * den u) (den u * den w) (num v * den z + num z * den v) (den v * den z)
-      (mul-pos (den-pos u) (den-pos w)) (mul-pos (den-pos v) (den-pos z)) (add-rounds f u w p q c d) (add-rounds f v z nonneg-v nonneg-z a b) (omega arith)
-
   mul-finite : T (finite v) → T (finite z) → T (le (mul f u w) (mul f v z))
   mul-finite a b =
       let c = finite-below u v p h a in
@@ -315,8 +199,8 @@ add-top f (fin s m e) (fin t n d) p q h = absurd h
 -- u + w grows with both, infinities included
 pub add-mono : (f : Format) (u v w z : Float) → T (nonneg u) → T (nonneg w) → T (le u v) → T (le w z) → T (le (add f u w) (add f v z))
 add-mono f u v w z p q h k =
-    under v z (add f v z) (add f u w) (nonneg-known (add f u w) (add-nonneg f u w p q))
-    (add-top f v z (nonneg-up u v p h) (nonneg-up w z q k)) (add-finite f u v w z p q h k)
+    sum-mono f u v w z (nonneg-known (add f u w) (add-nonneg f u w p q))
+    (nonneg-known (add f v z) (add-nonneg f v z (nonneg-up u v p h) (nonneg-up w z q k))) h k
 
 top-or-nan : (b t : Bool) → T (not t || b) → T (not (isNan (cond b nan (inf t)))) → cond b nan (inf t) ≡ inf false
 unfolding isNan
@@ -363,35 +247,18 @@ div-mono f u v s p a b l h =
     num-above (fin true m e) h = absurd h
     num-above (fin false m e) h = mul-pos (ltb→lt 0 m h) (up-pos e)
 
-sub-mul : (a b k : ℕ) → (a - b) * k ≡ a * k - b * k
-sub-mul a b k = mul-comm (a - b) k ∙ mul-sub k a b ∙ ap (λ (z : ℕ). z - k * b) (mul-comm k a) ∙ ap (λ (z : ℕ). a * k - z) (mul-comm k b)
-
-less : (a b c d : ℕ) → a ≤ c → d ≤ b → a - b ≤ c - d
-less a b c d h k = omega arith
-
--- u - s grows with u, and as s falls
-sub-both : (f : Format) (u s v t : Float) → T (nonneg t) → T (finite v) → T (le t s) → T (le s u) → T (le u v) → T (le (sub f u s) (sub f v t))
-sub-both f u s v t p a k l h =
-    let q = nonneg-up t s p k in
-    let r = nonneg-up s u q l in
-    let o = nonneg-up u v r h in
-    let b = finite-below u v r h a in
-    let c = finite-below s u q l b in
-    let d = finite-below t s p k c in
-    let x : num u * den v * (den s * den t) ≤ num v * den u * (den s * den t) = mul-le-mul-right (den s * den t) (cross u v r o b a h) in
-    let y : num t * den s * (den u * den v) ≤ num s * den t * (den u * den v) = mul-le-mul-right (den u * den v) (cross t s p q d c k) in
-    le-rounds f (sub f u s) (sub f v t) (num u * den s - num s * den u) (den u * den s) (num v * den t - num t * den v) (den v * den t)
-    (mul-pos (den-pos u) (den-pos s)) (mul-pos (den-pos v) (den-pos t))
-    (sub-rounds f u s r q b c l) (sub-rounds f v t o p a d (le-trans t u v (le-trans t s u k l) h))
-    (rw (sub-mul (num u * den s) (num s * den u) (den v * den t), sub-mul (num v * den t) (num t * den v) (den u * den s))
-    (less (num u * den s * (den v * den t)) (num s * den u * (den v * den t)) (num v * den t * (den u * den s)) (num t * den v * (den u * den s))
-    (omega arith) (omega arith)))
-
+-- u - s grows with u, and as s falls, for values not below zero whose differences are not either
 pub sub-mono : (f : Format) (u v s : Float) → T (nonneg s) → T (finite v) → T (le s u) → T (le u v) → T (le (sub f u s) (sub f v s))
-sub-mono f u v s p a l h = sub-both f u s v s p a (le-refl s (nonneg-known s p)) l h
+sub-mono f u v s p a l h =
+    let b = finite-below u v (nonneg-up s u p l) h a in
+    let c = finite-below s u p l b in
+    difference-mono f u s v s (sub-known f u s b c) (sub-known f v s a c) h (le-refl s (nonneg-known s p))
 
 pub sub-anti : (f : Format) (x s t : Float) → T (nonneg s) → T (finite x) → T (le s t) → T (le t x) → T (le (sub f x t) (sub f x s))
-sub-anti f x s t p a h l = sub-both f x t x s p a h l (le-refl x (le-right t x l))
+sub-anti f x s t p a h l =
+    let b = finite-below t x (nonneg-up s t p h) l a in
+    let c = finite-below s t p h b in
+    difference-mono f x t x s (sub-known f x t a b) (sub-known f x s a c) (le-refl x (le-right t x l)) h
 
 -- ---- a sum is at least each of its terms
 

@@ -21,11 +21,11 @@ gain s a = cond s 0 a
 abbrev pub loss : Bool → ℕ → ℕ
 loss s a = cond s a 0
 
-or-split : (a b : Bool) → T (a || b) → T a ⊎ T b
+pub or-split : (a b : Bool) → T (a || b) → T a ⊎ T b
 or-split true b t = inl tt
 or-split false b t = inr t
 
-or-left : (a b : Bool) → T a → T (a || b)
+pub or-left : (a b : Bool) → T a → T (a || b)
 or-left true b t = tt
 or-left false b t = absurd t
 
@@ -69,11 +69,11 @@ chain px nx dx py ny dy pz nz dz D h k =
     let b : (py * dz + nz * dy) * dx ≤ (pz * dy + ny * dz) * dx = mul-le-mul-right dx k in
     le-of-mul-le-mul-right (omega arith) D
 
-gain-mul : (s : Bool) (a k : ℕ) → gain s (a * k) ≡ gain s a * k
+pub gain-mul : (s : Bool) (a k : ℕ) → gain s (a * k) ≡ gain s a * k
 gain-mul true a k = sym (zero-mul k)
 gain-mul false a k = refl
 
-loss-mul : (s : Bool) (a k : ℕ) → loss s (a * k) ≡ loss s a * k
+pub loss-mul : (s : Bool) (a k : ℕ) → loss s (a * k) ≡ loss s a * k
 loss-mul true a k = refl
 loss-mul false a k = sym (zero-mul k)
 

@@ -1,6 +1,6 @@
 -- The whole number nearest to the root of n / 64, by squares. The root of n has three digits more than that number, and what it leaves over counts as half a
 -- digit more (`sticky`): q is what a rounding of four digits keeps where n lies between the squares of 8 q - 4 and 8 q + 4. Assumes nothing.
-use Prim.Native.Nat.{ℕ, zero, suc, _+_, _-_, _*_, _/_, _%_, _^_, _≤_, _<_}
+use Prim.Native.Nat.{ℕ, zero, suc, _+_, _*_, _^_, _≤_, _<_}
 use mathlib.Core.Path.{_≡_, refl, sym, _∙_, subst}
 use mathlib.Core.Bool.{Bool, true, false, cond, _&&_}
 use native.Mathlib.Nat.{le-of-lt}

@@ -1,21 +1,21 @@
 -- floor, ceil and round of Whole.antt give the whole numbers that their words say. The magnitude m * 2 ^ e of a value is the fraction m * up e / down e,
 -- and the whole number that stands for it is a value of the format, so that rounding it changes nothing. Over the format. Assumes nothing.
 use Prim.Native.Nat.{ℕ, suc, _+_, _*_, _/_, _%_, _^_, _≤_, _<_}
-use mathlib.Core.Path.{_≡_, sym, _∙_, ap, subst}
+use mathlib.Core.Path.{_≡_, subst}
 use mathlib.Core.Bool.{Bool, true, false, cond}
 use mathlib.Core.Logic.{_⊎_, inl, inr}
-use native.Mathlib.Nat.{le-trans, le-of-lt, le-of-suc-le-suc, lt-of-not-le, mul-one, mul-assoc, mul-le-mul-left, mul-le-mul-right, mul-pos, eq-zero-or-pos}
+use native.Mathlib.Nat.{le-of-mul-le-mul-right, lt-of-mul-lt-mul-right, le-trans, le-of-lt, le-of-suc-le-suc, lt-of-not-le, mul-le-mul-left, mul-le-mul-right, mul-pos, eq-zero-or-pos}
 use native.Mathlib.Nat.{div-add-mod', mod-lt}
 use native.Mathlib.Omega.{arith}
 use lib.IntN.{ℤ, pos, negsuc}
 use lib.Dec.{T, lit≤}
-use lib.Pow.{pow-pos, pow-add}
-use lib.Ieee.{Format, Float, fin, low, up, down, round, fits}
+use lib.Pow.{pow-pos}
+use lib.Ieee.{Format, Float, fin, up, down, round, fits}
 use lib.Ieee.Back.{round-whole}
 use lib.Ieee.Exact.{HasValue, round-exact}
 use lib.Ieee.Fits.{down-pos}
 use borrow.Author.Tests.{eq-eqb, ne-eqb}
-use Rattle.ieee.specs.NearestLaws.{Held, held, held-units}
+use Rattle.ieee.specs.NearestLaws.{Held, held, held-shift, held-units}
 use Rattle.ieee.specs.Whole.{outward, nextWhole, floor, ceil, halfUp, roundAway}
 
 -- ---- whole numbers next to the magnitude m * 2 ^ e
@@ -61,16 +61,24 @@ module _ (m : ℕ) (e : ℤ) where
       let l : x % (2 * down e) < 2 * down e = mod-lt x (mul-pos (lit≤ tt) (down-pos e)) in
       record { at-most = omega arith; greatest = omega arith }
 
+-- the next whole number to m * 2 ^ e, which is at most n
+pub outward-small : (away : Bool) (m : ℕ) (e : ℤ) (n : ℕ) → m * up e ≤ n * down e → outward away m e ≤ n
+outward-small false m e n h = le-of-mul-le-mul-right (le-trans (outward-under m e .at-most) h) (down-pos e)
+outward-small true m e n h =
+    let q = outward true m e in
+    let l : q * down e < (n + 1) * down e = omega (arith, outward-over m e .least) in
+    let s : q < n + 1 = lt-of-mul-lt-mul-right (down e) l in
+    omega arith
+
 -- ---- less than one away from a value of the format a whole number is one itself
 
 near-value : (f : Format) (s : Bool) (m : ℕ) (e : ℤ) (n : ℕ) → Held f m e → n * down e < m * up e + down e → m * up e < n * down e + down e
     → HasValue (round f s n 1) s n 1
 near-value f s m (pos k) n H a b =
     let same : m * 2 ^ k ≡ n = omega arith in
-    let j : m * 2 ^ k * 2 ^ low f ≡ m * 2 ^ (k + low f) = mul-assoc m (2 ^ k) (2 ^ low f) ∙ ap (λ (z : ℕ). m * z) (sym (pow-add 2 k (low f))) in
+    let (i, is) = held-shift f m (pos k) H in
     subst (λ (z : ℕ). HasValue (round f s z 1) s z 1) same
-    (round-exact f s (m * 2 ^ k) 1 m (k + low f) (lit≤ tt) (H .digits)
-    (held-units f m (pos k) (m * 2 ^ (k + low f)) H (j ∙ sym (mul-one (m * 2 ^ (k + low f))))) (j ∙ sym (mul-one (m * 2 ^ (k + low f)))))
+    (round-exact f s (m * 2 ^ k) 1 m i (lit≤ tt) (H .digits) (held-units f m (pos k) (m * 2 ^ i) H is) is)
 near-value f s m (negsuc k) n H a b = round-whole f s n (le-trans (le-of-suc-le-suc (lt-of-not-le few)) (le-of-lt (H .digits)))
   where
     few : suc m ≤ n → ⊥

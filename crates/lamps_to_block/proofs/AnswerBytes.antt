@@ -18,7 +18,8 @@ use Rattle.lamps.specs.Build.{buildLightBounds}
 use Rattle.lamps.proofs.BuildLaws.{length-block}
 use Rattle.lamp_laws.specs.ListLaws.{built-few}
 use Rattle.text.specs.Text.{refusalLine}
-use Rattle.text.proofs.PutLaws.{refusal-short, tray-front}
+use Rattle.text.proofs.PutLaws.{refusal-short}
+use Rattle.words.specs.TrayLaws.{tray-front}
 use Rattle.lamps_to_block.specs.ListToBlock.{blockRoom, answered, answerBytes, converted}
 
 -- ---- room

@@ -1,32 +1,21 @@
 -- The root and the order: a value below the root of x has a square that is at most x. So where x is below the square of a value, its root is at most that
 -- value; and the root of what is at most 1 is at most 1. Assumes nothing.
-use Prim.Native.Nat.{ℕ, zero, suc, _+_, _-_, _*_, _^_, _≤_, _<_}
 use mathlib.Core.Path.{_≡_, refl, sym, _∙_, ap, subst}
 use mathlib.Core.Bool.{Bool, true, false, not, cond, _||_}
-use mathlib.Core.Logic.{_⊎_, inl, inr}
-use native.Mathlib.Nat.{mul-one, zero-mul, mul-assoc, mul-pos, mul-le-mul, mul-le-mul-right, lt-of-not-le, le-of-lt, le-of-mul-le-mul-right}
-use native.Mathlib.Omega.{arith}
-use lib.Dec.{T, not-T, eqb→eq, ltb→lt}
-use borrow.Author.Tests.{ne-eqb}
-use lib.IntN.{ℤ, pos, negsuc}
-use lib.Pow.{pow-pos, pow-add}
-use lib.Ieee.{Format, binary32, Float, nan, inf, fin, low, up, down, round, add, sub, mul, div, lt, le, fits, isNan, ofBits, eq, neg, sum}
+use mathlib.Core.Logic.{_⊎_}
+use lib.Dec.{T}
+use lib.Ieee.{binary32, Float, nan, add, sub, mul, lt, le, fits, isNan, ofBits, eq, neg}
 use lib.Ieee.Back.{whole-unique}
-use lib.Ieee.Bits.{is-false, ofBits-fits}
+use lib.Ieee.Bits.{ofBits-fits}
 use lib.Ieee.Digits.{back}
-use lib.Ieee.Exact.{HasValue}
-use lib.Ieee.Fits.{up-pos, down-pos, add-fits, sub-fits, cond-fits}
-use lib.Ieee.Order.{le-of-values, round-mono}
+use lib.Ieee.Fits.{add-fits, sub-fits, cond-fits}
 use Rattle.ieee.specs.Choose.{fmax}
-use Rattle.ieee.specs.ChooseOrder.{fmax-is, fmax-nan, fmax-nonneg}
-use Rattle.ieee.specs.FormatLaws.{round-self, sqrt-fits, fmax-fits}
-use Rattle.ieee.specs.NearestLaws.{held}
-use Rattle.ieee.specs.OperationOrder.{add-nonneg, mul-nonneg, div-nonneg, div-mono, sub-le, lt→positive}
-use Rattle.ieee.specs.OrderLaws.{or-right, nonneg, nonneg→le, nonneg-known, le-fin, le-left, le-right, le-top, lt→le, lt-or-le, lt-of-lt-of-le, not-le-of-lt, le-of-not-lt, le-trans}
-use Rattle.ieee.specs.Patterns.{pow-le-inv}
+use Rattle.ieee.specs.ChooseOrder.{fmax-nonneg}
+use Rattle.ieee.specs.FormatLaws.{sqrt-fits, fmax-fits}
+use Rattle.ieee.specs.OrderLaws.{or-left, or-right, nonneg, le-left, le-of-not-lt}
+use Rattle.ieee.specs.RootOrder.{square-nonneg, sum-nonneg, above-half-root, unit-root, share-any, rest-le, one-value}
 use Rattle.ieee.specs.Single.{_⊕_, _⊖_, _⊗_, _⊘_, zerof, half, onef, minusOne}
 use Rattle.ieee.specs.Sqrt.{sqrt}
-use Rattle.ieee.specs.SqrtNearest.{sqrt-nearest}
 use Rattle.light_bounds.specs.Bounds.{diagonal, centroid}
 use Rattle.light_bounds.specs.Cones.{safeSqrt, cosSubClamped, boundSubtendedDirections}
 use Rattle.light_bounds.specs.Importance.{sine, cosW, cosP, distance2}
@@ -36,115 +25,7 @@ use Rattle.light_bounds.specs.declared.bounds.Bounds3.{Bounds3}
 use Rattle.light_bounds.specs.declared.vecmath.Vec3.{Vec3}
 use Rattle.light_bounds.specs.declared.light_bounds.LightBounds.{LightBounds}
 
--- a finite value of the format is a whole number of its smallest value
-in-units : (f : Format) (s : Bool) (m : ℕ) (e : ℤ) → T (fits f (fin s m e)) → (u : ℕ) × (m * up e * 2 ^ low f ≡ u * down e)
-in-units f s m (pos j) F = (m * 2 ^ j * 2 ^ low f, sym (mul-one (m * 2 ^ j * 2 ^ low f)))
-in-units f s m (negsuc j) F =
-    let i = low f - suc j in
-    let r : suc j ≤ low f = pow-le-inv (suc j) (low f) (held f s m (negsuc j) F .places) in
-    let l : 2 ^ low f ≡ 2 ^ i * 2 ^ suc j = ap (λ (z : ℕ). 2 ^ z) (sym (back (low f) (suc j) r)) ∙ pow-add 2 i (suc j) in
-    (m * 2 ^ i, ap (λ (z : ℕ). z * 2 ^ low f) (mul-one m) ∙ ap (λ (z : ℕ). m * z) l ∙ sym (mul-assoc m (2 ^ i) (2 ^ suc j)))
-
--- x is u units, y is h units below its root
-below-root : (f : Format) (x y : Float) (u h : ℕ) → T (fits f x) → T (fits f y) → HasValue x false u (2 ^ low f) → HasValue y false h (2 ^ low f)
-    → T (lt y (sqrt f x)) → h * h < u * 2 ^ low f
-below-root f x y u h F G v w l =
-    let N = sqrt-nearest f x u F v in
-    let L = pow-pos (low f) in
-    let less : h < N .units =
-    lt-of-not-le (λ (k : N .units ≤ h). not-le-of-lt y (sqrt f x) l
-    (le-of-values (sqrt f x) y (N .units) (2 ^ low f) h (2 ^ low f) L L (N .value) w (mul-le-mul-right (2 ^ low f) k))) in
-    let sum : suc (h + h) ≤ N .units + h = omega (arith, less) in
-    omega (arith, mul-le-mul sum sum, N .below y h G w less)
-
-cross : (A D B E L u h : ℕ) → 0 < L → A * L ≡ h * D → B * L ≡ u * E → h * h ≤ u * L → A * A * E ≤ B * (D * D)
-cross A D B E L u h p a b s =
-    let f1 : A * L * (A * L) * E ≡ h * D * (h * D) * E = ap (λ (z : ℕ). z * z * E) a in
-    let f2 : h * h * (D * D * E) ≤ u * L * (D * D * E) = mul-le-mul-right (D * D * E) s in
-    let f3 : B * L * (L * (D * D)) ≡ u * E * (L * (D * D)) = ap (λ (z : ℕ). z * (L * (D * D))) b in
-    let g : A * A * E * (L * L) ≤ B * (D * D) * (L * L) = omega (arith, f1, f2, f3) in
-    le-of-mul-le-mul-right g (mul-pos p p)
-
-not-under-top : (x : Float) → T (lt (inf false) x) → ⊥
-not-under-top x l = not-le-of-lt (inf false) x l (le-top x (le-right (inf false) x (lt→le (inf false) x l)))
-
--- the square of a value below the root of x is at most x
-square-below : (f : Format) (m : ℕ) (e : ℤ) (y : Float) → T (fits f (fin false m e)) → T (fits f y) → T (nonneg y) → T (lt y (sqrt f (fin false m e)))
-    → T (le (mul f y y) (fin false m e))
-unfolding mul
-square-below f m e nan F G p l = absurd p
-square-below f m e (inf true) F G p l = absurd p
-square-below f m e (inf false) F G p l = absurd (not-under-top (sqrt f (fin false m e)) l)
-square-below f m e (fin true n d) F G p l =
-    let z : n * up d * (n * up d) ≡ 0 = ap (λ (k : ℕ). k * up d * (k * up d)) (eqb→eq n 0 p) ∙ ap (λ (k : ℕ). k * (0 * up d)) (zero-mul (up d)) ∙ zero-mul (0 * up d) in
-    subst (λ (x : Float). T (le (round f false (n * up d * (n * up d)) (down d * down d)) x)) (round-self f false m e F)
-    (round-mono f (n * up d * (n * up d)) (down d * down d) (m * up e) (down e) (mul-pos (down-pos d) (down-pos d)) (down-pos e)
-    (omega (arith, ap (λ (k : ℕ). k * down e) z)))
-square-below f m e (fin false n d) F G p l =
-    let (u, v) = in-units f false m e F in
-    let (h, w) = in-units f false n d G in
-    let s : h * h < u * 2 ^ low f = below-root f (fin false m e) (fin false n d) u h F G (refl, v) (refl, w) l in
-    subst (λ (x : Float). T (le (round f false (n * up d * (n * up d)) (down d * down d)) x)) (round-self f false m e F)
-    (round-mono f (n * up d * (n * up d)) (down d * down d) (m * up e) (down e) (mul-pos (down-pos d) (down-pos d)) (down-pos e)
-    (cross (n * up d) (down d) (m * up e) (down e) (2 ^ low f) u h (pow-pos (low f)) w v (le-of-lt s)))
-
--- a root is at least its half
-half-le : (s : Float) (a : ℕ) → T (fits binary32 s) → HasValue s false a (2 ^ low binary32) → T (le (s ⊗ half) s)
-unfolding mul ofBits
-half-le nan a F v = absurd v
-half-le (inf t) a F v = absurd v
-half-le (fin true m e) a F v = absurd (mathlib.Core.Bool.true≢false (v .0))
-half-le (fin false m e) a F v =
-    subst (λ (x : Float). T (le (fin false m e ⊗ half) x)) (round-self binary32 false m e F)
-    (round-mono binary32 (m * up e * 1) (down e * 2) (m * up e) (down e) (omega (arith, down-pos e)) (down-pos e) (omega arith))
-
-not-under-zero : (y : Float) → T (nonneg y) → T (lt y (fin true 0 (pos 0))) → ⊥
-unfolding le
-not-under-zero y p l =
-    not-le-of-lt y (fin false 0 (pos 0)) (lt-of-lt-of-le y (fin true 0 (pos 0)) (fin false 0 (pos 0)) l tt) (nonneg→le y p)
-
--- a value whose square is above x is not below the half of x's root
-half-root : (x y : Float) → T (fits binary32 x) → T (fits binary32 y) → T (nonneg y) → T (lt x (y ⊗ y)) → T (lt y (sqrt binary32 x ⊗ half)) → ⊥
-unfolding sqrt mul lt isNan ofBits fits
-half-root nan y F G p l k = l
-half-root (inf true) y F G p l k = le-right y nan (lt→le y nan k)
-half-root (inf false) y F G p l k = not-under-top (y ⊗ y) l
-half-root (fin true zero (pos zero)) y F G p l k = not-under-zero y p k
-half-root (fin true zero (pos (suc j))) y F G p l k = omega (arith, pow-pos j, eqb→eq (2 ^ suc j * 1) 1 F)
-half-root (fin true zero (negsuc j)) y F G p l k = omega (arith, pow-pos j, eqb→eq (1 * 2 ^ suc j) 1 F)
-half-root (fin true (suc m) e) y F G p l k = le-right y nan (lt→le y nan k)
-half-root (fin false m e) y F G p l k =
-    let x = fin false m e in
-    let (u, v) = in-units binary32 false m e F in
-    let N = sqrt-nearest binary32 x u F (refl, v) in
-    let s = sqrt binary32 x in
-    let under : T (lt y s) = lt-of-lt-of-le y (s ⊗ half) s k (half-le s (N .units) (N .in-format) (N .value)) in
-    not-le-of-lt x (y ⊗ y) l (square-below binary32 m e y F G p under)
-
 -- ---- a vector's dot with itself
-
-square-nonneg : (x : Float) → (x ⊗ x ≡ nan) ⊎ T (nonneg (x ⊗ x))
-unfolding mul
-square-nonneg nan = inl refl
-square-nonneg (inf true) = inr tt
-square-nonneg (inf false) = inr tt
-square-nonneg (fin true m e) = mul-nonneg binary32 (fin false m e) (fin false m e) tt tt
-square-nonneg (fin false m e) = mul-nonneg binary32 (fin false m e) (fin false m e) tt tt
-
-add-nan : (x : Float) → x ⊕ nan ≡ nan
-unfolding add
-add-nan nan = refl
-add-nan (inf s) = refl
-add-nan (fin s m e) = refl
-
-nan-add : (x : Float) → nan ⊕ x ≡ nan
-unfolding add
-nan-add x = refl
-
-sum-nonneg : {x y : Float} → (x ≡ nan) ⊎ T (nonneg x) → (y ≡ nan) ⊎ T (nonneg y) → (x ⊕ y ≡ nan) ⊎ T (nonneg (x ⊕ y))
-sum-nonneg {x} {y} (inl e) q = inl (ap (λ (z : Float). z ⊕ y) e ∙ nan-add y)
-sum-nonneg {x} {y} (inr p) (inl e) = inl (ap (λ (z : Float). x ⊕ z) e ∙ add-nan x)
-sum-nonneg {x} {y} (inr p) (inr q) = inr (add-nonneg binary32 x y p q)
 
 dot-nonneg : (v : Vec3) → (dot v v ≡ nan) ⊎ T (nonneg (dot v v))
 unfolding dot
@@ -156,16 +37,6 @@ dot-fits v w = add-fits binary32 (v .x ⊗ w .x ⊕ v .y ⊗ w .y) (v .z ⊗ w .
 
 -- ---- the distance
 
-max-left : (y z : Float) → T (not (isNan y)) → (T (lt y z) → ⊥) → fmax y z ≡ y
-unfolding fmax
-max-left y z known k = rw (is-false (isNan y) known, is-false (lt y z) (not-T (lt y z) k))
-
-above-half-root : (x y : Float) → T (fits binary32 x) → T (fits binary32 y) → (y ≡ nan) ⊎ T (nonneg y) → T (lt x (y ⊗ y))
-    → fmax y (sqrt binary32 x ⊗ half) ≡ y
-unfolding mul lt isNan
-above-half-root x y F G (inl e) l = absurd (le-right x nan (lt→le x nan (subst (λ (z : Float). T (lt x (z ⊗ z))) e l)))
-above-half-root x y F G (inr p) l = max-left y (sqrt binary32 x ⊗ half) (nonneg-known y p) (half-root x y F G p l)
-
 -- where the squared diagonal is below the squared distance's square, the distance stays as it is
 pub far : (r : LightBounds) (delta : Vec3) → lt (dot (diagonal (r .bounds)) (diagonal (r .bounds))) (dot delta delta ⊗ dot delta delta) ≡ true
     → distance2 r delta ≡ dot delta delta
@@ -175,116 +46,6 @@ far r delta l =
     above-half-root (dot d d) (dot delta delta) (dot-fits d d) (dot-fits delta delta) (dot-nonneg delta) (subst (λ (b : Bool). T b) (sym l) tt)
 
 -- ---- the box's cosine
-
-value-known : (x : Float) (s : Bool) (a c : ℕ) → HasValue x s a c → T (not (isNan x))
-unfolding isNan
-value-known nan s a c v = v
-value-known (inf t) s a c v = tt
-value-known (fin t m e) s a c v = tt
-
-no-root : (B E L u : ℕ) → 0 < E → B * L ≡ u * E → B ≤ E → L * L < u * L → ⊥
-no-root B E L u p v b l =
-    let x : B * L ≤ E * L = mul-le-mul-right L b in
-    let y : u * E ≤ L * E = omega (arith, x, v) in
-    let z : u ≤ L = le-of-mul-le-mul-right y p in
-    omega (arith, l, mul-le-mul-right L z)
-
--- the root of what is at most 1 is at most 1
-unit-root : (v : Float) → T (fits binary32 v) → T (nonneg v) → T (le v onef) → T (le (sqrt binary32 v) onef)
-unfolding sqrt ofBits
-unit-root nan F p l = absurd p
-unit-root (inf true) F p l = absurd p
-unit-root (inf false) F p l = l
-unit-root (fin true zero e) F p l = l
-unit-root (fin true (suc m) e) F p l = absurd (omega (arith, eqb→eq (suc m) 0 p))
-unit-root (fin false m e) F p l =
-    let v = fin false m e in
-    let s = sqrt binary32 v in
-    let (u, w) = in-units binary32 false m e F in
-    let N = sqrt-nearest binary32 v u F (refl, w) in
-    let small : m * up e ≤ down e = omega (arith, le-fin false m e false 1 (pos 0) .0 l) in
-    elim (lt-or-le onef s (unfold isNan in tt) (value-known s false (N .units) (2 ^ low binary32) (N .value))) [
-      | inl k ↦
-          absurd (no-root (m * up e) (down e) (2 ^ low binary32) u (down-pos e) w small
-          (below-root binary32 v onef u (2 ^ low binary32) F (ofBits-fits binary32 0x3f80_0000) (refl, w) (refl, refl) k))
-      | inr k ↦ k
-    ]
-
-or-left : (a b : Bool) → T a → T (a || b)
-or-left true b t = tt
-or-left false b t = absurd t
-
-or-cases : (a b : Bool) → T (a || b) → T a ⊎ T b
-or-cases true b t = inl tt
-or-cases false b t = inr t
-
--- a value over itself
-self-share : (t : Bool) (n : ℕ) (d : ℤ) → T (lt (fin false 0 (pos 0)) (fin t n d)) → T (le (fin t n d ⊘ fin t n d) onef)
-unfolding div ofBits
-self-share true n d l = absurd (unfold lt in l)
-self-share false n d l =
-    let N : 0 < n = ltb→lt 0 n (lt→positive (fin false n d) tt l) in
-    let a = n * up d * down d in
-    let A : 0 < a = mul-pos (mul-pos N (up-pos d)) (down-pos d) in
-    rw (ne-eqb n 0 (λ (z : n ≡ 0). omega (arith, N)))
-    (subst (λ (x : Float). T (le (round binary32 false a a) x)) (round-self binary32 false 1 (pos 0) (ofBits-fits binary32 0x3f80_0000))
-    (round-mono binary32 a a 1 1 A (omega arith) (omega arith)))
-
--- a share of what is at least as much and not 0
-share : (a d : Float) → T (nonneg a) → T (nonneg d) → (T (lt d a) → ⊥) → (T (eq d zerof) → ⊥)
-    → (a ⊘ d ≡ nan) ⊎ (T (nonneg (a ⊘ d)) × T (le (a ⊘ d) onef))
-unfolding div lt ofBits
-share nan d p q l z = absurd p
-share (inf true) d p q l z = absurd p
-share (inf false) nan p q l z = absurd q
-share (inf false) (inf true) p q l z = absurd q
-share (inf false) (inf false) p q l z = inl refl
-share (inf false) (fin t n d) p q l z = absurd (l tt)
-share (fin s m e) nan p q l z = absurd q
-share (fin s m e) (inf true) p q l z = absurd q
-share (fin true m e) (inf false) p q l z = inr (tt, unfold le in tt)
-share (fin false m e) (inf false) p q l z = inr (tt, unfold le in tt)
-share (fin s m e) (fin t n d) p q l z =
-    let A = fin s m e in
-    let D = fin t n d in
-    let more : T (le A D) = le-of-not-lt A D (unfold isNan in tt) (unfold isNan in tt) (not-T (lt D A) l) in
-    let above : T (lt (fin false 0 (pos 0)) D) = elim (lt-or-le (fin false 0 (pos 0)) D (unfold isNan in tt) (unfold isNan in tt)) [
-      | inl k ↦ k
-      | inr k ↦ absurd (elim (or-cases (lt D zerof) (eq D zerof) (unfold le in k)) [ inl j ↦ not-le-of-lt D zerof j (nonneg→le D q) | inr j ↦ z j ])
-    ] in
-    elim (div-nonneg binary32 A D p above) [
-      | inl e ↦ inl e
-      | inr r ↦ inr (r, le-trans (A ⊘ D) (D ⊘ D) onef (div-mono binary32 A D D p tt tt above more) (self-share t n d above))
-    ]
-
-div-nan : (x : Float) → x ⊘ nan ≡ nan
-unfolding div
-div-nan nan = refl
-div-nan (inf s) = refl
-div-nan (fin s m e) = refl
-
-nan-div : (x : Float) → nan ⊘ x ≡ nan
-unfolding div
-nan-div x = refl
-
-share-any : (a d : Float) → (a ≡ nan) ⊎ T (nonneg a) → (d ≡ nan) ⊎ T (nonneg d) → (T (lt d a) → ⊥) → (T (eq d zerof) → ⊥)
-    → (a ⊘ d ≡ nan) ⊎ (T (nonneg (a ⊘ d)) × T (le (a ⊘ d) onef))
-share-any a d (inl e) q l z = inl (ap (λ (x : Float). x ⊘ d) e ∙ nan-div d)
-share-any a d (inr p) (inl e) l z = inl (ap (λ (x : Float). a ⊘ x) e ∙ div-nan a)
-share-any a d (inr p) (inr q) l z = share a d p q l z
-
--- 1 less a share, cut at 0
-rest-le : (q : Float) → (q ≡ nan) ⊎ (T (nonneg q) × T (le q onef)) → T (le (fmax (onef ⊖ q) zerof) onef)
-unfolding ofBits
-rest-le q (inl e) =
-    let none : onef ⊖ nan ≡ nan = unfold sub add neg in refl in
-    subst (λ (x : Float). T (le (fmax (onef ⊖ x) zerof) onef)) (sym e)
-    (subst (λ (x : Float). T (le x onef)) (sym (ap (λ (x : Float). fmax x zerof) none ∙ fmax-nan zerof)) (unfold le in tt))
-rest-le q (inr p) =
-    elim (fmax-is (onef ⊖ q) zerof) [
-      | inl e ↦ subst (λ (x : Float). T (le x onef)) (sym e) (sub-le binary32 onef q (ofBits-fits binary32 0x3f80_0000) tt (p .0) (p .1))
-      | inr e ↦ subst (λ (x : Float). T (le x onef)) (sym e) (unfold le in tt)
-    ]
 
 -- the box's cosine is at most 1
 module _ (b : Bounds3) (p : Vec3) where
@@ -317,14 +78,6 @@ module _ (b : Bounds3) (p : Vec3) where
           (λ k. no (or-left (lt distance radius2) (eq distance zerof) k)) (λ k. no (or-right (lt distance radius2) (eq distance zerof) k))))
 
 -- ---- inside the cone
-
-one-value : (c : Float) → T (le c onef) → T (le onef c) → HasValue c false 1 1
-unfolding le lt eq ofBits
-one-value nan l k = l
-one-value (inf true) l k = k
-one-value (inf false) l k = l
-one-value (fin true m e) l k = absurd (omega (arith, down-pos e, le-fin false 1 (pos 0) true m e .0 k))
-one-value (fin false m e) l k = (refl, omega (arith, le-fin false m e false 1 (pos 0) .0 l, le-fin false 1 (pos 0) false m e .0 k))
 
 at-one : onef ⊗ onef ⊕ zerof ⊗ sine onef ≡ onef
 unfolding sine safeSqrt sqrt fmax add sub neg mul ofBits isNan lt

@@ -26,8 +26,8 @@ use Rattle.light_bounds.proofs.LateLaws.{late-validate}
 use Rattle.light_rows.specs.Block.{blockWords, sideAt, handleAt, blockLayout, blockHandles}
 use Rattle.light_rows.specs.Nodes.{nodePlace}
 use Rattle.light_split.specs.Lights.{lightOf}
-use Rattle.light_split.specs.Partition.{laid}
-use Rattle.light_split.proofs.PartitionLaws.{laid-next}
+use Rattle.words.specs.Lists.{laid}
+use Rattle.words.proofs.ListLaws.{laid-next}
 use Rattle.light_bvh.specs.Build.{isPowered, boundedHandles, grown, allBounds, validated, nodesReserve, workReserve, isShort, buildCheck, tabledBelow}
 use Rattle.light_bvh.specs.Build.{builtBvh, buildLightBvh, nodesWritten, tableWritten, workWritten, summary}
 

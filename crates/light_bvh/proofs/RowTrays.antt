@@ -19,7 +19,7 @@ use Rattle.light_rows.specs.Block.{blockWords, blockHandles}
 use Rattle.light_rows.specs.Nodes.{nodeWords, invalidIndex}
 use Rattle.light_rows.specs.Tree.{Tree, leaves, treeWords}
 use Rattle.light_rows.specs.TreeLaws.{length-flatten}
-use Rattle.light_split.specs.Partition.{laid}
+use Rattle.words.specs.Lists.{laid}
 use Rattle.light_bvh.specs.Subtree.{labelOf, buildSubtree, subtree, done, subtreeWords}
 use Rattle.light_bvh.specs.Build.{boundedHandles, allBounds, LightBVH, treeOf, builtBvh, nodesReserve, workReserve, nodesWritten, tableWritten}
 use Rattle.light_bvh.specs.Build.{isShort, workWritten, tabledBelow, summary}

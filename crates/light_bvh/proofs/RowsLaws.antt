@@ -10,6 +10,7 @@ use native.Mathlib.Omega.{arith}
 use borrow.Author.Tests.{eqb-true, ltb-true, ltb-false}
 use lib.Dec.{eqb, ltb}
 use lib.ListN.{length, getD, take, drop, length-append, List·getD-eq-default}
+use Rattle.words.proofs.ListLaws.{All, all-map, all-append, all-take, all-drop, all-cond, all-kept}
 use Rattle.words.specs.Answers.{Answer, given, refused, _then_}
 use Rattle.words.specs.Limits.{maxLamps}
 use Rattle.words.specs.Rows.{below}
@@ -21,7 +22,7 @@ use Rattle.light_bounds.specs.declared.bounds.Bounds3.{Bounds3}
 use Rattle.light_rows.specs.Block.{blockWords, handlePlace, handleAt, blockHandles}
 use Rattle.light_rows.specs.Tree.{Tree, bounds}
 use Rattle.light_split.specs.Lights.{lightOf, centroidEnds}
-use Rattle.light_split.specs.Partition.{kept, goesLeft, goesRight, lefts, rights, partitionHandles}
+use Rattle.light_split.specs.Partition.{goesLeft, goesRight, lefts, rights, partitionHandles}
 use Rattle.light_split.specs.Split.{chooseSplit}
 use Rattle.light_split.specs.declared.split.Split.{Split}
 use Rattle.light_bvh.specs.Subtree.{labelOf, forked, treeBy, buildSubtree}
@@ -30,54 +31,20 @@ use Rattle.light_bvh.specs.Build.{buildCheck, buildLightBvh}
 use Rattle.light_bvh.proofs.BuildLaws.{build-checked}
 use Rattle.light_bvh.proofs.TableLaws.{Labels}
 
--- ---- every item of a list has the property
-
-abbrev pub All : (ℕ → Type 0) → List ℕ → Type 0
-All P [] = Unit
-All P (x ∷ xs) = P x × All P xs
-
-pub all-map : {P Q : ℕ → Type 0} → ((x : ℕ) → P x → Q x) → (xs : List ℕ) → All P xs → All Q xs
-all-map f [] a = tt
-all-map f (x ∷ xs) a = (f x (a .0), all-map f xs (a .1))
+-- ---- what holds of every handle of a stretch holds of its halves
 
 module _ (P : ℕ → Type 0) where
-  pub all-append : (xs ys : List ℕ) → All P xs → All P ys → All P (xs ++ ys)
-  all-append [] ys a b = b
-  all-append (x ∷ xs) ys a b = (a .0, all-append xs ys (a .1) b)
-
-  all-take : (n : ℕ) (xs : List ℕ) → All P xs → All P (take n xs)
-  all-take zero xs a = tt
-  all-take (suc n) [] a = tt
-  all-take (suc n) (x ∷ xs) a = (a .0, all-take n xs (a .1))
-
-  all-drop : (n : ℕ) (xs : List ℕ) → All P xs → All P (drop n xs)
-  all-drop zero xs a = a
-  all-drop (suc n) [] a = tt
-  all-drop (suc n) (x ∷ xs) a = all-drop n xs (a .1)
-
-  all-cond : (b : Bool) (xs ys : List ℕ) → All P xs → All P ys → All P (cond b xs ys)
-  all-cond true xs ys a b = a
-  all-cond false xs ys a b = b
-
-  all-kept : (test : ℕ → Bool) (xs : List ℕ) → All P xs → All P (kept test xs)
-  unfolding kept
-  all-kept test [] a = tt
-  all-kept test (x ∷ xs) a =
-      let rest = all-kept test xs (a .1) in
-      all-cond (test x) (x ∷ kept test xs) (kept test xs) (a .0, rest) rest
-
-  -- of a stretch's halves, where it holds of the stretch
   pub all-halves : (ws hs : List ℕ) (s : Split) → All P hs → All P (partitionHandles ws hs s .0) × All P (partitionHandles ws hs s .1)
   unfolding partitionHandles lefts rights
   all-halves ws hs s a =
       let l = lefts ws hs s in
       let r = rights ws hs s in
-      go (eqb (length l) 0 || eqb (length r) 0) l r (length (l ++ r) / 2) (all-kept (goesLeft ws (centroidEnds ws hs) s) hs a)
-      (all-kept (goesRight ws (centroidEnds ws hs) s) hs a)
+      go (eqb (length l) 0 || eqb (length r) 0) l r (length (l ++ r) / 2) (all-kept P (goesLeft ws (centroidEnds ws hs) s) hs a)
+      (all-kept P (goesRight ws (centroidEnds ws hs) s) hs a)
     where
       go : (b : Bool) (l r : List ℕ) (n : ℕ) → All P l → All P r
           → let p : List ℕ × List ℕ = cond b (take n (l ++ r), drop n (l ++ r)) (l, r) in All P (p .0) × All P (p .1)
-      go true l r n x y = (all-take n (l ++ r) (all-append l r x y), all-drop n (l ++ r) (all-append l r x y))
+      go true l r n x y = (all-take P n (l ++ r) (all-append P l r x y), all-drop P n (l ++ r) (all-append P l r x y))
       go false l r n x y = (x, y)
 
 -- ---- the labels

@@ -10,7 +10,7 @@ ghost use Rattle.words.specs.Tray.{tray};
 ghost use Rattle.light_bounds.specs.Bounds.{validity, allBoundsOf};
 ghost use Rattle.light_rows.specs.Block.{blockHandles, blockWords};
 ghost use Rattle.light_rows.specs.Nodes.{nodeWords};
-ghost use Rattle.light_split.specs.Partition.{laid};
+ghost use Rattle.words.specs.Lists.{laid};
 ghost use Rattle.light_bvh.specs.Build.{isPowered, boundedHandles, grown, allBounds as poweredBox, validated};
 ghost use Rattle.light_bvh.specs.Build.{builtBvh, nodesReserve, workReserve, isShort, buildCheck, buildLightBvh};
 ghost use Rattle.light_bvh.specs.Build.{nodesWritten, tableWritten, workWritten, tabledBelow, summary, built};

@@ -3,13 +3,14 @@
 use Prim.Native.Nat.{ℕ, _≤_, _<_}
 use mathlib.Core.Path.{_≡_, refl, ap, sym, subst, _∙_}
 use mathlib.Core.Bool.{Bool, false, not}
-use mathlib.Core.List.{List, [], _∷_, _++_}
+use mathlib.Core.List.{List}
 use mathlib.Core.Logic.{_⊎_, inl, inr, _↔_}
 use mathlib.Core.Option.{Option, none, some}
 use native.Mathlib.Nat.{eq-or-lt-of-le}
 use lib.Dec.{T, eqb, eqb→eq}
 use lib.Ieee.{Float, le, isNan, ofBits}
 use lib.Ieee.Fits.{eq→eqb}
+use Rattle.words.proofs.ListLaws.{reversed-twice, last-first}
 use Rattle.ieee.specs.Choose.{fmin}
 use Rattle.ieee.specs.ChooseOrder.{fmin-is, fmin-cap, fmin-mono}
 use Rattle.ieee.specs.OrderLaws.{nonneg, le→nonneg}
@@ -25,35 +26,13 @@ use Rattle.light_sampler.specs.Sampler.{sampleWalk, sample, pmf}
 use Rattle.light_sampler.specs.Walks.{Walked, Draw}
 use Rattle.tree_laws.specs.AcceptedTree.{Parts}
 use Rattle.light_runs.specs.AcceptedWalks.{draw-nothing, draw-walk, name-walk}
-use Rattle.light_runs.specs.DemandWords.{FromZeroToOne, InOrder, nodes, table, placeOf, Draws, drawEnters, nameEnters, reversed}
+use Rattle.light_runs.specs.DemandWords.{FromZeroToOne, InOrder, nodes, table, Draws, drawEnters, nameEnters}
+use Rattle.tree_laws.specs.TreeWords.{placeOf}
+use Rattle.words.specs.Lists.{reversed, lastOf}
 use Rattle.light_runs.specs.DownLaws.{weighed-not-below}
 use Rattle.light_runs.specs.FromTo.{from-to}
-use Rattle.light_runs.specs.RunLaws.{lastOf, walk-last, walk-between}
-use Rattle.light_runs.specs.StandingTree.{weighed}
-use Rattle.light_runs.specs.WeightedTree.{walk}
-
--- ---- lists in reverse
-
-reversed-behind : (xs : List ℕ) (x : ℕ) → reversed (xs ++ (x ∷ [])) ≡ x ∷ reversed xs
-unfolding reversed
-reversed-behind [] x = refl
-reversed-behind (y ∷ xs) x = ap (λ (zs : List ℕ). zs ++ (y ∷ [])) (reversed-behind xs x)
-
-reversed-twice : (xs : List ℕ) → reversed (reversed xs) ≡ xs
-unfolding reversed
-reversed-twice [] = refl
-reversed-twice (x ∷ xs) = reversed-behind (reversed xs) x ∙ ap (λ (zs : List ℕ). x ∷ zs) (reversed-twice xs)
-
-last-behind : (xs : List ℕ) (x : ℕ) → lastOf (xs ++ (x ∷ [])) ≡ x
-unfolding lastOf
-last-behind [] x = refl
-last-behind (y ∷ []) x = refl
-last-behind (y ∷ z ∷ xs) x = last-behind (z ∷ xs) x
-
--- the first in reverse is the last
-last-first : (xs : List ℕ) (x : ℕ) (rest : List ℕ) → reversed xs ≡ x ∷ rest → lastOf xs ≡ x
-unfolding reversed
-last-first xs x rest e = ap lastOf (sym (reversed-twice xs) ∙ ap (λ (ys : List ℕ). reversed ys) e) ∙ last-behind (reversed rest) x
+use Rattle.light_runs.specs.RunLaws.{walk-last, walk-between}
+use Rattle.light_runs.specs.WeightedTree.{walk, weighed}
 
 -- ---- u capped at the root
 

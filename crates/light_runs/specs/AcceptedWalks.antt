@@ -1,6 +1,6 @@
 -- Draws and chances by name over an accepted build. A draw is the walk over the build's tree with the query's weights (`draw-walk`), without a tree it draws no
 -- lamp (`draw-nothing`); where it draws a lamp, the chance by name enters the same nodes in reverse and is given (`name-walk`). Assumes nothing.
-use Prim.Native.Nat.{ℕ, zero, suc, _+_, _*_, _-_, _/_, _%_, _≤_, _<_}
+use Prim.Native.Nat.{ℕ, zero, suc, _*_, _-_, _/_, _%_, _≤_, _<_}
 use mathlib.Core.Path.{_≡_, refl, ap, sym, _∙_}
 use mathlib.Core.Bool.{Bool, true, false, _&&_}
 use mathlib.Core.List.{List, [], _∷_, _++_, append-nil}
@@ -24,14 +24,15 @@ use Rattle.light_sampler.specs.Fork.{most}
 use Rattle.light_sampler.specs.Sampler.{sampleCheck, fromRoot, sampleWalk, pmfCheck, leafOf, fromLeaf, pmfWalk}
 use Rattle.light_sampler.specs.Walks.{Walked, Draw, descend, ascend}
 use Rattle.tree_laws.specs.AcceptedTree.{Parts, accepted-none, accepted-leaves, places-fit}
-use Rattle.light_runs.specs.ByteLaws.{nodes-words, table-words-back, table-bytes, nodes-counted}
-use Rattle.light_runs.specs.DemandWords.{FromZeroToOne, nodes, table, placeOf, Draws, reversed}
+use Rattle.tree_laws.specs.ByteLaws.{nodes-words, table-words-back, table-bytes, nodes-counted}
+use Rattle.light_runs.specs.DemandWords.{FromZeroToOne, nodes, table, Draws}
+use Rattle.tree_laws.specs.TreeWords.{placeOf}
+use Rattle.words.specs.Lists.{reversed}
 use Rattle.light_runs.specs.DownLaws.{leaves-weighed, descend-walk}
-use Rattle.light_runs.specs.NodeLaws.{powered-leaf, leaf-powered}
-use Rattle.light_runs.specs.StandingLaws.{accepted-stands}
-use Rattle.light_runs.specs.StandingTree.{weighed}
+use Rattle.tree_laws.specs.NodeLaws.{powered-leaf, leaf-powered}
+use Rattle.tree_laws.specs.StandingLaws.{accepted-stands}
 use Rattle.light_runs.specs.UpLaws.{ascend-walk, rises-standing, walk-length}
-use Rattle.light_runs.specs.WeightedTree.{walk}
+use Rattle.light_runs.specs.WeightedTree.{walk, weighed}
 
 -- ---- the draw
 

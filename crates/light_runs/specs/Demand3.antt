@@ -23,10 +23,11 @@ use Rattle.light_bvh.specs.Build.{LightBVH, isPowered, buildLightBvh, nodesRese
 use Rattle.light_sampler.specs.Sampler.{sampleWalk, sample, pmfWalk, pmf}
 use Rattle.tree_laws.specs.AcceptedTree.{Parts, accepted-parts, accepted-none, handles-count}
 use Rattle.light_runs.specs.AcceptedRuns.{unbroken, leaf-order, upward, from-one-to-another}
-use Rattle.light_runs.specs.DemandWords.{FromZeroToOne, InOrder, nodes, table, placeOf, Draws, drawEnters, nameEnters, reversed, poweredBelow, reached}
-use Rattle.light_runs.specs.DemandWords.{placesFrom, HoldsChildren}
+use Rattle.light_runs.specs.DemandWords.{FromZeroToOne, InOrder, nodes, table, Draws, drawEnters, nameEnters}
+use Rattle.tree_laws.specs.TreeWords.{placeOf, poweredBelow, reached, placesFrom, HoldsChildren}
+use Rattle.words.specs.Lists.{reversed}
 use Rattle.light_runs.specs.WholeTray.{tray-is, draw-same, name-same, dark-tray}
-use Rattle.light_runs.specs.NodeLaws.{k-counted, node-words, places, powered-leaf, leaf-powered, table-words, other-lamps, boxes}
+use Rattle.tree_laws.specs.NodeLaws.{k-counted, node-words, places, powered-leaf, leaf-powered, table-words, other-lamps, boxes}
 
 -- of a block's words and what build makes of them
 pub record Demand3 (ws : List ℕ) (b : LightBVH) : Type 0 where

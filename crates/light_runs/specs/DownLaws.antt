@@ -17,9 +17,9 @@ use Rattle.light_rows.specs.Tree.{Tree, leaf, fork, bounds, leaves, rightPlace}
 use Rattle.light_rows.specs.TreeLaws.{leaves-pos}
 use Rattle.light_sampler.specs.Fork.{Turn, neither, left, right}
 use Rattle.light_sampler.specs.Walks.{Walked, entering, Draw, byQuery, weighAt, weights, turn, taken, onward, descend}
-use Rattle.light_runs.specs.StandingLaws.{stands-root}
-use Rattle.light_runs.specs.StandingTree.{Stands, weighed}
-use Rattle.light_runs.specs.WeightedTree.{leavesOf, walk, NotBelow, WeightsNotBelow}
+use Rattle.tree_laws.specs.StandingLaws.{stands-root}
+use Rattle.tree_laws.specs.StandingTree.{Stands}
+use Rattle.light_runs.specs.WeightedTree.{leavesOf, walk, NotBelow, WeightsNotBelow, weighed}
 
 -- ---- the weights
 

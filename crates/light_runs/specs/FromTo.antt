@@ -1,26 +1,20 @@
 -- A property of the u from 0 to 1 that has no gap holds from one float to another, or of none (`from-to`). The u are the values of the words 0 to 3f800000, in
 -- their order, and -0, which compares as 0; so the two floats are the values of the least and the greatest such word. Assumes nothing.
-use Prim.Native.Nat.{ℕ, zero, suc, _+_, _-_, _*_, _/_, _%_, _^_, _≤_, _<_, zero-le}
-use mathlib.Core.Path.{_≡_, refl, sym, _∙_, ap, subst}
-use mathlib.Core.Bool.{Bool, true, false, true≢false}
+use Prim.Native.Nat.{ℕ, zero, suc, _*_, _≤_, _<_, zero-le}
+use mathlib.Core.Path.{_≡_, refl, sym, subst}
+use mathlib.Core.Bool.{Bool, true, false}
 use mathlib.Core.Logic.{_⊎_, inl, inr, _↔_}
-use native.Mathlib.Nat.{le-refl as le-same, le-trans as le-then, le-of-lt, lt-of-lt-of-le, lt-of-le-of-lt, lt-of-not-le, eq-or-lt-of-le, le-of-suc-le-suc}
-use native.Mathlib.Nat.{mod-lt, le-of-eq, mul-le-mul-right, mod-eq-of-lt, div-eq-of-lt, div-eq-of-lt-le, div-add-mod'}
+use native.Mathlib.Nat.{le-refl as le-same, lt-of-le-of-lt, lt-of-not-le, eq-or-lt-of-le, le-of-suc-le-suc}
 use native.Mathlib.Decide.{decLe}
 use native.Mathlib.Omega.{arith}
 use lib.Dec.{T, lit<}
-use lib.IntN.{ℤ, pos}
-use lib.Pow.{pow-pos}
-use lib.Ieee.{Format, binary32, Float, nan, inf, fin, low, hid, ones, top, toBits, ofBits, le, isNan, fits as fitsFormat}
+use lib.IntN.{pos}
+use lib.Ieee.{binary32, Float, nan, inf, fin, hid, ones, toBits, ofBits, le, isNan}
 use lib.Ieee.Bits.{ofBits-toBits}
-use lib.Ieee.Order.{le-of-values}
-use lib.Ieee.Scale.{finite}
 use Rattle.ieee.specs.Single.{single, onef}
 use Rattle.ieee.specs.FormatLaws.{single-fits}
 use Rattle.ieee.specs.OrderLaws.{le-fin, le-refl, le-trans}
-use Rattle.ieee.specs.Patterns.{magnitude, magnitude-small, magnitude-large, magnitude-lt, magnitude-ge, hid-pos, decode-plain, inf-bits, no-sign}
-use Rattle.ieee.specs.Whole.{negative}
-use Rattle.ieee.specs.WholeLaws.{past-infinity}
+use Rattle.ieee.specs.WordOrder.{bits-mono, finite-word}
 use Rattle.light_runs.specs.DemandWords.{FromZeroToOne, InOrder}
 
 -- ---- the first and the last number up to n with a property
@@ -93,41 +87,6 @@ ends Q (suc n) = go (Q (suc n)) refl (ends Q n)
               elim (eq-or-lt-of-le k) [ inl z ↦ absurd (subst T e (subst (λ (m : ℕ). T (Q m)) z q)) | inr l ↦ r .between w (le-of-suc-le-suc l) q ];
         })
 
--- ---- words in order have values in order
-
-magnitude-mono : (f : Format) (a b : ℕ) → a ≤ b → magnitude f a ≤ magnitude f b
-magnitude-mono f a b h = go (decLe (suc (a / hid f) * hid f) b)
-  where
-    H : 0 < hid f
-    H = hid-pos f
-
-    parts : (n : ℕ) → n / hid f * hid f + n % hid f ≡ n
-    parts n = div-add-mod' n (hid f)
-
-    -- of one field both are the digits times one power of two
-    same-field : b < suc (a / hid f) * hid f → Dec (hid f ≤ a) → magnitude f a ≤ magnitude f b
-    same-field l (no n) =
-        let s : a < hid f = lt-of-not-le n in
-        let t : b < hid f = omega (arith, ap (λ (z : ℕ). suc z * hid f) (div-eq-of-lt s)) in
-        rw (magnitude-small f a s, magnitude-small f b t) h
-    same-field l (yes k) =
-        let e : b / hid f ≡ a / hid f = div-eq-of-lt-le (hid f) (omega (arith, parts a)) (omega (arith, l)) in
-        let d : a % hid f ≤ b % hid f = omega (arith, parts a, parts b, ap (λ (z : ℕ). z * hid f) e) in
-        let g : hid f + a % hid f ≤ hid f + b % hid f = omega arith in
-        rw (magnitude-large f a k, magnitude-large f b (le-then k h), e) (mul-le-mul-right (2 ^ (a / hid f - 1)) g)
-
-    go : Dec (suc (a / hid f) * hid f ≤ b) → magnitude f a ≤ magnitude f b
-    go (yes l) =
-        let s : a < suc (a / hid f) * hid f = omega (arith, parts a, mod-lt a H) in
-        le-of-lt (lt-of-lt-of-le (magnitude-lt f a (a / hid f) s) (magnitude-ge f b (a / hid f) l))
-    go (no n) = same-field (lt-of-not-le n) (decLe (hid f) a)
-
--- up to the infinity's word
-bits-mono : (f : Format) (w v : ℕ) → w ≤ v → v < ones f * hid f → T (le (ofBits f w) (ofBits f v))
-bits-mono f w v h l =
-    le-of-values (ofBits f w) (ofBits f v) (magnitude f w) (2 ^ low f) (magnitude f v) (2 ^ low f) (pow-pos (low f)) (pow-pos (low f))
-    (decode-plain f w (lt-of-le-of-lt h l)) (decode-plain f v l) (mul-le-mul-right (2 ^ low f) (magnitude-mono f w v h))
-
 -- ---- the u from 0 to 1 are the values of the words up to 1's, but for the sign of 0
 
 abbrev oneWord : ℕ
@@ -149,23 +108,6 @@ record WordOf (u : Float) : Type 0 where
   word-le : word ≤ oneWord
   above : T (le u (single word))
   below : T (le (single word) u)
-
--- a finite value without a sign has a word below the infinity's
-finite-word : (f : Format) (m : ℕ) (e : ℤ) → T (fitsFormat f (fin false m e)) → toBits f (fin false m e) < ones f * hid f
-finite-word f m e F = lt-of-not-le (λ (h : ones f * hid f ≤ toBits f (fin false m e)). go (eq-or-lt-of-le h))
-  where
-    back : ofBits f (toBits f (fin false m e)) ≡ fin false m e
-    back = ofBits-toBits f (fin false m e) F
-
-    go : (ones f * hid f ≡ toBits f (fin false m e)) ⊎ (ones f * hid f < toBits f (fin false m e)) → ⊥
-    go (inl q) =
-        let l : toBits f (fin false m e) < top f = no-sign f (toBits f (fin false m e)) (le-of-eq (sym q)) in
-        subst (λ (x : Float). T (finite x)) (sym back ∙ inf-bits f (toBits f (fin false m e)) (mod-eq-of-lt l ∙ sym q)) tt
-    go (inr l) =
-        elim (past-infinity f (toBits f (fin false m e)) l) [
-          | inl q ↦ subst (λ (x : Float). T (finite x)) (sym back ∙ q) tt
-          | inr q ↦ true≢false (sym q ∙ ap negative back)
-        ]
 
 -- the word behind 1's has a value above 1
 past-one : T (le (single (suc oneWord)) onef) → ⊥

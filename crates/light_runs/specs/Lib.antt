@@ -2,12 +2,8 @@ pub mod DemandWords
 pub mod WeightedTree
 pub mod RunLaws
 pub mod FromTo
-pub mod StandingTree
-pub mod StandingLaws
 pub mod DownLaws
 pub mod UpLaws
-pub mod NodeLaws
-pub mod ByteLaws
 pub mod AcceptedWalks
 pub mod WholeTray
 pub mod AcceptedRuns

@@ -11,6 +11,7 @@ use lib.Dec.{T, T-not, not-T}
 use lib.IntN.{pos}
 use lib.Ieee.{Float, nan, inf, fin, binary32, lt, le, isNan, ofBits, add, sub, neg, div, fits}
 use lib.Ieee.Scale.{finite}
+use Rattle.words.specs.Lists.{lastOf}
 use Rattle.ieee.specs.Single.{_⊕_, _⊖_, _⊗_, _⊘_, zerof, onef}
 use Rattle.ieee.specs.Choose.{fmin}
 use Rattle.ieee.specs.OrderLaws.{nonneg, nonneg-known, nonneg-up, nonneg→le, finite-below, le-refl, le-trans, le-of-not-lt, lt-or-le, lt-of-le-of-lt}
@@ -273,12 +274,6 @@ module _ (l r u v : Float) (L : T (nonneg l)) (R : T (nonneg r)) (P : T (nonneg 
       )
 
 -- ---- the places of a walk
-
--- the last one, 0 for an empty list
-unfoldable pub lastOf : List ℕ → ℕ
-lastOf [] = 0
-lastOf (i ∷ []) = i
-lastOf (i ∷ j ∷ is) = lastOf (j ∷ is)
 
 leaves-pos : (t : Weighted) → 1 ≤ leavesOf t
 unfolding leavesOf

@@ -25,11 +25,11 @@ use Rattle.light_sampler.specs.Fork.{Turn, neither, left, right, most, parted, 
 use Rattle.light_sampler.specs.Walks.{Walked, entering, Draw, byQuery, weights, taken}
 use Rattle.light_sampler.specs.Walks.{part, partOf, rise, risen, upward, ascend}
 use Rattle.tree_laws.specs.PlaceLaws.{headEnd}
-use Rattle.light_runs.specs.DemandWords.{reversed}
+use Rattle.words.specs.Lists.{reversed}
 use Rattle.light_runs.specs.DownLaws.{leaves-weighed, weights-standing}
-use Rattle.light_runs.specs.StandingLaws.{stands-root}
-use Rattle.light_runs.specs.StandingTree.{Stands, weighed}
-use Rattle.light_runs.specs.WeightedTree.{Weighted, leaf as weightedLeaf, fork as weightedFork, leavesOf, rightOf, walk}
+use Rattle.tree_laws.specs.StandingLaws.{stands-root}
+use Rattle.tree_laws.specs.StandingTree.{Stands}
+use Rattle.light_runs.specs.WeightedTree.{Weighted, leaf as weightedLeaf, fork as weightedFork, leavesOf, rightOf, walk, weighed}
 
 -- ---- a draw that finds a light
 

@@ -1,5 +1,5 @@
--- A tree of leaves and forks with a pair of weights at each fork, or a refusal to weigh; and a draw from it, by `fork` of light_sampler. What the weights are
--- weights of is not said, so what is proved of it holds of any weighing. Definitions only. Assumes nothing.
+-- A tree of leaves and forks with a pair of weights at each fork, or a refusal to weigh; and a draw from it, by `fork` of light_sampler. What is proved of it
+-- holds of any weights; `weighed` has those that a query gives. Definitions only. Assumes nothing.
 use Prim.Native.Nat.{ℕ, _+_, _*_}
 use mathlib.Core.Option.{some}
 use lib.Dec.{T}
@@ -7,6 +7,9 @@ use lib.Ieee.{Float}
 use Rattle.ieee.specs.OrderLaws.{nonneg}
 use Rattle.words.specs.Answers.{Answer, given, _then_}
 use Rattle.words.proofs.AnswerLaws.{Gives}
+use Rattle.light_bounds.specs.Importance.{weigh}
+use Rattle.light_bounds.specs.declared.importance.Query.{Query}
+use Rattle.light_rows.specs.Tree.{Tree, leaf as treeLeaf, fork as treeFork, bounds}
 use Rattle.light_sampler.specs.Fork.{fork as forkOf}
 use Rattle.light_sampler.specs.Walks.{Walked, ended, entering, Draw, taken}
 
@@ -37,3 +40,11 @@ NotBelow x = T (nonneg (x .0)) × T (nonneg (x .1))
 abbrev pub WeightsNotBelow : Weighted → Type 0
 WeightsNotBelow (leaf h) = Unit
 WeightsNotBelow (fork w l r) = Gives NotBelow w × WeightsNotBelow l × WeightsNotBelow r
+
+-- ---- the weights that a query gives
+
+-- the tree with the weights that a query gives its forks: the left child's, then the right child's
+unfoldable pub weighed : Query → Tree → Weighted
+weighed q (treeLeaf h b) = leaf h
+weighed q (treeFork b l r) =
+    fork (weigh (bounds l) q then λ (x : Float). weigh (bounds r) q then λ (y : Float). given (x, y)) (weighed q l) (weighed q r)

@@ -5,7 +5,7 @@
 use Prim.Native.Nat.{ℕ, zero, suc, _+_, _*_, _-_, _≤_, _<_}
 use mathlib.Core.Path.{_≡_, refl, ap, subst, sym, _∙_}
 use mathlib.Core.Bool.{Bool, true, false, cond, _&&_}
-use mathlib.Core.List.{List, [], _∷_, _++_, append-nil}
+use mathlib.Core.List.{List, [], _++_, append-nil}
 use mathlib.Core.Logic.{⊎-elim}
 use mathlib.Core.Option.{Option, none, some}
 use native.Mathlib.Omega.{arith}
@@ -26,7 +26,8 @@ use Rattle.light_rows.specs.Nodes.{nodeWords, nodePlace, nodeCount, nodeOf, nod
 use Rattle.light_rows.specs.Tree.{Tree, leaf, fork, leaves, rightPlace}
 use Rattle.light_rows.specs.TreeLaws.{leaves-pos, root}
 use Rattle.light_bvh.specs.Build.{LightBVH, isPowered, nodesReserve, nodesWritten, tableWritten}
-use Rattle.light_bvh.proofs.RowsLaws.{All, all-append, bounded-few}
+use Rattle.light_bvh.proofs.RowsLaws.{bounded-few}
+use Rattle.words.proofs.ListLaws.{all-append, all-replicate}
 use Rattle.light_sampler.specs.Fork.{most}
 use Rattle.light_sampler.specs.Sampler.{sampleCheck, fromRoot, sampleWalk, sample, leafOf, fromLeaf, pmfWalk}
 use Rattle.light_sampler.specs.Walks.{Walked, Draw, ended, entering, afterCheck, byQuery}
@@ -35,14 +36,16 @@ use Rattle.tree_laws.specs.AcceptedTree.{Parts, accepted-sound, accepted-leaves
 use Rattle.tree_laws.specs.AcceptedTree.{labels-fit, places-fit, nodes-are}
 use Rattle.tree_laws.specs.PlaceLaws.{headEnd, nodeIn, nodeIn-leaf, nodeIn-fork, sound-records}
 use Rattle.light_runs.specs.AcceptedWalks.{check-draw, check-name, from-root}
-use Rattle.light_runs.specs.ByteLaws.{IsWord, all-replicate, words-back, words-counted}
-use Rattle.light_runs.specs.ByteLaws.{nodes-fit, nodes-words, nodes-counted}
-use Rattle.light_runs.specs.ByteLaws.{table-words-back, table-bytes}
-use Rattle.light_runs.specs.DemandWords.{FromZeroToOne, nodes, table, placeOf}
+use Rattle.tree_laws.specs.ByteLaws.{words-counted}
+use Rattle.words.proofs.LittleEndianLaws.{IsWord, words-back}
+use Rattle.tree_laws.specs.ByteLaws.{nodes-fit, nodes-words, nodes-counted}
+use Rattle.tree_laws.specs.ByteLaws.{table-words-back, table-bytes}
+use Rattle.light_runs.specs.DemandWords.{FromZeroToOne, nodes, table}
+use Rattle.tree_laws.specs.TreeWords.{placeOf}
 use Rattle.light_runs.specs.DownLaws.{weights-standing, descend-walk}
-use Rattle.light_runs.specs.NodeLaws.{node-words, table-words, powered-leaf, other-lamps}
-use Rattle.light_runs.specs.StandingLaws.{stands-root, stands-flat, accepted-stands}
-use Rattle.light_runs.specs.StandingTree.{Stands}
+use Rattle.tree_laws.specs.NodeLaws.{node-words, table-words, powered-leaf, other-lamps}
+use Rattle.tree_laws.specs.StandingLaws.{stands-root, stands-flat, accepted-stands}
+use Rattle.tree_laws.specs.StandingTree.{Stands}
 use Rattle.light_runs.specs.UpLaws.{root-parent}
 
 -- ---- the walk up from a node of a tree that stands in two lists of words

@@ -1,15 +1,11 @@
 -- Laws on a vector's figures, on buckets and on folds. Assumes nothing.
-use Prim.Native.Nat.{ℕ, zero, suc, _+_, _≤_, _<_, min}
+use Prim.Native.Nat.{ℕ, zero, suc, _≤_, _<_, min}
 use mathlib.Core.Path.{_≡_, refl}
 use mathlib.Core.Bool.{Bool, true, false, cond}
-use mathlib.Core.List.{List}
-use native.Mathlib.Numerals.{add-one}
 use native.Mathlib.Omega.{arith}
-use lib.ListN.{length, getD, drop, drop-of-length-le}
-use lib.Seq.{drop-cons}
 use lib.Ieee.{Float, eq}
 use Rattle.light_bounds.specs.declared.vecmath.Vec3.{Vec3}
-use Rattle.light_split.specs.Lights.{folded, component, bucketIndex, nBuckets}
+use Rattle.light_split.specs.Lights.{component, bucketIndex, nBuckets}
 
 -- behind the first two axes there is one figure
 pub component-last : (d : ℕ) (v : Vec3) → 2 ≤ d → component d v ≡ v .z
@@ -26,14 +22,3 @@ below false n = omega arith
 pub bucketIndex-below : (value lo hi : Float) → bucketIndex value lo hi < nBuckets
 unfolding bucketIndex
 bucketIndex-below value lo hi = below (eq lo hi) _
-
--- a turn of a loop that folds a list of numbers
-pub folded-next : {B : Type 0} (step : B → ℕ → B) (b : B) (xs : List ℕ) (i : ℕ) → i < length xs
-    → folded step b (drop i xs) ≡ folded step (step b (getD xs i 0)) (drop (i + 1) xs)
-unfolding folded
-folded-next step b xs i h = rw (add-one, drop-cons xs i 0)
-
--- and its end
-pub folded-all : {B : Type 0} (step : B → ℕ → B) (b : B) (xs : List ℕ) (i : ℕ) → length xs ≤ i → folded step b (drop i xs) ≡ b
-unfolding folded
-folded-all step b xs i h = rw (drop-of-length-le xs h)

@@ -5,62 +5,18 @@ use mathlib.Core.Bool.{Bool, true, false, cond, not, _||_}
 use mathlib.Core.List.{List, [], _∷_, _++_, append-nil}
 use mathlib.Core.Logic.{_⊎_, ⊎-elim}
 use native.Mathlib.Nat.{sub-self, le-refl}
-use native.Mathlib.Numerals.{add-one}
 use native.Mathlib.Omega.{arith}
 use lib.ListN.{length, getD, take, drop, set, length-append, length-set, take-append-drop, drop-of-length-le}
-use lib.Seq.{take-suc, take-all, getD-append-add, getD-drop, length-take-le, take-append-seam, paste, paste-zero, paste-suc}
+use lib.Seq.{take-all, length-take-le, take-append-seam, paste, paste-zero, paste-suc}
 use borrow.Author.Tests.{lt-ltb, le-ltb, eq-eqb, ne-eqb}
 use lib.Dec.{eqb}
-use Rattle.words.proofs.Stores.{stored}
+use Rattle.words.proofs.ListLaws.{kept-in, kept-out, kept-lengths, laid-next, laid-getD}
 use Rattle.words.specs.Answers.{given, refused}
 use Rattle.light_bounds.specs.declared.bounds.Bounds3.{Bounds3}
 use Rattle.light_split.specs.declared.split.Split.{Split}
 use Rattle.light_split.specs.Lights.{centroidEnds}
-use Rattle.light_split.specs.Partition.{kept, goesLeft, goesRight, lefts, rights, partitionHandles, laid, partedCount, partedHandles, partedWork}
-
--- ---- the items that pass
-
-kept-one : (b : Bool) (x : ℕ) (xs ys : List ℕ) → cond b (x ∷ (xs ++ ys)) (xs ++ ys) ≡ cond b (x ∷ xs) xs ++ ys
-kept-one true x xs ys = refl
-kept-one false x xs ys = refl
-
-pub kept-append : (test : ℕ → Bool) (xs ys : List ℕ) → kept test (xs ++ ys) ≡ kept test xs ++ kept test ys
-unfolding kept
-kept-append test [] ys = refl
-kept-append test (x ∷ xs) ys = rw (kept-append test xs ys) (kept-one (test x) x (kept test xs) (kept test ys))
-
--- one item more, that passes or does not
-pub kept-in : (test : ℕ → Bool) (xs : List ℕ) (i : ℕ) → i < length xs → test (getD xs i 0) ≡ true
-    → kept test (take (i + 1) xs) ≡ kept test (take i xs) ++ (getD xs i 0 ∷ [])
-unfolding kept
-kept-in test xs i h e = rw (add-one, take-suc xs i 0, kept-append test (take i xs) (getD xs i 0 ∷ [])) (rw e)
-
-pub kept-out : (test : ℕ → Bool) (xs : List ℕ) (i : ℕ) → i < length xs → test (getD xs i 0) ≡ false → kept test (take (i + 1) xs) ≡ kept test (take i xs)
-unfolding kept
-kept-out test xs i h e = rw (add-one, take-suc xs i 0, kept-append test (take i xs) (getD xs i 0 ∷ [])) (rw e (append-nil (kept test (take i xs))))
-
-sides : (b : Bool) (x : ℕ) (xs ys : List ℕ) (n : ℕ) → length xs + length ys ≡ n → length (cond b (x ∷ xs) xs) + length (cond (not b) (x ∷ ys) ys) ≡ suc n
-sides true x xs ys n h = omega arith
-sides false x xs ys n h = omega arith
-
--- each item passes or does not
-pub kept-lengths : (l r : ℕ → Bool) → ((h : ℕ) → r h ≡ not (l h)) → (xs : List ℕ) → length (kept l xs) + length (kept r xs) ≡ length xs
-unfolding kept
-kept-lengths l r other [] = refl
-kept-lengths l r other (x ∷ xs) = rw (other x) (sides (l x) x (kept l xs) (kept r xs) (length xs) (kept-lengths l r other xs))
-
--- ---- laid over the front
-
-pub laid-next : (xs ys : List ℕ) (y : ℕ) → length xs < length ys → set (laid xs ys) (length xs) y ≡ laid (xs ++ (y ∷ [])) ys
-laid-next xs ys y h = stored xs ys (y ∷ []) (length xs) refl (omega arith) ∙ rw (length-append xs (y ∷ []))
-
--- behind it nothing is changed
-pub laid-getD : (xs ys : List ℕ) (i : ℕ) → length xs ≤ i → getD (laid xs ys) i 0 ≡ getD ys i 0
-laid-getD xs ys i h =
-    let k = i - length xs in
-    let e : i ≡ length xs + k = omega arith in
-    ap (λ (n : ℕ). getD (laid xs ys) n 0) e ∙ getD-append-add xs (drop (length xs) ys) k 0 ∙ getD-drop (length xs) ys k 0
-    ∙ ap (λ (n : ℕ). getD ys n 0) (sym e)
+use Rattle.light_split.specs.Partition.{goesLeft, goesRight, lefts, rights, partitionHandles, partedCount, partedHandles, partedWork}
+use Rattle.words.specs.Lists.{kept, laid}
 
 -- ---- the loop that parts: of hs the items up to i are parted, by tests of which each item passes one
 

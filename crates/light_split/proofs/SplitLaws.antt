@@ -18,7 +18,8 @@ use Rattle.words.proofs.AnswerLaws.{then-assoc}
 use Rattle.light_bounds.specs.Bounds.{boxUnion}
 use Rattle.light_bounds.specs.declared.bounds.Bounds3.{Bounds3}
 use Rattle.light_bounds.specs.declared.light_bounds.LightBounds.{LightBounds}
-use Rattle.light_split.specs.Lights.{lightOf, folded, centroidEnds}
+use Rattle.light_split.specs.Lights.{lightOf, centroidEnds}
+use Rattle.words.specs.Lists.{folded}
 use Rattle.light_split.specs.Buckets.{Bucket, joinTo, unionRange, unionBucketRange, sideCost, cutCost, slotList}
 use Rattle.light_split.specs.Split.{split, combinedBounds, noBest, better, cuts, axis, chooseSplit}
 use Rattle.light_split.specs.declared.buckets.Slot.{Slot}

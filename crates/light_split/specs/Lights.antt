@@ -2,8 +2,9 @@
 -- A row past the block's end is read as zeros. Definitions only. Assumes nothing.
 use Prim.Native.Nat.{ℕ, zero, suc, _-_, min}
 use mathlib.Core.Bool.{true, false, cond}
-use mathlib.Core.List.{List, [], _∷_}
+use mathlib.Core.List.{List}
 use lib.Ieee.{Float, inf, eq}
+use Rattle.words.specs.Lists.{folded}
 use Rattle.ieee.specs.Single.{_⊖_, _⊗_, _⊘_, single}
 use Rattle.ieee.specs.Whole.{toUsize}
 use Rattle.light_bounds.specs.Bounds.{boxUnion, centroid}
@@ -17,11 +18,6 @@ use Rattle.light_rows.specs.Block.{recordPlace}
 -- `light_bounds[handle]`
 abbrev pub lightOf : List ℕ → ℕ → LightBounds
 lightOf ws h = readRecord ws (recordPlace h)
-
--- a step for each item of a list, from left to right
-unfoldable pub folded : {A B : Type 0} → (B → A → B) → B → List A → B
-folded step b [] = b
-folded step b (x ∷ xs) = folded step (step b x) xs
 
 -- `v[dimension]`; there are three
 unfoldable pub component : ℕ → Vec3 → Float

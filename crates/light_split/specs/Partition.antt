@@ -3,18 +3,14 @@
 -- Definitions only. Assumes nothing.
 use Prim.Native.Nat.{ℕ, _/_}
 use mathlib.Core.Bool.{Bool, cond, not, _||_}
-use mathlib.Core.List.{List, [], _∷_, _++_}
+use mathlib.Core.List.{List, _++_}
 use lib.Dec.{leb, ltb, eqb}
 use lib.ListN.{length, take, drop}
+use Rattle.words.specs.Lists.{kept, laid}
 use Rattle.words.specs.Answers.{Answer, given, refused}
 use Rattle.light_bounds.specs.declared.bounds.Bounds3.{Bounds3}
 use Rattle.light_split.specs.Lights.{centroidEnds, bucketOf}
 use Rattle.light_split.specs.declared.split.Split.{Split}
-
--- the items that pass a test
-unfoldable pub kept : (ℕ → Bool) → List ℕ → List ℕ
-kept test [] = []
-kept test (x ∷ xs) = cond (test x) (x ∷ kept test xs) (kept test xs)
 
 unfoldable pub goesLeft : List ℕ → Bounds3 → Split → ℕ → Bool
 goesLeft ws ends s h = leb (bucketOf ws ends (s .dimension) h) (s .bucket)
@@ -38,10 +34,6 @@ partitionHandles ws hs s =
     cond (eqb (length l) 0 || eqb (length r) 0) (take middle (l ++ r), drop middle (l ++ r)) (l, r)
 
 -- ---- in place, by a lent work that is at least as long as the stretch or refusal 3
-
--- a list written over the front of another
-abbrev pub laid : List ℕ → List ℕ → List ℕ
-laid xs ys = xs ++ drop (length xs) ys
 
 -- how many go left
 unfoldable pub partedCount : List ℕ → List ℕ → Split → ℕ → Answer ℕ

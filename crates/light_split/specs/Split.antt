@@ -8,7 +8,8 @@ use Rattle.ieee.specs.Single.{zerof}
 use Rattle.words.specs.Answers.{Answer, given, refused, _then_}
 use Rattle.light_bounds.specs.Bounds.{boxUnion}
 use Rattle.light_bounds.specs.declared.bounds.Bounds3.{Bounds3}
-use Rattle.light_split.specs.Lights.{lightOf, folded, component, centroidEnds, nBuckets}
+use Rattle.light_split.specs.Lights.{lightOf, component, centroidEnds, nBuckets}
+use Rattle.words.specs.Lists.{folded}
 use Rattle.light_split.specs.Buckets.{Bucket, fillBuckets, emptyBuckets, cutCost}
 use Rattle.light_split.specs.declared.split.Split.{Split}
 use Rattle.light_split.specs.declared.split.Best.{Best}

@@ -1,4 +1,2 @@
 pub mod PackLaws
-pub mod AbsLaws
-pub mod CutLaws
 pub mod QuantizeCuts

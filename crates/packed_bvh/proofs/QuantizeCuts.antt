@@ -12,7 +12,7 @@ use Rattle.ieee.specs.Single.{_⊕_, _⊗_, _⊘_, half, onef, twof}
 use Rattle.ieee.specs.Whole.{roundAway, toU16, toU32}
 use Rattle.packed_bvh.specs.Quantize.{lastStep, lastCosStep, stepsOf, quantizeBounds, quantizeCos, quantizeAxis}
 use Rattle.packed_bvh.specs.QuantizeLaws.{steps-fit, quantize-small}
-use Rattle.packed_bvh.proofs.CutLaws.{cut-floor, cut-ceil, cut-round, cut-least}
+use Rattle.ieee.specs.CutLaws.{cut-floor, cut-ceil, cut-round, cut-least}
 
 -- ---- coordinates, on an axis with extent
 

@@ -1,25 +1,22 @@
 -- The quantised numbers are no larger than their last step. A value that is a NaN or at most a whole number n has a whole number of at most n next to it, and
 -- a cast of a NaN is 0. Assumes nothing.
-use Prim.Native.Nat.{ℕ, _+_, _*_, _-_, _≤_, _<_, zero-le}
+use Prim.Native.Nat.{ℕ, _≤_, zero-le}
 use mathlib.Core.Path.{_≡_, refl, sym, _∙_, ap, subst}
 use mathlib.Core.Bool.{Bool, true, false, cond, not, _&&_, _||_}
 use mathlib.Core.Logic.{_⊎_, inl, inr}
-use native.Mathlib.Nat.{le-trans, le-of-eq, le-of-lt, le-of-mul-le-mul-right, lt-of-mul-lt-mul-right, mul-one, one-mul, lt-of-not-le, eq-or-lt-of-le}
-use native.Mathlib.Decide.{decLe}
-use native.Mathlib.Omega.{arith}
-use borrow.Author.Tests.{lt-ltb, le-ltb, ltb-false}
-use lib.Dec.{T, ltb, lit<, lit≤}
-use lib.IntN.{ℤ, pos}
-use lib.Ieee.{Float, nan, inf, fin, Format, binary32, up, down, sum, add, sub, mul, div, neg, lt, le, eq, isNan, fits, ofBits, toUnsigned}
-use lib.Ieee.Exact.{HasValue}
-use lib.Ieee.Fits.{down-pos, mul-fits, and-l, and-r}
+use borrow.Author.Tests.{ltb-false}
+use lib.Dec.{T, ltb, lit≤}
+use lib.IntN.{pos}
+use lib.Ieee.{Float, nan, inf, fin, binary32, up, add, mul, div, lt, le, eq, isNan, fits, ofBits}
+use lib.Ieee.Scale.{finite}
+use lib.Ieee.Fits.{mul-fits, and-l, and-r}
 use Rattle.ieee.specs.Choose.{clamp}
-use Rattle.ieee.specs.OperationOrder.{add-nonneg, sub-nonneg, mul-nonneg, div-nonneg, add-mono, mul-mono, div-mono, sub-le}
-use Rattle.ieee.specs.OrderLaws.{le-fin, le-left, le-of-not-lt, le→nonneg, nonneg, nonneg-known}
+use Rattle.ieee.specs.CutLaws.{NanOrAtMost, next-small}
+use Rattle.ieee.specs.OperationOrder.{mul-nonneg, div-nonneg, mul-mono, div-mono}
+use Rattle.ieee.specs.OrderLaws.{le-left, le-of-not-lt, le→nonneg, nonneg, nonneg-known, nonneg-up}
+use Rattle.ieee.specs.SumOrder.{sum-mono, add-known, between}
 use Rattle.ieee.specs.Single.{_⊕_, _⊖_, _⊗_, _⊘_, zerof, half, onef, twof, minusOne}
-use Rattle.ieee.specs.Whole.{outward, nextWhole, negative, floor, ceil, roundAway, toU16, toU32}
-use Rattle.ieee.specs.WholeLaws.{toUnsigned-units}
-use Rattle.ieee.specs.WholeNumbers.{outward-under, outward-over, nextWhole-value}
+use Rattle.ieee.specs.Whole.{negative, floor, ceil, roundAway, toU16, toU32}
 use Rattle.words.specs.Answers.{Answer, given, refused}
 use Rattle.words.proofs.AnswerLaws.{then-given, not-both}
 use Rattle.light_bounds.specs.Bounds.{boxCheck}
@@ -27,42 +24,6 @@ use Rattle.light_bounds.specs.LightBounds.{isCosine, finiteCone, rangeCheck, co
 use Rattle.light_bounds.specs.Vecmath.{dot}
 use Rattle.light_bounds.specs.declared.light_bounds.LightBounds.{LightBounds}
 use Rattle.packed_bvh.specs.Quantize.{lastStep, lastCosStep, stepsOf, quantizeBounds, quantizeCos, quantizeAxis}
-
--- ---- the whole number next to a value
-
--- the next whole number to m * 2 ^ e, which is at most n
-pub outward-small : (away : Bool) (m : ℕ) (e : ℤ) (n : ℕ) → m * up e ≤ n * down e → outward away m e ≤ n
-outward-small false m e n h = le-of-mul-le-mul-right (le-trans (outward-under m e .at-most) h) (down-pos e)
-outward-small true m e n h =
-    let q = outward true m e in
-    let l : q * down e < (n + 1) * down e = omega (arith, outward-over m e .least) in
-    let s : q < n + 1 = lt-of-mul-lt-mul-right (down e) l in
-    omega arith
-
-pub cast-negative : (w : ℕ) (v : Float) (n : ℕ) → HasValue v true n 1 → toUnsigned w v ≡ 0
-unfolding toUnsigned
-cast-negative w nan n h = refl
-cast-negative w (inf t) n h = absurd h
-cast-negative w (fin t m e) n h = rw (h .0)
-
--- a value that is a NaN or at most n
-abbrev Under : ℕ → Float → Type 0
-Under n x = (x ≡ nan) ⊎ T (le x (fin false n (pos 0)))
-
-next-small : (w n : ℕ) (away : Bool) (x : Float) → T (fits binary32 x) → Under n x → toUnsigned w (nextWhole binary32 away x) ≤ n
-unfolding nextWhole toUnsigned
-next-small w n away x F (inl e) = rw e zero-le
-next-small w n away nan F (inr h) = zero-le
-next-small w n away (inf true) F (inr h) = zero-le
-next-small w n away (inf false) F (inr h) = absurd (unfold le lt eq in h)
-next-small w n away (fin true m e) F (inr h) =
-    le-trans (le-of-eq (cast-negative w (nextWhole binary32 away (fin true m e)) (outward away m e) (nextWhole-value binary32 true m e F away))) zero-le
-next-small w n away (fin false m e) F (inr h) =
-    let q = outward away m e in
-    let l = le-fin false m e false n (pos 0) .0 h in
-    let small : q ≤ n = outward-small away m e n (omega arith) in
-    let is = toUnsigned-units w (nextWhole binary32 away (fin false m e)) q 1 (lit< tt) (nextWhole-value binary32 false m e F away) in
-    le-trans (le-of-eq is) (omega arith)
 
 -- ---- coordinates
 
@@ -95,7 +56,7 @@ all-steps : onef ⊗ lastStep ≡ fin false 65535 (pos 0)
 unfolding mul ofBits
 all-steps = refl
 
-pub portion-steps : (x : Float) → Portion x → Under 65535 (x ⊗ lastStep)
+pub portion-steps : (x : Float) → Portion x → NanOrAtMost 65535 (x ⊗ lastStep)
 unfolding ofBits
 portion-steps x (p, h) =
     elim (mul-nonneg binary32 x lastStep p tt) [
@@ -109,7 +70,7 @@ nan-steps : nan ⊗ lastStep ≡ nan
 unfolding mul
 nan-steps = refl
 
-steps-under : (value lo hi : Float) → Under 65535 (stepsOf value lo hi)
+steps-under : (value lo hi : Float) → NanOrAtMost 65535 (stepsOf value lo hi)
 unfolding stepsOf
 steps-under value lo hi =
     let x = clamp ((value ⊖ lo) ⊘ (hi ⊖ lo)) zerof onef in
@@ -147,25 +108,6 @@ quantize-axis-small c = go (toU32 (roundAway binary32 ((c ⊕ onef) ⊗ half ⊗
 
 -- ---- cosines
 
--- a sum of values of unlike signs, either one first
-sum-swap : (f : Format) (a b c : ℕ) → sum f true a false b c ≡ sum f false b true a c
-unfolding sum
-sum-swap f a b c = go (decLe a b)
-  where
-    go : Dec (a ≤ b) → sum f true a false b c ≡ sum f false b true a c
-    go (yes l) = elim (eq-or-lt-of-le l) [
-      | inl e ↦ rw (e, le-ltb b b (le-of-eq refl))
-      | inr k ↦ rw (lt-ltb a b k, le-ltb b a l)
-    ]
-    go (no n) = let k : b < a = lt-of-not-le n in rw (le-ltb a b (le-of-lt k), lt-ltb b a k)
-
--- c + 1 for a c from -1 to 0
-below-zero : (m : ℕ) (e : ℤ) → fin true m e ⊕ onef ≡ onef ⊖ fin false m e
-unfolding add sub neg ofBits
-below-zero m e =
-    sum-swap binary32 (m * up e * 1) (1 * 1 * down e) (down e * 1)
-    ∙ ap (λ (z : ℕ). sum binary32 false (1 * 1 * down e) true (m * up e * 1) z) (mul-one (down e) ∙ sym (one-mul (down e)))
-
 abbrev Double : Float → Type 0
 Double x = T (nonneg x) × T (le x twof)
 
@@ -173,23 +115,21 @@ one-and-one : onef ⊕ onef ≡ twof
 unfolding add ofBits
 one-and-one = refl
 
+one-less-one : minusOne ⊕ onef ≡ zerof
+unfolding add ofBits
+one-less-one = refl
+
+-- c + 1 grows with c, from -1 + 1 to 1 + 1
 raised : (c : Float) → T (le minusOne c) → T (le c onef) → Double (c ⊕ onef)
 unfolding ofBits
-raised nan h k = absurd (unfold le lt eq in k)
-raised (inf true) h k = absurd (unfold le lt eq in h)
-raised (inf false) h k = absurd (unfold le lt eq in k)
-raised (fin false m e) h k = (
-  add-nonneg binary32 (fin false m e) onef tt tt,
-  subst (λ (z : Float). T (le (fin false m e ⊕ onef) z)) one-and-one
-      (add-mono binary32 (fin false m e) onef onef onef tt tt k (unfold le eq in tt)),
-)
-raised (fin true m e) h k =
-    let l = le-fin true 1 (pos 0) true m e .0 h in
-    let small : T (le (fin false m e) onef) = le-fin false m e false 1 (pos 0) .1 (omega arith) in
-    rw below-zero (
-      sub-nonneg binary32 onef (fin false m e) tt tt small,
-      Rattle.ieee.specs.OrderLaws.le-trans (onef ⊖ fin false m e) onef twof
-          (sub-le binary32 onef (fin false m e) (unfold fits in tt) tt tt small) (unfold le lt in tt),
+raised c h k =
+    let finite-c : T (finite c) = between minusOne c onef tt tt h k in
+    let own : T (le onef onef) = unfold le eq in tt in
+    let known = add-known binary32 c onef finite-c tt in (
+      nonneg-up (minusOne ⊕ onef) (c ⊕ onef) (rw one-less-one tt)
+          (sum-mono binary32 minusOne c onef onef (add-known binary32 minusOne onef tt tt) known h own),
+      subst (λ (z : Float). T (le (c ⊕ onef) z)) one-and-one
+          (sum-mono binary32 c onef onef onef known (add-known binary32 onef onef tt tt) k own),
     )
 
 two-halved : twof ⊘ twof ≡ onef
@@ -209,7 +149,7 @@ all-cos-steps : lastCosStep ⊗ onef ≡ fin false 32767 (pos 0)
 unfolding mul ofBits
 all-cos-steps = refl
 
-cos-steps : (x : Float) → Portion x → Under 32767 (lastCosStep ⊗ x)
+cos-steps : (x : Float) → Portion x → NanOrAtMost 32767 (lastCosStep ⊗ x)
 unfolding ofBits
 cos-steps x (p, h) =
     elim (mul-nonneg binary32 lastCosStep x tt p) [

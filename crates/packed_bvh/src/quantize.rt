@@ -1,8 +1,8 @@
 // Numbers packed into sixteen and fifteen bits (specs/Quantize.antt).
 ghost use mathlib.Core.Bool.{true, false};
 ghost use mathlib.Core.Path.{_≡_};
-ghost use Rattle.ieee.specs.Choose.{fabs};
 ghost use Rattle.packed_bvh.specs.Quantize.{stepsOf, quantizeBounds, quantizeCos, sign as signOf, folded, octahedral as octahedralOf, quantizeAxis};
+use floats::choose::abs;
 use floats::choose::clamp;
 use floats::choose::is_sign_negative;
 use floats::whole::to_u16;
@@ -49,14 +49,6 @@ pub fn quantize_cos(value: f32) -> u16
 }
 
 // ---- directions
-
-// The value without its sign: the greater of the two, with no branch by the sign, and of zeros 0 - x, which is +0.
-fn abs(x: f32) -> f32
-    ensures { λ r. ⌜ r ≡ fabs x ⌝ }
-{
-    let y = 0.0 - x;
-    if y < x { x } else { y }
-}
 
 fn sign(value: f32) -> f32
     ensures { λ r. ⌜ r ≡ signOf value ⌝ }

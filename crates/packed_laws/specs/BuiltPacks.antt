@@ -27,8 +27,8 @@ use Rattle.light_bvh.specs.Build.{LightBVH, buildLightBvh, nodesWritten}
 use Rattle.light_bvh.proofs.RowsLaws.{bounded-few, bounds-none, bounds-there}
 use Rattle.tree_laws.specs.AcceptedTree.{Parts, accepted-parts, accepted-none, accepted-leaves, accepted-read}
 use Rattle.tree_laws.specs.PlaceLaws.{nodeIn, nodeIn-fork, nodeIn-leaf, Reads}
-use Rattle.light_runs.specs.ByteLaws.{nodes-words, nodes-counted}
-use Rattle.light_runs.specs.NodeLaws.{leaf-powered}
+use Rattle.tree_laws.specs.ByteLaws.{nodes-words, nodes-counted}
+use Rattle.tree_laws.specs.NodeLaws.{leaf-powered}
 use Rattle.packed_bvh.specs.Packed.{indexMax, payload, payloadCheck, parentCheck, leftCheck, packNode, packNodes}
 use Rattle.packed_bvh.specs.Packed.{packedReserve, packCheck, agreed, packedTree, packLightBvh}
 use Rattle.packed_bvh.proofs.PackLaws.{agreed-valid, agreed-nothing}

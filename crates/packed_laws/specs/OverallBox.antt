@@ -32,11 +32,12 @@ use Rattle.light_rows.specs.TreeLaws.{boundsAt-past}
 use Rattle.light_split.specs.Lights.{lightOf}
 use Rattle.light_bvh.specs.Build.{isPowered, boundedHandles, grown, allBounds, validated, LightBVH, treeOf, builtBvh, buildCheck, buildLightBvh, nodesWritten}
 use Rattle.light_bvh.specs.Subtree.{buildSubtree}
-use Rattle.light_bvh.proofs.RowsLaws.{All, all-map, all-append, all-halves, bounds-there}
+use Rattle.light_bvh.proofs.RowsLaws.{all-halves, bounds-there}
+use Rattle.words.proofs.ListLaws.{All, all-map, all-append, none-all}
 use Rattle.tree_laws.specs.AcceptedTree.{Parts, accepted-parts, treeOf-built, accepted-none, accepted-read}
 use Rattle.tree_laws.specs.BuiltTrees.{built-holds}
 use Rattle.tree_laws.specs.PlaceLaws.{nodeIn, nodeIn-fork, nodeIn-leaf}
-use Rattle.light_runs.specs.NodeLaws.{node-words}
+use Rattle.tree_laws.specs.NodeLaws.{node-words}
 
 -- ---- an axis
 
@@ -205,10 +206,6 @@ Around ws all h = Fit all (lightOf ws h .bounds)
 
 abbrev Covers : List ℕ → Bounds3 → List ℕ → Type 0
 Covers ws all hs = Proper all × All (Around ws all) hs
-
-none-all : (P : ℕ → Type 0) (xs : List ℕ) → (0 < length xs → ⊥) → All P xs
-none-all P [] n = tt
-none-all P (x ∷ xs) n = absurd (n (omega arith))
 
 rows-covered : (ws : List ℕ) (m : ℕ) → validated ws m ≡ given tt → (all : Bounds3) → allBounds ws m ≡ some all → Covers ws all (boundedHandles ws m)
 unfolding validated allBounds boundedHandles grown

@@ -18,14 +18,15 @@ use lib.Ieee.Fits.{down-pos, mul-fits, round-is}
 use lib.Ieee.Order.{le-of-values}
 use lib.Ieee.Scale.{finite}
 use Rattle.ieee.specs.Choose.{clamp}
+use Rattle.ieee.specs.CutLaws.{cast-negative}
 use Rattle.ieee.specs.OperationOrder.{mul-nonneg}
 use Rattle.ieee.specs.OrderLaws.{nonneg, le-fin, finite-below}
 use Rattle.ieee.specs.Single.{_⊕_, _⊖_, _⊗_, _⊘_, single, zerof, onef}
 use Rattle.ieee.specs.Whole.{outward, nextWhole, floor, ceil, toU32}
 use Rattle.ieee.specs.WholeLaws.{toUnsigned-units}
-use Rattle.ieee.specs.WholeNumbers.{outward-under, outward-over, nextWhole-value}
+use Rattle.ieee.specs.WholeNumbers.{outward-small, outward-under, outward-over, nextWhole-value}
 use Rattle.packed_bvh.specs.Quantize.{lastStep, stepsOf, quantizeBounds}
-use Rattle.packed_bvh.specs.QuantizeLaws.{Portion, clamped, portion-steps, outward-small, cast-negative}
+use Rattle.packed_bvh.specs.QuantizeLaws.{Portion, clamped, portion-steps}
 
 -- ---- a number of steps
 

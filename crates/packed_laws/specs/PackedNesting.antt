@@ -18,8 +18,8 @@ use Rattle.light_bounds.specs.declared.light_bounds.LightBounds.{LightBounds}
 use Rattle.light_rows.specs.Nodes.{interior, nodeBytes, nodeAt, boundsAt}
 use Rattle.light_bvh.specs.Build.{LightBVH, buildLightBvh, nodesWritten}
 use Rattle.tree_laws.specs.AcceptedTree.{Parts, accepted-parts}
-use Rattle.light_runs.specs.ByteLaws.{nodes-words, nodes-bytes}
-use Rattle.light_runs.specs.NodeLaws.{boxes}
+use Rattle.tree_laws.specs.ByteLaws.{nodes-words, nodes-bytes}
+use Rattle.tree_laws.specs.NodeLaws.{boxes}
 use Rattle.packed_bvh.specs.Packed.{packLightBvh}
 use Rattle.packed_bvh.specs.Quantize.{quantizeBounds}
 use Rattle.packed_laws.specs.OverallBox.{Axis, Proper, record-low, overall-proper, node-within}

@@ -20,11 +20,11 @@ use Rattle.ieee.specs.OperationOrder.{div-mono, mul-mono, positive→lt}
 use Rattle.ieee.specs.OrderLaws.{gain, loss, nonneg, le-fin, le-left, le-right, le-refl, le-trans, nonneg-known, nonneg-up, finite-below}
 use Rattle.ieee.specs.Single.{_⊖_, _⊗_, _⊘_, zerof, onef}
 use Rattle.ieee.specs.Whole.{outward, nextWhole, negative, floor, ceil, toU32}
-use Rattle.ieee.specs.WholeNumbers.{outward-under, outward-over}
+use Rattle.ieee.specs.WholeNumbers.{outward-small, outward-under, outward-over}
 use Rattle.packed_bvh.specs.Quantize.{lastStep, stepsOf, quantizeBounds}
-use Rattle.packed_bvh.specs.QuantizeLaws.{Portion, clamped, outward-small}
+use Rattle.packed_bvh.specs.QuantizeLaws.{Portion, clamped}
 use Rattle.packed_laws.specs.PackedBoxes.{Steps, steps-of, nan-known, cast-next, cast-zero}
-use Rattle.packed_laws.specs.Differences.{difference-nonneg, difference-mono, difference-above, between}
+use Rattle.ieee.specs.SumOrder.{difference-nonneg, difference-grows, difference-above, between}
 
 -- ---- the clamp
 
@@ -213,7 +213,7 @@ quantize-mono to v w lo hi a b low h high = rw (quantize-is to v lo hi, quantize
     go true = zero-le
     go false =
         quotient-mono to (v ⊖ lo) (w ⊖ lo) (hi ⊖ lo) (difference-nonneg binary32 lo v a finite-v low)
-        (difference-mono binary32 lo v w a finite-v finite-w low h) (difference-mono binary32 lo w hi a finite-w b below-w high)
+        (difference-grows binary32 lo v w a finite-v finite-w h) (difference-grows binary32 lo w hi a finite-w b high)
 
 -- ---- where the steps are known
 
@@ -226,7 +226,7 @@ steps-known v lo hi F G a b h narrow low high =
     let d = hi ⊖ lo in
     let x = v ⊖ lo in
     let p = difference-nonneg binary32 lo v a finite-v low in
-    let finite-x = finite-below x d p (difference-mono binary32 lo v hi a finite-v b low high) narrow in
+    let finite-x = finite-below x d p (difference-grows binary32 lo v hi a finite-v b high) narrow in
     let above = difference-above binary32 lo hi F G a b h in
     let l = div-mono binary32 x x d p finite-x narrow above (le-refl x (nonneg-known x p)) in
     nonneg-known (stepsAt (x ⊘ d)) (steps-of (clamp (x ⊘ d) zerof onef) (portion (x ⊘ d) (x ⊘ d) l .0) .low)

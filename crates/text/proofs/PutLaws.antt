@@ -3,7 +3,7 @@
 use Prim.Native.Nat.{ℕ, zero, suc, _+_, _-_, _*_, _/_, _%_, _≤_, _<_}
 use mathlib.Core.Path.{_≡_, refl, sym, ap, _∙_}
 use mathlib.Core.Bool.{Bool, true, false, cond}
-use mathlib.Core.List.{List, [], _∷_, _++_, append-nil, append-assoc}
+use mathlib.Core.List.{List, [], _∷_, _++_, append-nil}
 use native.Mathlib.Nat.{mod-lt, lt-of-lt-of-le}
 use native.Mathlib.Omega.{arith}
 use borrow.Author.Tests.{lt-ltb, le-ltb, le-leb, lt-leb, leb-true, leb-false}
@@ -246,13 +246,6 @@ put-fits {before} {text} {after} {at} {count} room is long =
     record { is = rw all at is; past = rw (long, all) }
 
 -- ---- words as bytes
-
--- what an accepted call has written stands at the front of its tray
-pub tray-front : {A : Type 0} (written : A → List ℕ) (reserve n : ℕ) (a : A) (before : List ℕ) → length (written a) ≡ n
-    → take n (tray written reserve (given a) before) ≡ written a
-unfolding tray
-tray-front written reserve n a before e =
-    ap (take n) (append-assoc (written a) _ (drop reserve before)) ∙ take-at (written a) _ n e
 
 module _ (words before : List ℕ) where
   pub words-room : {n : ℕ} → given n ≡ writtenWords words (length before) → (n ≡ length words)

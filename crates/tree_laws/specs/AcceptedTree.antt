@@ -26,10 +26,12 @@ use Rattle.light_bvh.specs.Build.{nodesWritten, tabled, tableWritten}
 use Rattle.light_bvh.specs.Subtree.{buildSubtree}
 use Rattle.tree_laws.specs.LeafLaws.{built-leaves, built-words, built-records, bounded-labelled, tree-count, powered-once, others-never}
 use Rattle.tree_laws.specs.PlaceLaws.{nodeIn, nodeIn-some, nodeIn-record, headEnd, LabelsFit, sound-records, Reads, node-read}
-use Rattle.tree_laws.specs.PlaceLaws.{placeOf-node, placeOf-within, table-leaf, table-other}
+use Rattle.tree_laws.specs.PlaceLaws.{placeIn-node, placeIn-within, table-leaf, table-other}
 use Rattle.tree_laws.specs.RecordsOfTree.{Sound, bounded-sound}
-use Rattle.light_bvh.proofs.RowsLaws.{All, all-map, bounded-few}
-use Rattle.tree_laws.specs.StretchLaws.{count, counted-all}
+use Rattle.light_bvh.proofs.RowsLaws.{bounded-few}
+use Rattle.words.proofs.ListLaws.{All, all-map}
+use Rattle.words.proofs.OrderedLists.{counted-all}
+use Rattle.words.specs.Lists.{often}
 
 -- ---- what was checked
 
@@ -137,7 +139,7 @@ module _ (ws : List ℕ) (b : LightBVH) (t : Tree) (parts : Parts ws b) (is : b 
   pub accepted-words : length (nodesWritten b) ≡ nodeWords * (2 * b .k - 1)
   accepted-words = rw (nodes-are, parts .powered) (built-words ws (length (boundedHandles ws (b .rows))) (boundedHandles ws (b .rows)) t built)
 
-  pub accepted-count : (x : ℕ) → count x (leafHandles t) ≡ cond (ltb x (b .rows) && isPowered ws x) 1 0
+  pub accepted-count : (x : ℕ) → often x (leafHandles t) ≡ cond (ltb x (b .rows) && isPowered ws x) 1 0
   accepted-count = tree-count ws (length (boundedHandles ws (b .rows))) (b .rows) t (parts .labelled) built
 
   labels-below : All (λ (h : ℕ). h < b .rows) (leafHandles t)
@@ -169,8 +171,8 @@ module _ (ws : List ℕ) (b : LightBVH) (t : Tree) (parts : Parts ws b) (is : b 
   accepted-table x l power =
       let n = length (boundedHandles ws (b .rows)) in
       let (i, place, entry) = table-leaf t (b .rows) x l (powered-once ws n (b .rows) t (parts .labelled) built x l power) in
-      let (p, c, node) = placeOf-node 0 invalidIndex t x i place in
-      let within = placeOf-within 0 t x i place in
+      let (p, c, node) = placeIn-node 0 invalidIndex t x i place in
+      let within = placeIn-within 0 t x i place in
       let record-is : c ≡ lightOf ws x =
       nodeIn-record (λ (h : ℕ). lightOf ws h) 0 invalidIndex t i x p c
       (built-records ws n (boundedHandles ws (b .rows)) t built (bounded-labelled ws (b .rows) (parts .labelled))) node in

@@ -2,17 +2,14 @@
 -- their places, each handle a leaf as often as it stands in the stretch, with its row's record (`built-count`, `built-records`). So of a block's powered lamps
 -- each is a leaf once, and no other number is one (`tree-count`, `powered-once`, `others-never`). Assumes nothing.
 use Prim.Native.Nat.{ℕ, zero, suc, _+_, _*_, _-_, _<_}
-use mathlib.Core.Path.{_≡_, refl, ap, subst, sym, _∙_}
+use mathlib.Core.Path.{_≡_, refl, ap, sym, _∙_}
 use mathlib.Core.Bool.{Bool, true, false, cond, _&&_}
 use mathlib.Core.List.{List, [], _∷_}
 use native.Mathlib.Omega.{arith}
 use borrow.Author.Tests.{ltb-true, ltb-false, lt-ltb, le-ltb, eqb-true, eqb-false, eq-eqb}
 use lib.Dec.{T, eqb, ltb}
-use lib.ListN.{length, getD}
-use Rattle.words.specs.Answers.{given, refused}
-use Rattle.words.specs.Rows.{below}
-use Rattle.words.proofs.AnswerLaws.{given-injective, not-both}
-use Rattle.words.proofs.RowLaws.{below-at}
+use lib.ListN.{length}
+use Rattle.words.specs.Answers.{given}
 use Rattle.light_bounds.specs.declared.light_bounds.LightBounds.{LightBounds}
 use Rattle.light_rows.specs.Block.{handleAt, blockHandles}
 use Rattle.light_rows.specs.Nodes.{nodeWords, invalidIndex}
@@ -23,8 +20,11 @@ use Rattle.light_bvh.specs.Build.{isPowered, boundedHandles}
 use Rattle.light_bvh.specs.Subtree.{labelOf, buildSubtree}
 use Rattle.tree_laws.specs.BuiltTrees.{built-holds}
 use Rattle.light_bvh.proofs.SubtreeLaws.{build-size}
-use Rattle.light_bvh.proofs.RowsLaws.{label-is, All, all-map, all-halves, bounded-below}
-use Rattle.tree_laws.specs.StretchLaws.{halves-count, once, count, count-append}
+use Rattle.light_bvh.proofs.RowsLaws.{label-is, all-halves, bounded-below}
+use Rattle.words.proofs.ListLaws.{All, all-map}
+use Rattle.tree_laws.specs.StretchLaws.{halves-count}
+use Rattle.words.proofs.OrderedLists.{often-append}
+use Rattle.words.specs.Lists.{once, often}
 
 -- ---- as many
 
@@ -41,14 +41,14 @@ abbrev pub Labelled : List ℕ → ℕ → Type 0
 Labelled ws h = labelOf ws h ≡ h
 
 pub built-count : (ws : List ℕ) (n : ℕ) (hs : List ℕ) (t : Tree) → buildSubtree ws n hs ≡ given t → All (Labelled ws) hs
-    → (x : ℕ) → count x (leafHandles t) ≡ count x hs
-unfolding leafHandles count
+    → (x : ℕ) → often x (leafHandles t) ≡ often x hs
+unfolding leafHandles often
 built-count ws n hs t e =
-    built-holds ws (λ (hs : List ℕ) (t : Tree). All (Labelled ws) hs → (x : ℕ) → count x (leafHandles t) ≡ count x hs)
+    built-holds ws (λ (hs : List ℕ) (t : Tree). All (Labelled ws) hs → (x : ℕ) → often x (leafHandles t) ≡ often x hs)
     (λ h each x. ap (λ (y : ℕ). once x y + 0) (each .0))
     (λ hs s l r b two e holds-l holds-r each x.
     let halves = all-halves (Labelled ws) ws hs s each in
-    count-append x (leafHandles l) (leafHandles r) ∙ omega (arith, holds-l (halves .0) x, holds-r (halves .1) x, halves-count ws hs s x)) n hs t e
+    often-append x (leafHandles l) (leafHandles r) ∙ omega (arith, holds-l (halves .0) x, holds-r (halves .1) x, halves-count ws hs s x)) n hs t e
 
 -- each leaf's record is its label's
 abbrev pub LeavesBy : (ℕ → LightBounds) → Tree → Type 0
@@ -71,22 +71,22 @@ ltb-next x n other = go (ltb x n) refl
     go true e = lt-ltb x (suc n) (omega (arith, ltb-true x n e))
     go false e = le-ltb x (suc n) (omega (arith, ltb-false x n e))
 
-pub bounded-count : (ws : List ℕ) (m x : ℕ) → count x (boundedHandles ws m) ≡ cond (ltb x m && isPowered ws x) 1 0
-unfolding boundedHandles count
+pub bounded-count : (ws : List ℕ) (m x : ℕ) → often x (boundedHandles ws m) ≡ cond (ltb x m && isPowered ws x) 1 0
+unfolding boundedHandles often
 bounded-count ws zero x = rw (le-ltb x 0 (omega arith))
 bounded-count ws (suc n) x =
-    count-append x (boundedHandles ws n) (cond (isPowered ws n) (n ∷ []) []) ∙ rw (bounded-count ws n x) (go (eqb x n) refl)
+    often-append x (boundedHandles ws n) (cond (isPowered ws n) (n ∷ []) []) ∙ rw (bounded-count ws n x) (go (eqb x n) refl)
   where
-    same : (b : Bool) → 0 + count n (cond b (n ∷ []) []) ≡ cond b 1 0
+    same : (b : Bool) → 0 + often n (cond b (n ∷ []) []) ≡ cond b 1 0
     same true = rw (eq-eqb n n refl)
     same false = refl
 
-    other : (k : ℕ) (b : Bool) → eqb x n ≡ false → k + count x (cond b (n ∷ []) []) ≡ k
+    other : (k : ℕ) (b : Bool) → eqb x n ≡ false → k + often x (cond b (n ∷ []) []) ≡ k
     other k true e = rw e (omega arith)
     other k false e = omega arith
 
     go : (b : Bool) → eqb x n ≡ b
-        → cond (ltb x n && isPowered ws x) 1 0 + count x (cond (isPowered ws n) (n ∷ []) []) ≡ cond (ltb x (suc n) && isPowered ws x) 1 0
+        → cond (ltb x n && isPowered ws x) 1 0 + often x (cond (isPowered ws n) (n ∷ []) []) ≡ cond (ltb x (suc n) && isPowered ws x) 1 0
     go true e = rw (eqb-true x n e, le-ltb n n (omega arith), lt-ltb n (suc n) (omega arith)) (same (isPowered ws n))
     go false e = rw (ltb-next x n (eqb-false x n e)) (other (cond (ltb x n && isPowered ws x) 1 0) (isPowered ws n) e)
 
@@ -101,17 +101,17 @@ bounded-labelled ws m e = all-map (λ (h : ℕ) (l : h < m). block-labelled ws m
 -- ---- the tree of a block's powered lamps
 
 module _ (ws : List ℕ) (n m : ℕ) (t : Tree) (block : blockHandles ws ≡ given m) (built : buildSubtree ws n (boundedHandles ws m) ≡ given t) where
-  pub tree-count : (x : ℕ) → count x (leafHandles t) ≡ cond (ltb x m && isPowered ws x) 1 0
+  pub tree-count : (x : ℕ) → often x (leafHandles t) ≡ cond (ltb x m && isPowered ws x) 1 0
   tree-count x = built-count ws n (boundedHandles ws m) t built (bounded-labelled ws m block) x ∙ bounded-count ws m x
 
-  pub powered-once : (x : ℕ) → x < m → T (isPowered ws x) → count x (leafHandles t) ≡ 1
+  pub powered-once : (x : ℕ) → x < m → T (isPowered ws x) → often x (leafHandles t) ≡ 1
   powered-once x l p = tree-count x ∙ rw (lt-ltb x m l) (go (isPowered ws x) p)
     where
       go : (b : Bool) → T b → _≡_ {A = ℕ} (cond b 1 0) 1
       go true p = refl
       go false p = absurd p
 
-  pub others-never : (x : ℕ) → (x < m → T (isPowered ws x) → ⊥) → count x (leafHandles t) ≡ 0
+  pub others-never : (x : ℕ) → (x < m → T (isPowered ws x) → ⊥) → often x (leafHandles t) ≡ 0
   others-never x never = tree-count x ∙ go (ltb x m) (isPowered ws x) refl never
     where
       go : (a b : Bool) → ltb x m ≡ a → (x < m → T b → ⊥) → _≡_ {A = ℕ} (cond (a && b) 1 0) 0

@@ -6,3 +6,8 @@ pub mod RecordsOfTree
 pub mod LeafLaws
 pub mod PlaceLaws
 pub mod AcceptedTree
+pub mod TreeWords
+pub mod StandingTree
+pub mod StandingLaws
+pub mod NodeLaws
+pub mod ByteLaws

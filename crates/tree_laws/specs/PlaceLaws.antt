@@ -1,6 +1,6 @@
 -- The places of a tree. At each of its 2 n - 1 places stands a node, and the tree's words there are read as that node, and its record as that record
 -- (`nodeIn-some`, `place-at`, `place-read`). The handle table has, at a label that stands once among the leaves, the place of its leaf, and at a number that is
--- no label what it had (`tabled-at`, `placeOf-node`, `tabled-other`), the invalid index where it was filled so (`table-leaf`, `table-other`). Assumes nothing.
+-- no label what it had (`tabled-at`, `placeIn-node`, `tabled-other`), the invalid index where it was filled so (`table-leaf`, `table-other`). Assumes nothing.
 use Prim.Native.Nat.{ℕ, zero, suc, _+_, _*_, _-_, _≤_, _<_}
 use mathlib.Core.Path.{_≡_, refl, ap, subst, sym, _∙_}
 use mathlib.Core.Bool.{Bool, true, false, cond}
@@ -23,8 +23,9 @@ use Rattle.light_rows.specs.TreeLaws.{leaves-pos, root, root-at, root-bounds-at
 use Rattle.light_bvh.specs.Build.{tabled}
 use Rattle.tree_laws.specs.LeafLaws.{LeavesBy}
 use Rattle.tree_laws.specs.RecordsOfTree.{Sound}
-use Rattle.light_bvh.proofs.RowsLaws.{All}
-use Rattle.tree_laws.specs.StretchLaws.{all-parts, once, count, count-append}
+use Rattle.words.proofs.ListLaws.{All, all-parts}
+use Rattle.words.proofs.OrderedLists.{often-append}
+use Rattle.words.specs.Lists.{once, often}
 
 -- ---- the node at a place
 
@@ -205,61 +206,61 @@ firstOf (some i) o = some i
 firstOf none o = o
 
 -- the place of the first leaf with a label, of a tree whose root stands at a place
-unfoldable pub placeOf : ℕ → Tree → ℕ → Option ℕ
-placeOf at (leaf h b) x = cond (eqb x h) (some at) none
-placeOf at (fork b l r) x = firstOf (placeOf (suc at) l x) (placeOf (rightPlace at l) r x)
+unfoldable pub placeIn : ℕ → Tree → ℕ → Option ℕ
+placeIn at (leaf h b) x = cond (eqb x h) (some at) none
+placeIn at (fork b l r) x = firstOf (placeIn (suc at) l x) (placeIn (rightPlace at l) r x)
 
-pub placeOf-none : (at : ℕ) (t : Tree) (x : ℕ) → count x (leafHandles t) ≡ 0 → placeOf at t x ≡ none
-unfolding placeOf leafHandles count
-placeOf-none at (leaf h b) x e = go (eqb x h) e
+pub placeIn-none : (at : ℕ) (t : Tree) (x : ℕ) → often x (leafHandles t) ≡ 0 → placeIn at t x ≡ none
+unfolding placeIn leafHandles often
+placeIn-none at (leaf h b) x e = go (eqb x h) e
   where
     go : (b : Bool) → cond b 1 0 + 0 ≡ 0 → cond b (some at) none ≡ none
     go true e = absurd (omega arith)
     go false e = refl
-placeOf-none at (fork b l r) x e =
-    let sum = count-append x (leafHandles l) (leafHandles r) in
-    rw (placeOf-none (suc at) l x (omega arith)) (placeOf-none (rightPlace at l) r x (omega arith))
+placeIn-none at (fork b l r) x e =
+    let sum = often-append x (leafHandles l) (leafHandles r) in
+    rw (placeIn-none (suc at) l x (omega arith)) (placeIn-none (rightPlace at l) r x (omega arith))
 
 first-cases : (o o′ : Option ℕ) (i : ℕ) → firstOf o o′ ≡ some i → (o ≡ some i) ⊎ (o′ ≡ some i)
 first-cases (some j) o′ i e = inl e
 first-cases none o′ i e = inr e
 
-placeOf-leaf : (at h : ℕ) (b : LightBounds) (x i : ℕ) → placeOf at (leaf h b) x ≡ some i → (x ≡ h) × (i ≡ at)
-unfolding placeOf
-placeOf-leaf at h b x i e = go (eqb x h) refl e
+placeIn-leaf : (at h : ℕ) (b : LightBounds) (x i : ℕ) → placeIn at (leaf h b) x ≡ some i → (x ≡ h) × (i ≡ at)
+unfolding placeIn
+placeIn-leaf at h b x i e = go (eqb x h) refl e
   where
     go : (b : Bool) → eqb x h ≡ b → cond b (some at) none ≡ some i → (x ≡ h) × (i ≡ at)
     go true f e = (eqb-true x h f, sym (Option·some-injective at i e))
     go false f e = absurd (Option·none-ne-some i e)
 
-pub placeOf-within : (at : ℕ) (t : Tree) (x i : ℕ) → placeOf at t x ≡ some i → (at ≤ i) × (i < at + (2 * leaves t - 1))
-unfolding placeOf leaves
-placeOf-within at (leaf h b) x i e = let (_, is) = placeOf-leaf at h b x i e in (omega arith, omega arith)
-placeOf-within at (fork b l r) x i e =
+pub placeIn-within : (at : ℕ) (t : Tree) (x i : ℕ) → placeIn at t x ≡ some i → (at ≤ i) × (i < at + (2 * leaves t - 1))
+unfolding placeIn leaves
+placeIn-within at (leaf h b) x i e = let (_, is) = placeIn-leaf at h b x i e in (omega arith, omega arith)
+placeIn-within at (fork b l r) x i e =
     let more-l = leaves-pos l in
     let more-r = leaves-pos r in
-    ⊎-elim (λ f. let (low, high) = placeOf-within (suc at) l x i f in (omega arith, omega arith))
-    (λ f. let (low, high) = placeOf-within (rightPlace at l) r x i f in (omega arith, omega arith))
-    (first-cases (placeOf (suc at) l x) (placeOf (rightPlace at l) r x) i e)
+    ⊎-elim (λ f. let (low, high) = placeIn-within (suc at) l x i f in (omega arith, omega arith))
+    (λ f. let (low, high) = placeIn-within (rightPlace at l) r x i f in (omega arith, omega arith))
+    (first-cases (placeIn (suc at) l x) (placeIn (rightPlace at l) r x) i e)
 
 -- at that place stands a leaf with the label
-pub placeOf-node : (at p : ℕ) (t : Tree) (x i : ℕ) → placeOf at t x ≡ some i → (q : ℕ) × (b : LightBounds) × (nodeIn at p t i ≡ some (leafNode x q, b))
-unfolding placeOf
-placeOf-node at p (leaf h b) x i e =
-    let (label, here) = placeOf-leaf at h b x i e in
+pub placeIn-node : (at p : ℕ) (t : Tree) (x i : ℕ) → placeIn at t x ≡ some i → (q : ℕ) × (b : LightBounds) × (nodeIn at p t i ≡ some (leafNode x q, b))
+unfolding placeIn
+placeIn-node at p (leaf h b) x i e =
+    let (label, here) = placeIn-leaf at h b x i e in
     (p, b, rw (label, here) (nodeIn-root at p (leaf h b)))
-placeOf-node at p (fork b l r) x i e =
+placeIn-node at p (fork b l r) x i e =
     let more-l = leaves-pos l in
     ⊎-elim
     (λ f.
-    let (low, high) = placeOf-within (suc at) l x i f in
-    let (q, c, is) = placeOf-node (at + 1) at l x i (rw (add-one at) f) in
+    let (low, high) = placeIn-within (suc at) l x i f in
+    let (q, c, is) = placeIn-node (at + 1) at l x i (rw (add-one at) f) in
     (q, c, rw (nodeIn-left at p b l r i (omega arith) (omega arith)) is))
     (λ f.
-    let (low, high) = placeOf-within (rightPlace at l) r x i f in
-    let (q, c, is) = placeOf-node (rightPlace at l) at r x i f in
+    let (low, high) = placeIn-within (rightPlace at l) r x i f in
+    let (q, c, is) = placeIn-node (rightPlace at l) at r x i f in
     (q, c, rw (nodeIn-right at p b l r i low) is))
-    (first-cases (placeOf (suc at) l x) (placeOf (rightPlace at l) r x) i e)
+    (first-cases (placeIn (suc at) l x) (placeIn (rightPlace at l) r x) i e)
 
 -- ---- the handle table
 
@@ -269,41 +270,41 @@ length-tabled at (leaf h b) table = length-set table h at
 length-tabled at (fork b l r) table = length-tabled (rightPlace at l) r (tabled (suc at) l table) ∙ length-tabled (suc at) l table
 
 -- a number that is no label
-pub tabled-other : (at : ℕ) (t : Tree) (table : List ℕ) (x d : ℕ) → count x (leafHandles t) ≡ 0 → getD (tabled at t table) x d ≡ getD table x d
-unfolding tabled leafHandles count
+pub tabled-other : (at : ℕ) (t : Tree) (table : List ℕ) (x d : ℕ) → often x (leafHandles t) ≡ 0 → getD (tabled at t table) x d ≡ getD table x d
+unfolding tabled leafHandles often
 tabled-other at (leaf h b) table x d e = getD-set-other table h x at d (λ is. go is e)
   where
     go : x ≡ h → once x h + 0 ≡ 0 → ⊥
     go is e = omega (arith, rw (eq-eqb x h is) at e)
 tabled-other at (fork b l r) table x d e =
-    let sum = count-append x (leafHandles l) (leafHandles r) in
+    let sum = often-append x (leafHandles l) (leafHandles r) in
     tabled-other (rightPlace at l) r (tabled (suc at) l table) x d (omega arith) ∙ tabled-other (suc at) l table x d (omega arith)
 
 -- a label that stands once
-pub tabled-at : (at : ℕ) (t : Tree) (table : List ℕ) (x d : ℕ) → count x (leafHandles t) ≡ 1 → x < length table
-    → (i : ℕ) × (placeOf at t x ≡ some i) × (getD (tabled at t table) x d ≡ i)
-unfolding tabled placeOf leafHandles count
+pub tabled-at : (at : ℕ) (t : Tree) (table : List ℕ) (x d : ℕ) → often x (leafHandles t) ≡ 1 → x < length table
+    → (i : ℕ) × (placeIn at t x ≡ some i) × (getD (tabled at t table) x d ≡ i)
+unfolding tabled placeIn leafHandles often
 tabled-at at (leaf h b) table x d e low = go (eqb x h) refl e
   where
     go : (b : Bool) → eqb x h ≡ b → cond b 1 0 + 0 ≡ 1 → (i : ℕ) × (cond b (some at) none ≡ some i) × (getD (set table h at) x d ≡ i)
     go true f e = (at, refl, rw (← (eqb-true x h f)) (getD-set-same table x at d low))
     go false f e = absurd (omega arith)
 tabled-at at (fork b l r) table x d e low =
-    go (count x (leafHandles l)) refl (λ e. tabled-at (suc at) l table x d e low)
+    go (often x (leafHandles l)) refl (λ e. tabled-at (suc at) l table x d e low)
     (λ e. tabled-at (rightPlace at l) r (tabled (suc at) l table) x d e (omega (arith, length-tabled (suc at) l table)))
   where
-    go : (k : ℕ) → count x (leafHandles l) ≡ k
-        → (count x (leafHandles l) ≡ 1 → (i : ℕ) × (placeOf (suc at) l x ≡ some i) × (getD (tabled (suc at) l table) x d ≡ i))
-        → (count x (leafHandles r) ≡ 1
-        → (i : ℕ) × (placeOf (rightPlace at l) r x ≡ some i) × (getD (tabled (rightPlace at l) r (tabled (suc at) l table)) x d ≡ i))
-        → (i : ℕ) × (firstOf (placeOf (suc at) l x) (placeOf (rightPlace at l) r x) ≡ some i)
+    go : (k : ℕ) → often x (leafHandles l) ≡ k
+        → (often x (leafHandles l) ≡ 1 → (i : ℕ) × (placeIn (suc at) l x ≡ some i) × (getD (tabled (suc at) l table) x d ≡ i))
+        → (often x (leafHandles r) ≡ 1
+        → (i : ℕ) × (placeIn (rightPlace at l) r x ≡ some i) × (getD (tabled (rightPlace at l) r (tabled (suc at) l table)) x d ≡ i))
+        → (i : ℕ) × (firstOf (placeIn (suc at) l x) (placeIn (rightPlace at l) r x) ≡ some i)
         × (getD (tabled (rightPlace at l) r (tabled (suc at) l table)) x d ≡ i)
     go zero is left right =
-        let sum = count-append x (leafHandles l) (leafHandles r) in
+        let sum = often-append x (leafHandles l) (leafHandles r) in
         let (i, place, found) = right (omega arith) in
-        (i, rw (placeOf-none (suc at) l x is) place, found)
+        (i, rw (placeIn-none (suc at) l x is) place, found)
     go (suc k) is left right =
-        let sum = count-append x (leafHandles l) (leafHandles r) in
+        let sum = often-append x (leafHandles l) (leafHandles r) in
         let (i, place, found) = left (omega arith) in
         (i, rw place, tabled-other (rightPlace at l) r (tabled (suc at) l table) x d (omega arith) ∙ found)
 
@@ -314,8 +315,8 @@ tabled-twice b = refl
 
 -- a table that was filled with the invalid index
 module _ (t : Tree) (m x : ℕ) (below : x < m) where
-  pub table-leaf : count x (leafHandles t) ≡ 1 → (i : ℕ) × (placeOf 0 t x ≡ some i) × (getD (tabled 0 t (replicate m invalidIndex)) x 0 ≡ i)
+  pub table-leaf : often x (leafHandles t) ≡ 1 → (i : ℕ) × (placeIn 0 t x ≡ some i) × (getD (tabled 0 t (replicate m invalidIndex)) x 0 ≡ i)
   table-leaf e = tabled-at 0 t (replicate m invalidIndex) x 0 e (rw (length-replicate m invalidIndex) below)
 
-  pub table-other : count x (leafHandles t) ≡ 0 → getD (tabled 0 t (replicate m invalidIndex)) x 0 ≡ invalidIndex
+  pub table-other : often x (leafHandles t) ≡ 0 → getD (tabled 0 t (replicate m invalidIndex)) x 0 ≡ invalidIndex
   table-other e = tabled-other 0 t (replicate m invalidIndex) x 0 e ∙ getD-replicate m x invalidIndex 0 below

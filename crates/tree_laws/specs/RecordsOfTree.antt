@@ -20,7 +20,8 @@ use Rattle.light_split.specs.Lights.{lightOf}
 use Rattle.light_bvh.specs.Build.{isPowered, boundedHandles, validated}
 use Rattle.light_bvh.specs.Subtree.{buildSubtree}
 use Rattle.tree_laws.specs.BuiltTrees.{built-holds}
-use Rattle.light_bvh.proofs.RowsLaws.{All, all-append, all-halves}
+use Rattle.light_bvh.proofs.RowsLaws.{all-halves}
+use Rattle.words.proofs.ListLaws.{All, all-append}
 
 pub record SoundLeaf (b : LightBounds) : Type 0 where
   pub passes : validate b ≡ given tt

@@ -1,26 +1,26 @@
 -- The Rust's sort changes no build: handles ascend in every stretch (StretchLaws), so `partition_handles` with its
 -- sort gives the halves that it gives without (`partition-sorting`), and the whole build, its refusals too, is
--- `buildLightBvh` for every light record count, block and lent length (`build-sorting`). Assumes nothing.
+-- `buildLightBvh` for every light record often, block and lent length (`build-sorting`). Assumes nothing.
 use Prim.Native.Nat.{ℕ, zero, suc, _/_}
 use mathlib.Core.Path.{_≡_, refl, ap}
 use mathlib.Core.Bool.{Bool, true, false, cond, _||_}
 use mathlib.Core.List.{List, [], _∷_, _++_}
-use mathlib.Core.Option.{Option, none, some}
-use mathlib.Core.Logic.{_⊎_, inl, inr}
+use mathlib.Core.Logic.{inl, inr}
 use borrow.Author.Tests.{eqb-true}
 use lib.Dec.{eqb}
 use lib.ListN.{length, take, drop}
 use Rattle.words.specs.Answers.{Answer, given, refused, _then_}
-use Rattle.light_bounds.specs.LightBounds.{union}
-use Rattle.light_bounds.specs.declared.light_bounds.LightBounds.{LightBounds}
 use Rattle.light_rows.specs.Tree.{Tree, fork, bounds}
 use Rattle.light_split.specs.Partition.{lefts, rights, partitionHandles}
 use Rattle.light_split.specs.Split.{chooseSplit}
 use Rattle.light_split.specs.declared.split.Split.{Split}
-use Rattle.light_bvh.specs.Build.{LightBVH, boundedHandles, allBounds, validated, treeOf}
+use Rattle.light_bvh.specs.Build.{boundedHandles, validated, treeOf}
 use Rattle.light_bvh.specs.Build.{builtBvh, buildCheck, buildLightBvh}
 use Rattle.light_bvh.specs.Subtree.{forked, treeBy, buildSubtree}
-use Rattle.tree_laws.specs.StretchLaws.{Ascends, no-length, sorted, sort-changes-nothing}
+use Rattle.tree_laws.specs.StretchLaws.{sort-changes-nothing}
+use Rattle.words.proofs.OrderedLists.{Ascends}
+use Rattle.words.proofs.ListLaws.{no-length}
+use Rattle.words.specs.Lists.{sorted}
 use Rattle.tree_laws.specs.StretchLaws.{partition-ascends, bounded-ascends}
 use Rattle.tree_laws.specs.SortingBuild.{partitionSorting, forkedSorting, treeBySorting, subtreeSorting}
 use Rattle.tree_laws.specs.SortingBuild.{treeSorting, builtSorting, buildSorting}

@@ -17,7 +17,7 @@ use Rattle.light_split.specs.Split.{chooseSplit}
 use Rattle.light_split.specs.declared.split.Split.{Split}
 use Rattle.light_bvh.specs.Build.{LightBVH, boundedHandles, allBounds, validated, buildCheck}
 use Rattle.light_bvh.specs.Subtree.{labelOf}
-use Rattle.tree_laws.specs.StretchLaws.{sorted}
+use Rattle.words.specs.Lists.{sorted}
 
 -- `sorted = left; sorted.extend(right); sorted.sort_unstable(); mid = sorted.len() / 2`
 unfoldable pub partitionSorting : List ℕ → List ℕ → Split → List ℕ × List ℕ

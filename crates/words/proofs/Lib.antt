@@ -1,7 +1,9 @@
 pub mod AnswerLaws
 pub mod FillLaws
 pub mod LimitLaws
+pub mod ListLaws
 pub mod LittleEndianLaws
+pub mod OrderedLists
 pub mod Reserves
 pub mod RowLaws
 pub mod Stores

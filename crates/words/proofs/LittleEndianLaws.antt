@@ -6,6 +6,7 @@ use native.Mathlib.Nat.{div-div-eq-div-mul}
 use native.Mathlib.Omega.{arith}
 use native.Mathlib.Numerals.{unary-clauses}
 use lib.ListN.{length, getD, take, drop}
+use Rattle.words.proofs.ListLaws.{All, all-at}
 use Rattle.words.specs.LittleEndian.{wordOf, wordsOf, bytesOfWord, bytesOf}
 
 pub length-wordsOf : (bs : List ℕ) → length (wordsOf bs) ≡ length bs / 4
@@ -59,3 +60,11 @@ bytesOf-wordsOf (a ∷ b ∷ c ∷ d ∷ rest) h e =
     let small : (a < 256) × (b < 256) × (c < 256) × (d < 256) = (h 0, h 1, h 2, h 3) in
     let ih = bytesOf-wordsOf rest (λ i. h (suc (suc (suc (suc i))))) (omega arith) in
     ap₂ _∷_ (omega arith) (ap₂ _∷_ (omega arith) (ap₂ _∷_ (omega arith) (ap₂ _∷_ (omega arith) ih)))
+
+-- ---- words below 2 ^ 32
+
+abbrev pub IsWord : ℕ → Type 0
+IsWord w = w < 2 ^ 32
+
+pub words-back : (ws : List ℕ) → All IsWord ws → wordsOf (bytesOf ws) ≡ ws
+words-back ws h = wordsOf-bytesOf ws (all-at IsWord 0 (omega arith) ws h)

@@ -1,12 +1,12 @@
 -- A reserve as the code leaves it: filled by a loop that copies, or zeroed. Assumes nothing.
 use Prim.Native.Nat.{ℕ, _-_, _≤_, _<_}
-use mathlib.Core.Path.{_≡_, refl, _∙_}
+use mathlib.Core.Path.{_≡_, _∙_}
 use mathlib.Core.List.{List, _++_}
 use native.Mathlib.Omega.{arith}
 use borrow.Author.Tests.{lt-leb}
-use lib.ListN.{length, drop, replicate, length-append, length-drop, length-replicate}
+use lib.ListN.{length, drop, replicate}
 use lib.Seq.{take-all}
-use Rattle.words.specs.Answers.{Answer, given, refused}
+use Rattle.words.specs.Answers.{given, refused}
 use Rattle.words.specs.Fill.{filled}
 use Rattle.words.specs.Tray.{tray}
 use Rattle.words.specs.TrayLaws.{tray-full}

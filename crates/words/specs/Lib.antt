@@ -7,3 +7,4 @@ pub mod Fill
 pub mod Tray
 pub mod TrayLaws
 pub mod Rows
+pub mod Lists

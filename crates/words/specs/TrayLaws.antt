@@ -1,14 +1,14 @@
 -- What a lent slice holds after a call, word by word: the sentences of Tray's header. Assumes nothing.
 use Prim.Native.Nat.{ℕ, _-_, _≤_, _<_}
-use mathlib.Core.Path.{_≡_, refl, _∙_, sym}
+use mathlib.Core.Path.{_≡_, refl, ap, _∙_, sym}
 use mathlib.Core.Bool.{Bool, true, false, cond}
-use mathlib.Core.List.{List, _++_, append-nil}
+use mathlib.Core.List.{List, _++_, append-nil, append-assoc}
 use native.Mathlib.Nat.{sub-self, add-sub-of-le}
 use native.Mathlib.Omega.{arith}
 use borrow.Author.Tests.{le-leb, lt-leb}
 use lib.Dec.{leb}
 use lib.ListN.{length, take, drop, replicate, getD, length-append, length-drop, length-replicate, getD-replicate, take-append-drop, List·getD-append}
-use lib.Seq.{length-take-le, getD-append-add, getD-drop}
+use lib.Seq.{length-take-le, take-at, getD-append-add, getD-drop}
 use Rattle.words.specs.Answers.{Answer, given, refused}
 use Rattle.words.specs.Tray.{front, tray}
 
@@ -72,3 +72,10 @@ module _ {A : Type 0} (written : A → List ℕ) (reserve : ℕ) (before : List 
     tray-past i h =
         let (l, e, is) = tray-is answer fits room in
         rw (is, behind l (drop reserve before) i (omega arith), e, getD-drop, add-sub-of-le)
+
+-- what an accepted call has written stands at the front of its tray
+pub tray-front : {A : Type 0} (written : A → List ℕ) (reserve n : ℕ) (a : A) (before : List ℕ) → length (written a) ≡ n
+    → take n (tray written reserve (given a) before) ≡ written a
+unfolding tray
+tray-front written reserve n a before e =
+    ap (take n) (append-assoc (written a) _ (drop reserve before)) ∙ take-at (written a) _ n e

@@ -1,20 +1,21 @@
--- `floats::choose::abs`: a value below zero is negated, a zero becomes +0, any other stays, a NaN among them. Assumes nothing.
-use lib.Ieee.{binary32, ofBits}
-use Rattle.ieee.specs.ChooseLaws.{abs-below, abs-zero, abs-other}
+-- `floats::choose::abs`: the greater of x and 0 - x is the value without its sign; x is of the format. Assumes nothing.
+use mathlib.Core.Path.{sym, subst}
+use lib.Dec.{T}
+use lib.Ieee.{binary32, ofBits, fits}
+use Rattle.ieee.specs.AbsLaws.{abs-greater}
 use Rattle.floats.proofs.choose.abs.Statement.{statement}
 use Rattle.floats.proofs.choose.abs.Tie as tie
 
+in-format : (c : tie.Start) → T (fits binary32 (c .args .x))
+in-format c = subst T (sym (c .good .0 .1)) tt
+
 returns : tie.Need-returns
 unfolding ofBits
-returns c = abs-below (c .before .args .x) (c .if1 .taken)
+returns c = rw (← abs-greater binary32 (c .before .args .x) (in-format (c .before)), c .if1 .taken)
 
 returns-2 : tie.Need-returns-2
 unfolding ofBits
-returns-2 c = abs-zero binary32 (c .before .before .args .x) (c .before .before .good .0 .1) (c .if2 .taken)
-
-returns-3 : tie.Need-returns-3
-unfolding ofBits
-returns-3 c = abs-other (c .before .before .args .x) (c .before .if1 .left) (c .if2 .left)
+returns-2 c = rw (← abs-greater binary32 (c .before .args .x) (in-format (c .before)), c .if1 .left)
 
 pub abs-spec : {M : Type 1} → statement M
-abs-spec = tie.close (tie.spec returns returns-2 returns-3)
+abs-spec = tie.close (tie.spec returns returns-2)

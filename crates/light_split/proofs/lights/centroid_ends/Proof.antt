@@ -5,8 +5,9 @@ use denote.Ref.{now}
 use native.Mathlib.Omega.{arith}
 use lib.Ieee.{ofBits, div, neg}
 use lib.ListN.{length, drop}
-use Rattle.light_split.specs.Lights.{folded, widen, noEnds, centroidEnds}
-use Rattle.light_split.proofs.LightLaws.{folded-next, folded-all}
+use Rattle.light_split.specs.Lights.{widen, noEnds, centroidEnds}
+use Rattle.words.specs.Lists.{folded}
+use Rattle.words.proofs.ListLaws.{folded-next, folded-all}
 use borrow.Author.Needs.{needs}
 use Rattle.light_split.proofs.lights.centroid_ends.Statement.{statement}
 use Rattle.light_split.proofs.lights.centroid_ends.Tie as tie

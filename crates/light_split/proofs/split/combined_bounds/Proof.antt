@@ -5,9 +5,9 @@ use native.Mathlib.Omega.{arith}
 use borrow.Author.Needs.{needs}
 use denote.Ref.{now}
 use lib.ListN.{length, drop}
-use Rattle.light_split.specs.Lights.{folded}
+use Rattle.words.specs.Lists.{folded}
 use Rattle.light_split.specs.Split.{combinedBounds}
-use Rattle.light_split.proofs.LightLaws.{folded-next, folded-all}
+use Rattle.words.proofs.ListLaws.{folded-next, folded-all}
 use Rattle.light_split.proofs.SplitLaws.{joinBox, combined-none, combined-first}
 use Rattle.light_split.proofs.split.combined_bounds.Statement.{statement}
 use Rattle.light_split.proofs.split.combined_bounds.Tie as tie

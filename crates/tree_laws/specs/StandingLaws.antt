@@ -11,10 +11,10 @@ use Rattle.light_rows.specs.Nodes.{interior, invalidIndex, nodePlace, nodeList}
 use Rattle.light_rows.specs.Tree.{Tree, leaf, fork, bounds, leaves, leafHandles, rightPlace, flatten, treeWords}
 use Rattle.light_rows.specs.TreeLaws.{leaves-pos, root, root-at, root-bounds-at, left-place, right-place}
 use Rattle.light_bvh.specs.Build.{LightBVH, nodesWritten}
 use Rattle.tree_laws.specs.AcceptedTree.{Parts, accepted-sound, labels-fit, places-fit, nodes-are}
 use Rattle.tree_laws.specs.PlaceLaws.{RecordsFit, sound-records, headEnd, LabelsFit, Reads, in-left, in-right}
-use Rattle.tree_laws.specs.StretchLaws.{all-parts}
-use Rattle.light_runs.specs.StandingTree.{Stands}
+use Rattle.words.proofs.ListLaws.{all-parts}
+use Rattle.tree_laws.specs.StandingTree.{Stands}
 
 -- the root and its record
 pub stands-root : (ws : List ℕ) (at p : ℕ) (t : Tree) → Stands ws at p t → Reads ws at (root at p t, bounds t)

@@ -1,19 +1,19 @@
 -- The words of a build that was accepted are below 2 ^ 32, so they come back from their bytes (`nodes-words`, `table-words-back`), which are 64 a node and 4 a
 -- row (`nodes-bytes`, `table-bytes`), so that as many nodes are counted in them as there are (`words-counted`, `nodes-counted`). Assumes nothing.
-use Prim.Native.Nat.{ℕ, zero, suc, _+_, _*_, _-_, _/_, _%_, _^_, _≤_, _<_}
+use Prim.Native.Nat.{ℕ, suc, _+_, _*_, _-_, _/_, _%_, _≤_}
 use mathlib.Core.Path.{_≡_, refl, _∙_}
 use mathlib.Core.Bool.{Bool, true, false, cond}
-use mathlib.Core.List.{List, [], _∷_, _++_}
+use mathlib.Core.List.{List, _++_}
 use mathlib.Core.Option.{Option, none, some}
 use native.Mathlib.Omega.{arith}
 use borrow.Author.Tests.{le-ltb, eq-eqb}
 use lib.Dec.{T}
 use lib.Ieee.{Float, binary32, toBits, fits}
 use lib.Ieee.Bits.{toBits-lt}
-use lib.ListN.{length, getD, set, replicate}
+use lib.ListN.{length, replicate}
 use Rattle.words.specs.Answers.{given}
 use Rattle.words.specs.LittleEndian.{wordsOf, bytesOf}
-use Rattle.words.proofs.LittleEndianLaws.{length-bytesOf, wordsOf-bytesOf}
+use Rattle.words.proofs.LittleEndianLaws.{length-bytesOf, IsWord, words-back}
 use Rattle.light_rows.specs.RecordLaws.{VecFits, RecordFits}
 use Rattle.light_rows.specs.RecordWords.{vecWords, restWords, recordList}
 use Rattle.light_bounds.specs.declared.light_bounds.LightBounds.{LightBounds}
@@ -23,33 +23,13 @@ use Rattle.light_rows.specs.Nodes.{nodeWords, nodeBytes, headWord, rightChild, 
 use Rattle.light_rows.specs.Tree.{Tree, leaf, fork, leaves, rightPlace, flatten}
 use Rattle.light_rows.specs.TreeLaws.{leaves-pos}
 use Rattle.light_bvh.specs.Build.{LightBVH, nodesWritten, tabled, tableWritten}
-use Rattle.light_bvh.proofs.RowsLaws.{All, all-append, bounded-few}
+use Rattle.light_bvh.proofs.RowsLaws.{bounded-few}
+use Rattle.words.proofs.ListLaws.{All, all-append, all-set, all-replicate}
 use Rattle.tree_laws.specs.AcceptedTree.{Parts, accepted-sound, nodes-are, table-is, places-fit}
 use Rattle.tree_laws.specs.PlaceLaws.{RecordsFit, sound-records, headEnd}
-use Rattle.light_runs.specs.NodeLaws.{node-words, table-words}
+use Rattle.tree_laws.specs.NodeLaws.{node-words, table-words}
 
 -- ---- words
-
-abbrev pub IsWord : ℕ → Type 0
-IsWord w = w < 2 ^ 32
-
-module _ (P : ℕ → Type 0) where
-  all-at : P 0 → (xs : List ℕ) → All P xs → (i : ℕ) → P (getD xs i 0)
-  all-at zero-is [] h i = zero-is
-  all-at zero-is (x ∷ xs) h zero = h .0
-  all-at zero-is (x ∷ xs) h (suc i) = all-at zero-is xs (h .1) i
-
-  all-set : (xs : List ℕ) (i x : ℕ) → P x → All P xs → All P (set xs i x)
-  all-set [] i x is h = h
-  all-set (y ∷ ys) zero x is h = (is, h .1)
-  all-set (y ∷ ys) (suc i) x is h = (h .0, all-set ys i x is (h .1))
-
-  pub all-replicate : (n x : ℕ) → P x → All P (replicate n x)
-  all-replicate zero x is = tt
-  all-replicate (suc n) x is = (is, all-replicate n x is)
-
-pub words-back : (ws : List ℕ) → All IsWord ws → wordsOf (bytesOf ws) ≡ ws
-words-back ws h = wordsOf-bytesOf ws (all-at IsWord (omega arith) ws h)
 
 -- sixteen words a node
 pub words-counted : (ws : List ℕ) (n : ℕ) → length ws ≡ nodeWords * n → n ≤ maxNodes → nodeCount (bytesOf ws) ≡ given n

@@ -19,15 +19,16 @@ use Rattle.light_rows.specs.Nodes.{LightBVHNode, leaf as leafNode, interior, in
 use Rattle.light_rows.specs.Tree.{Tree, leaf, fork, bounds, leaves, leafHandles, rightPlace}
 use Rattle.light_rows.specs.TreeLaws.{leaves-pos, nodeAt-past}
 use Rattle.light_bvh.specs.Build.{LightBVH, isPowered, boundedHandles, nodesWritten, tableWritten}
 use Rattle.tree_laws.specs.AcceptedTree.{Parts, accepted-none, accepted-nothing, accepted-sound, accepted-leaves, accepted-words, accepted-count, accepted-read}
 use Rattle.tree_laws.specs.AcceptedTree.{table-is, accepted-table, accepted-unpowered}
 use Rattle.tree_laws.specs.LeafLaws.{bounded-count}
-use Rattle.tree_laws.specs.PlaceLaws.{nodeIn, nodeIn-fork, nodeIn-leaf, placeOf as placeIn, placeOf-none, length-tabled, table-leaf}
+use Rattle.tree_laws.specs.PlaceLaws.{nodeIn, nodeIn-fork, nodeIn-leaf, placeIn, placeIn-none, length-tabled, table-leaf}
 use Rattle.tree_laws.specs.RecordsOfTree.{Sound}
-use Rattle.tree_laws.specs.StretchLaws.{count, count-append}
-use Rattle.light_runs.specs.DemandWords.{placeOf, poweredBelow, reached, placesFrom, HoldsChildren}
-use Rattle.light_runs.specs.StandingLaws.{stands-root, accepted-stands}
-use Rattle.light_runs.specs.StandingTree.{Stands}
+use Rattle.words.proofs.OrderedLists.{often-append, often-none}
+use Rattle.words.specs.Lists.{often}
+use Rattle.tree_laws.specs.TreeWords.{placeOf, poweredBelow, reached, placesFrom, HoldsChildren}
+use Rattle.tree_laws.specs.StandingLaws.{stands-root, accepted-stands}
+use Rattle.tree_laws.specs.StandingTree.{Stands}
 
 -- ---- the powered lamps
 
@@ -91,27 +92,27 @@ not-leaf l r p h q e = let z : _≡_ {A = ℕ} 0 1 = cc in omega arith
 
 -- its label stands among the leaves, and where it stands once, its place is the label's
 module _ (h q : ℕ) (c : LightBounds) where
-  leaf-counted : (at p : ℕ) (t : Tree) (i : ℕ) → nodeIn at p t i ≡ some (leafNode h q, c) → 1 ≤ count h (leafHandles t)
-  unfolding leafHandles count
+  leaf-counted : (at p : ℕ) (t : Tree) (i : ℕ) → nodeIn at p t i ≡ some (leafNode h q, c) → 1 ≤ often h (leafHandles t)
+  unfolding leafHandles often
   leaf-counted at p (leaf k b) i e =
       let is = same-node (leafNode k p, b) (leafNode h q, c) (nodeIn-leaf at p k b i (leafNode h q, c) e .1) in
       let same : h ≡ k = cc in
       rw (eq-eqb h k same) (omega arith)
   leaf-counted at p (fork b l r) i e =
-      let sum = count-append h (leafHandles l) (leafHandles r) in
+      let sum = often-append h (leafHandles l) (leafHandles r) in
       ⊎-elim (λ here. absurd (not-leaf (at + 1) (rightPlace at l) p h q (same-node (interior (at + 1) (rightPlace at l) p, b) (leafNode h q, c) (here .1))))
       (λ under. ⊎-elim (λ f. omega (arith, leaf-counted (at + 1) at l i f)) (λ f. omega (arith, leaf-counted (rightPlace at l) at r i f)) under)
       (nodeIn-fork at p b l r i (leafNode h q, c) e)
 
-  leaf-place : (at p : ℕ) (t : Tree) (i : ℕ) → count h (leafHandles t) ≡ 1 → nodeIn at p t i ≡ some (leafNode h q, c) → placeIn at t h ≡ some i
-  unfolding placeIn leafHandles count
+  leaf-place : (at p : ℕ) (t : Tree) (i : ℕ) → often h (leafHandles t) ≡ 1 → nodeIn at p t i ≡ some (leafNode h q, c) → placeIn at t h ≡ some i
+  unfolding placeIn leafHandles often
   leaf-place at p (leaf k b) i one e =
       let (here, found) = nodeIn-leaf at p k b i (leafNode h q, c) e in
       let is = same-node (leafNode k p, b) (leafNode h q, c) found in
       let same : h ≡ k = cc in
       rw (eq-eqb h k same, here)
   leaf-place at p (fork b l r) i one e =
-      let sum = count-append h (leafHandles l) (leafHandles r) in
+      let sum = often-append h (leafHandles l) (leafHandles r) in
       ⊎-elim (λ here. absurd (not-leaf (at + 1) (rightPlace at l) p h q (same-node (interior (at + 1) (rightPlace at l) p, b) (leafNode h q, c) (here .1))))
       (λ under. ⊎-elim
       (λ f.
@@ -120,7 +121,7 @@ module _ (h q : ℕ) (c : LightBounds) where
       rw place)
       (λ f.
       let some-r = leaf-counted (rightPlace at l) at r i f in
-      rw (placeOf-none (suc at) l h (omega arith)) (leaf-place (rightPlace at l) at r i (omega arith) f))
+      rw (placeIn-none (suc at) l h (omega arith)) (leaf-place (rightPlace at l) at r i (omega arith) f))
       under)
       (nodeIn-fork at p b l r i (leafNode h q, c) e)
 
@@ -151,11 +152,6 @@ fork-holds ws at p (fork b l r) s sound i j k q c e =
     (nodeIn-fork at p b l r i (interior j k q, c) e)
 
 -- ---- of a build that was accepted
-
-count-none : (x : ℕ) (xs : List ℕ) → length xs ≡ 0 → count x xs ≡ 0
-unfolding count
-count-none x [] e = refl
-count-none x (y ∷ ys) e = absurd (omega arith)
 
 -- a node that is read is within the words
 node-within : (ws : List ℕ) (i : ℕ) (n : LightBVHNode) → nodeAt ws i ≡ given n → i < length ws / nodeWords
@@ -192,8 +188,8 @@ module _ (ws : List ℕ) (b : LightBVH) (parts : Parts ws b) where
   -- without a tree no lamp has power
   none-powered : b .tree ≡ none → (h : ℕ) → h < b .rows → T (isPowered ws h) → ⊥
   none-powered is h l power =
-      let none-counted : count h (boundedHandles ws (b .rows)) ≡ 0 =
-      count-none h (boundedHandles ws (b .rows)) (omega (arith, parts .powered, accepted-none ws b parts is)) in
+      let none-counted : often h (boundedHandles ws (b .rows)) ≡ 0 =
+      often-none h (boundedHandles ws (b .rows)) (omega (arith, parts .powered, accepted-none ws b parts is)) in
       go (isPowered ws h) power (rw (bounded-count ws (b .rows) h, lt-ltb h (b .rows) l) at none-counted)
     where
       go : (c : Bool) → T c → _≡_ {A = ℕ} (cond (true && c) 1 0) 0 → ⊥
@@ -252,7 +248,7 @@ module _ (ws : List ℕ) (b : LightBVH) (parts : Parts ws b) where
           let some-h = leaf-counted h p c 0 invalidIndex t i here in
           let is-count = accepted-count ws b t parts is h in
           let (l, power) = counted h (ltb h (b .rows)) (isPowered ws h) refl refl (rw is-count at some-h) in
-          let one : count h (leafHandles t) ≡ 1 = omega (arith, is-count, at-most (ltb h (b .rows) && isPowered ws h)) in
+          let one : often h (leafHandles t) ≡ 1 = omega (arith, is-count, at-most (ltb h (b .rows) && isPowered ws h)) in
           let (j, place, entry) = table-leaf t (b .rows) h l one in
           let there = leaf-place h p c 0 invalidIndex t i one here in
           let found : j ≡ i = Option·some-injective j i (sym place ∙ there) in

@@ -4,7 +4,7 @@ use Prim.Native.Nat.{ℕ, suc, _+_, _*_, _-_, _/_, _^_, _≤_, _<_, min, zero-le
 use mathlib.Core.Path.{_≡_, refl, sym, _∙_, ap, subst}
 use mathlib.Core.Bool.{Bool, true, false, cond}
 use mathlib.Core.Logic.{_↔_, _⊎_, inl, inr}
-use native.Mathlib.Nat.{le-of-mul-le-mul-right, lt-of-mul-lt-mul-right, mul-le-mul-right, mul-lt-mul-of-pos-right, mul-pos, div-add-mod', mod-lt}
+use native.Mathlib.Nat.{le-trans, le-of-eq, le-of-mul-le-mul-right, lt-of-mul-lt-mul-right, mul-le-mul-right, mul-lt-mul-of-pos-right, mul-pos, div-add-mod', mod-lt}
 use native.Mathlib.Nat.{eq-of-mul-eq-mul-right, lt-of-lt-of-le, lt-of-not-le}
 use native.Mathlib.Omega.{arith}
 use lib.Dec.{T, lit<, lit≤, ltb→lt, lt→ltb}
@@ -14,17 +14,42 @@ use lib.Ieee.{Float, nan, inf, fin, Format, binary32, up, down, add, lt, le, eq,
 use lib.Ieee.Back.{round-whole}
 use lib.Ieee.Exact.{HasValue, round-exact}
 use lib.Ieee.Fits.{down-pos}
 use Rattle.ieee.specs.OrderLaws.{le-fin}
 use Rattle.ieee.specs.Single.{_⊕_, half}
 use Rattle.ieee.specs.Whole.{outward, nextWhole, negative, floor, ceil, halfUp, roundAway}
 use Rattle.ieee.specs.WholeLaws.{toUnsigned-units}
-use Rattle.ieee.specs.WholeNumbers.{outward-over, halfUp-nearest, nextWhole-value, roundAway-value}
-use Rattle.packed_bvh.specs.QuantizeLaws.{cast-negative}
+use Rattle.ieee.specs.WholeNumbers.{outward-small, outward-over, halfUp-nearest, nextWhole-value, roundAway-value}
 
 -- ---- a whole number cast
 
 whole-cast : (w : ℕ) (v : Float) (q : ℕ) → HasValue v false q 1 → toUnsigned w v ≡ min q (2 ^ w - 1)
 whole-cast w v q h = toUnsigned-units w v q 1 (lit< tt) h ∙ omega arith
+
+pub cast-negative : (w : ℕ) (v : Float) (n : ℕ) → HasValue v true n 1 → toUnsigned w v ≡ 0
+unfolding toUnsigned
+cast-negative w nan n h = refl
+cast-negative w (inf t) n h = absurd h
+cast-negative w (fin t m e) n h = rw (h .0)
+
+-- a value that is a NaN or at most n
+abbrev pub NanOrAtMost : ℕ → Float → Type 0
+NanOrAtMost n x = (x ≡ nan) ⊎ T (le x (fin false n (pos 0)))
+
+-- the cast of the whole number next to it is at most n
+pub next-small : (w n : ℕ) (away : Bool) (x : Float) → T (fits binary32 x) → NanOrAtMost n x → toUnsigned w (nextWhole binary32 away x) ≤ n
+unfolding nextWhole toUnsigned
+next-small w n away x F (inl e) = rw e zero-le
+next-small w n away nan F (inr h) = zero-le
+next-small w n away (inf true) F (inr h) = zero-le
+next-small w n away (inf false) F (inr h) = absurd (unfold le lt eq in h)
+next-small w n away (fin true m e) F (inr h) =
+    le-trans (le-of-eq (cast-negative w (nextWhole binary32 away (fin true m e)) (outward away m e) (nextWhole-value binary32 true m e F away))) zero-le
+next-small w n away (fin false m e) F (inr h) =
+    let q = outward away m e in
+    let l = le-fin false m e false n (pos 0) .0 h in
+    let small : q ≤ n = outward-small away m e n (omega arith) in
+    let is = toUnsigned-units w (nextWhole binary32 away (fin false m e)) q 1 (lit< tt) (nextWhole-value binary32 false m e F away) in
+    le-trans (le-of-eq is) (omega arith)
 
 pub cut-floor : (f : Format) (w : ℕ) (x : Float) → T (fits f x) → toUnsigned w (floor f x) ≡ toUnsigned w x
 unfolding floor nextWhole toUnsigned
