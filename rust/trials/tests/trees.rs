@@ -337,25 +337,4 @@ trials::differential! {
         let unmet = tally.labels.iter().filter(|(label, _)| label.starts_with("never") || label.starts_with("union"));
         unmet.for_each(|(label, count)| assert_eq!(*count, 0, "{label}"));
     }
-
-    /// The walk that the benchmark takes its nodes from is the reference's.
-    fn walk_of_the_benchmark() {
-        use trials::oracle::reference::native::light_bvh::bvh_light_sampler_sample;
-        use trials::oracle::reference::native_tree;
-        use trials::inputs::rooms::walk;
-
-        let mut random = Random::new(1);
-        for lamps in [1, 2, 12, 512, 4096] {
-            let room = Room::new(&mut random, lamps);
-            let mut block = vec![0; 1 + BLOCK_RECORD * lamps];
-            build_light_bounds(&room.list, &mut block).unwrap();
-            let tree = native_tree(&block).unwrap();
-            for _ in 0..500 {
-                let (query, u) = (room.query(&mut random), random.within(1.0).abs());
-                let [p, n] = [0, 3].map(|from| [0, 1, 2].map(|i| f32::from_bits(query[from + i])));
-                let drawn = bvh_light_sampler_sample(&tree, p, n, u).unwrap();
-                assert_eq!(walk(&tree, &query, u).1, drawn.map(|(handle, _)| handle));
-            }
-        }
-    }
 }

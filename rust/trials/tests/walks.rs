@@ -321,4 +321,51 @@ trials::differential! {
         draws.check(&[0, 5, 6, 7, 8, 12], &["oracle: the"]);
         chances.check(&[0, 5, 6, 7, 8, 12], &["oracle: the"]);
     }
+
+    /// What the walks tell: a draw enters the nodes from the root to its lamp's leaf, and weighs at each but the last; the chance of that
+    /// lamp enters and weighs the same, leaf first.
+    fn told() {
+        use trials::inputs::random::Random;
+        use trials::oracle::walks::Decoded;
+
+        let mut random = Random::new(1);
+        let (mut told, mut forks) = (0, 0);
+        while told < 20_000 {
+            let words = random.grown(build_light_bvh, 64);
+            let (decoded, query) = (Decoded::new(&words.tree()), random.walk_query(&words));
+            for u in [0.0, 0.25, 0.5, 0.75, 1.0] {
+                let drawn = decoded.descent(&query, u);
+                let Ok(Some((handle, _))) = drawn.ended else { continue };
+                let named = decoded.ascent(&query, handle);
+                let of_forks: Vec<usize> = drawn.forks.iter().map(|fork| fork.place).collect();
+                assert_eq!((drawn.places[0], drawn.places.last()), (0, Some(&(words.table[handle as usize] as usize))));
+                assert_eq!(of_forks, drawn.places[..drawn.places.len() - 1]);
+                assert!(drawn.places.iter().rev().eq(&named.places) && of_forks.iter().rev().eq(named.forks.iter().map(|fork| &fork.place)));
+                (told, forks) = (told + 1, forks + of_forks.len());
+            }
+        }
+        println!("told: {told} lamps drawn and named, {forks} forks passed");
+    }
+
+    /// The draw's loop over Rust's own library functions, which the benchmark takes its nodes from, is the reference's.
+    fn own_loop() {
+        use trials::inputs::random::Random;
+        use trials::inputs::records::vectors;
+        use trials::inputs::rooms::Room;
+        use trials::oracle::loops::Own;
+        use trials::oracle::reference::native::light_bvh::bvh_light_sampler_sample;
+        use trials::oracle::reference::{build_light_bounds, native_tree};
+
+        let mut random = Random::new(1);
+        for lamps in [1, 2, 12, 512, 4096] {
+            let room = Room::new(&mut random, lamps);
+            let tree = native_tree(&room.block(build_light_bounds)).unwrap();
+            let own = Own::new(&tree);
+            for _ in 0..500 {
+                let (query, u) = (room.query(&mut random), random.within(1.0).abs());
+                let [p, n] = vectors(&query);
+                assert_eq!(own.descent(&query, u).ended, bvh_light_sampler_sample(&tree, p, n, u));
+            }
+        }
+    }
 }

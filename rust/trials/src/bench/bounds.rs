@@ -4,7 +4,7 @@ use crate::offices::Office;
 use crate::timing::{INPUTS, SAMPLES, calls, row};
 use trials::inputs::random::Random;
 use trials::inputs::records::{Query, Record, vectors};
-use trials::inputs::rooms::walk;
+use trials::oracle::loops::Own;
 use trials::oracle::reference::native::light_bounds::LightBounds;
 use trials::oracle::reference::{native_of_words, native_to_words};
 use trials::proved;
@@ -95,11 +95,11 @@ impl Mix {
 impl Office {
     /// The nodes that draws in the room weigh, one draw after the other.
     pub fn walks(&self, random: &mut Random) -> Mix {
-        let mut weighed = Vec::new();
+        let (own, mut weighed) = (Own::new(&self.tree), Vec::new());
         while weighed.len() < INPUTS {
             let query = self.room.query(random);
-            let (places, _) = walk(&self.tree, &query, random.within(1.0).abs());
-            weighed.extend(places.into_iter().map(|place| (place, query)));
+            let forks = own.descent(&query, random.within(1.0).abs()).forks;
+            weighed.extend(forks.iter().flat_map(|fork| fork.children).map(|place| (place, query)));
         }
         self.mix("as draws weigh them, one draw after the other", weighed)
     }

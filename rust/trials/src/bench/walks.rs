@@ -4,8 +4,8 @@ use crate::offices::{LAMPS, Office};
 use crate::timing::{INPUTS, SAMPLES, pass};
 use trials::inputs::random::Random;
 use trials::inputs::records::{Query, vectors};
-use trials::inputs::rooms::walk;
 use trials::inputs::walks::{NONE, bytes};
+use trials::oracle::loops::Own;
 use trials::oracle::reference::native::light_bvh::{LightBVH, bvh_light_sampler_pmf, bvh_light_sampler_sample};
 use trials::proved::{sampler_pmf, sampler_sample};
 
@@ -52,7 +52,8 @@ impl Place {
         let us: Vec<f32> = (0..INPUTS).map(|_| random.within(1.0).abs()).collect();
         let handles: Vec<u32> = (0..INPUTS).map(|_| random.below(lamps as u64) as u32).collect();
         let points: Vec<[[f32; 3]; 2]> = queries.iter().map(vectors).collect();
-        let passed: usize = queries.iter().zip(&us).map(|(query, u)| walk(&self.office.tree, query, *u).0.len() / 2).sum();
+        let own = Own::new(&self.office.tree);
+        let passed: usize = queries.iter().zip(&us).map(|(query, u)| own.descent(query, *u).forks.len()).sum();
         let above: usize = handles.iter().map(|handle| self.above(*handle)).sum();
         let label = |walk: &str, forks: usize| {
             let normals = if normals { "with" } else { "without" };

@@ -2,11 +2,7 @@
 
 use crate::inputs::lists::{BLOCK_RECORD, Kind, head, list_of};
 use crate::inputs::random::Random;
-#[cfg(reference)]
-use crate::inputs::records::vectors;
 use crate::inputs::records::{Query, Vector, bits, query_at};
-#[cfg(reference)]
-use crate::oracle::reference::native::light_bvh::LightBVH;
 use std::f32::consts::PI;
 
 /// One lamp to a square of this side.
@@ -108,25 +104,4 @@ impl Random {
             _ => panel([x, y, CEILING], [0.6, 0.6], 3600.0, dimmed, false),
         }
     }
-}
-
-/// The nodes that a draw weighs, by place, and the lamp that it ends at: the reference's steps, with Rust's own library functions.
-#[cfg(reference)]
-pub fn walk(tree: &LightBVH, query: &Query, u: f32) -> (Vec<usize>, Option<u32>) {
-    let [p, n] = vectors(query);
-    let most = 1.0 - f32::EPSILON;
-    let (mut at, mut u, mut weighed) = (0, u.min(most), Vec::new());
-    while let Some(right) = tree.nodes[at].right_child() {
-        let children = [at + 1, right as usize];
-        weighed.extend(children);
-        let [left, right] = children.map(|child| tree.nodes[child].bounds().importance(p, n).unwrap());
-        let total = left + right;
-        if total <= 0.0 {
-            return (weighed, None);
-        }
-        let share = left / total;
-        let (child, rest) = if u < share { (0, u / share) } else { (1, (u - share) / (1.0 - share)) };
-        (at, u) = (children[child], rest.min(most));
-    }
-    (weighed, tree.nodes[at].light_handle())
 }

@@ -2,6 +2,8 @@
 //! of the packing is document 01's own. Without the reference only the first two are there.
 
 #[cfg(reference)]
+pub mod loops;
+#[cfg(reference)]
 pub mod packing;
 #[cfg(reference)]
 pub mod reference;
