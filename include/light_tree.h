@@ -107,6 +107,10 @@ enum light_refusals {
 #define LIGHT_ANSWER_WORDS 7
 #define LIGHT_BIN_WORDS 3
 
+/* The words of a packed tree's header and of a packed node: HEADER_WORDS and NODE_WORDS of packed_bvh. */
+#define LIGHT_PACKED_HEADER_WORDS 8
+#define LIGHT_PACKED_NODE_WORDS 8
+
 /*
  * For the sizes of arrays, where a constant is needed: macros, some of which evaluate their argument
  * twice. Elsewhere call the functions below, whose names are the same in small letters.
@@ -116,7 +120,8 @@ enum light_refusals {
 #define LIGHT_NODES_RESERVE(m) ((m) == 0 ? (size_t)0 : LIGHT_NODE_WORDS * (2 * (size_t)(m) - 1))
 #define LIGHT_TABLE_RESERVE(m) ((size_t)(m))
 #define LIGHT_WORK_RESERVE(m) (2 * (size_t)(m))
-#define LIGHT_PACKED_WORDS(n) ((n) == 0 ? (size_t)0 : 8 + 8 * (size_t)(n))
+#define LIGHT_PACKED_WORDS(n) \
+    ((n) == 0 ? (size_t)0 : LIGHT_PACKED_HEADER_WORDS + LIGHT_PACKED_NODE_WORDS * (size_t)(n))
 #define LIGHT_PACKED_BYTES(n) (4 * LIGHT_PACKED_WORDS(n))
 #define LIGHT_BINS_RESERVE(m) (LIGHT_BIN_WORDS * (size_t)(m))
 #define LIGHT_ALIAS_WORK_RESERVE(m) (4 * (size_t)(m))

@@ -8,8 +8,8 @@ use native.Mathlib.Numerals.{add-one}
 use native.Mathlib.Omega.{arith}
 use borrow.Author.Tests.{lt-ltb, eq-eqb, ne-eqb, ltb-false}
 use lib.Dec.{ltb, leb, eqb}
-use lib.ListN.{length, getD, drop, set, length-append}
-use lib.Seq.{sets, sets-eq, length-sets, drop-set-lt}
+use lib.ListN.{length, getD, drop, length-append}
+use lib.Seq.{sets, sets-eq, length-sets}
 use Rattle.words.specs.Answers.{Answer, given, refused, _then_}
 use Rattle.words.specs.Fill.{filled}
 use Rattle.words.specs.Heads.{kindOf}
@@ -17,10 +17,10 @@ use Rattle.words.specs.LittleEndian.{bytesOf, bytesOfWord, setWord, wordsOf}
 use Rattle.words.specs.Tray.{tray}
 use Rattle.words.specs.TrayLaws.{tray-full, tray-early}
 use Rattle.words.proofs.AnswerLaws.{Early, Late, then-given, only-given, only-refused, only-cond, only-then, only-number, not-both, given-injective}
-use Rattle.words.proofs.LittleEndianLaws.{length-bytesOf}
+use Rattle.words.proofs.LittleEndianLaws.{length-bytesOf, bytesOf-append}
 use Rattle.words.proofs.FillLaws.{filled-within}
 use Rattle.words.proofs.Reserves.{tray-zeroed}
-use Rattle.words.proofs.Stores.{sets-append}
+use Rattle.words.proofs.Stores.{sets-append, drop-sets}
 use Rattle.light_bounds.specs.Bounds.{boxCheck}
 use Rattle.light_bounds.specs.LightBounds.{validate}
 use Rattle.light_rows.specs.RecordWords.{recordAt, recordWords, sidePlace}
@@ -33,16 +33,11 @@ use Rattle.light_bounds.proofs.LateLaws.{late-validate, late-box}
 use Rattle.light_rows.specs.Nodes.{LightBVHNode, leaf, interior, invalidIndex, parent, nodePlace, boundsPlace, nodeAt, nodeOf, boundsAt, nodeCount}
 use Rattle.light_rows.specs.Nodes.{nodeBytes, maxNodes}
 use Rattle.packed_bvh.specs.Packed.{indexMax, payload, payloadWord, compactWords, payloadCheck, parentCheck, leftCheck, packNode, packNodes, header}
-use Rattle.packed_bvh.specs.Packed.{packedReserve}
+use Rattle.packed_bvh.specs.Packed.{headerWords, packedNodeWords, packedPlace, packedReserve}
 use Rattle.packed_bvh.specs.Packed.{packCheck, agreed, packedTree, packLightBvh, packedBytes, bytesReserve, wordsPacked}
 use Rattle.packed_bvh.specs.PackedParts.{placing, packBounds, packPlaced}
 
 -- ---- words behind words
-
-pub bytesOf-append : (xs ys : List ℕ) → bytesOf (xs ++ ys) ≡ bytesOf xs ++ bytesOf ys
-unfolding bytesOf
-bytesOf-append [] ys = refl
-bytesOf-append (x ∷ xs) ys = ap (λ (z : List ℕ). bytesOfWord x ++ z) (bytesOf-append xs ys)
 
 -- l holds the words ws from place p on, and is d elsewhere
 pub record Words (d : List ℕ) (p : ℕ) (ws l : List ℕ) : Type 0 where
@@ -65,12 +60,6 @@ words-one {d} {p} {ws} {l} {m} {v} {w} {q} h e is place room =
     ∙ sets-append d (4 * p) (bytesOf ws) (bytesOf (w ∷ []))
     ∙ ap (λ (k : ℕ). sets (sets d (4 * p) (bytesOf ws)) k (bytesOfWord w)) at in
     record { is = e ∙ ap (setWord l q) is ∙ put ∙ ap (λ (z : List ℕ). sets z (4 * q) (bytesOfWord w)) (h .is) ∙ sym all }
-
--- what lies behind stores stays
-pub drop-sets : (n : ℕ) (vs l : List ℕ) (i : ℕ) → i + length vs ≤ n → drop n (sets l i vs) ≡ drop n l
-drop-sets n [] l i h = refl
-drop-sets n (v ∷ vs) l i h =
-    drop-sets n vs (set l i v) (suc i) (omega arith) ∙ drop-set-lt n l i v (omega arith)
 
 -- ---- a node
 
@@ -168,7 +157,7 @@ count-known bytes n e = go (ltb maxNodes (length bytes / nodeBytes)) refl (eqb (
         let is : length bytes / nodeBytes ≡ n = given-injective g in
         (rw is at (ltb-false maxNodes (length bytes / nodeBytes) h), is)
 
-pub reserve-some : (n : ℕ) → 0 < n → packedReserve n ≡ 8 + 8 * n
+pub reserve-some : (n : ℕ) → 0 < n → packedReserve n ≡ packedPlace n
 reserve-some zero h = absurd (omega arith)
 reserve-some (suc n) h = refl
 
@@ -183,26 +172,26 @@ module _ (all : Bounds3) (ws : List ℕ) (n : ℕ) where
   pub record Packing (i : ℕ) (d l : List ℕ) : Type 0 where
     pub nodes : List ℕ
     pub is : packNodes n all ws i ≡ given nodes
-    pub size : length nodes ≡ 8 * i
-    pub words : l ≡ sets d (4 * 8) (bytesOf nodes)
+    pub size : length nodes ≡ packedNodeWords * i
+    pub words : l ≡ sets d (4 * headerWords) (bytesOf nodes)
 
   pub packing-none : (d : List ℕ) → Packing 0 d d
   unfolding packNodes
-  packing-none d = record { nodes = []; is = refl; size = refl; words = words-none d 8 .is }
+  packing-none d = record { nodes = []; is = refl; size = refl; words = words-none d headerWords .is }
 
-  pub packing-one : {i : ℕ} {d l m : List ℕ} (row : List ℕ) → Packing i d l → packNode n all ws i ≡ given row → length row ≡ 8
-      → m ≡ sets l (4 * (8 + 8 * i)) (bytesOf row) → Packing (i + 1) d m
+  pub packing-one : {i : ℕ} {d l m : List ℕ} (row : List ℕ) → Packing i d l → packNode n all ws i ≡ given row → length row ≡ packedNodeWords
+      → m ≡ sets l (4 * packedPlace i) (bytesOf row) → Packing (i + 1) d m
   unfolding packNodes _then_
   packing-one {i} {d} {l} {m} row p e eight put =
-      let at : 4 * 8 + length (bytesOf (p .nodes)) ≡ 4 * (8 + 8 * i) = omega (arith, length-bytesOf (p .nodes), p .size) in
+      let at : 4 * headerWords + length (bytesOf (p .nodes)) ≡ 4 * packedPlace i = omega (arith, length-bytesOf (p .nodes), p .size) in
       record {
         nodes = p .nodes ++ row;
         is = rw (add-one i, p .is, e);
         size = length-append (p .nodes) row ∙ omega (arith, p .size, eight);
         words =
-            put ∙ ap (λ (z : List ℕ). sets z (4 * (8 + 8 * i)) (bytesOf row)) (p .words)
-            ∙ ap (λ (k : ℕ). sets (sets d (4 * 8) (bytesOf (p .nodes))) k (bytesOf row)) (sym at)
-            ∙ sym (ap (sets d (4 * 8)) (bytesOf-append (p .nodes) row) ∙ sets-append d (4 * 8) (bytesOf (p .nodes)) (bytesOf row));
+            put ∙ ap (λ (z : List ℕ). sets z (4 * packedPlace i) (bytesOf row)) (p .words)
+            ∙ ap (λ (k : ℕ). sets (sets d (4 * headerWords) (bytesOf (p .nodes))) k (bytesOf row)) (sym at)
+            ∙ sym (ap (sets d (4 * headerWords)) (bytesOf-append (p .nodes) row) ∙ sets-append d (4 * headerWords) (bytesOf (p .nodes)) (bytesOf row));
       }
 
   stays : (j m k : ℕ) → packNodes n all ws m ≡ refused k → packNodes n all ws (j + m) ≡ refused k
@@ -226,11 +215,11 @@ module _ (all : Bounds3) (ws : List ℕ) (n : ℕ) where
   packing-all {i} p e = let whole : packNodes n all ws n ≡ given (p .nodes) = subst (λ (k : ℕ). packNodes n all ws k ≡ given (p .nodes)) e (p .is) in rw whole
 
   pub packing-length : {i : ℕ} {d l : List ℕ} → Packing i d l → length l ≡ length d
-  packing-length {i} {d} p = ap length (p .words) ∙ length-sets d (4 * 8) (bytesOf (p .nodes))
+  packing-length {i} {d} p = ap length (p .words) ∙ length-sets d (4 * headerWords) (bytesOf (p .nodes))
 
   module _ (before : List ℕ) {i : ℕ} {d l : List ℕ} (some-node : 0 < n) (room : 4 * packedReserve n ≤ length before)
       (head : d ≡ sets before 0 (bytesOf (header all))) (p : Packing i d l) where
-    reserve : packedReserve n ≡ 8 + 8 * n
+    reserve : packedReserve n ≡ packedPlace n
     reserve = reserve-some n some-node
 
     size : length l ≡ length before
@@ -241,11 +230,11 @@ module _ (all : Bounds3) (ws : List ℕ) (n : ℕ) where
         → (refused k ≡ wordsPacked (packedTree ws n (some all)))
         × (m ≡ tray packedBytes (4 * packedReserve n) (packedTree ws n (some all)) before)
     outcome-refused {m} k h e zeroed =
-        let nodes-size : length (bytesOf (p .nodes)) ≡ 4 * (8 * i) = rw (← p .size) (length-bytesOf (p .nodes)) in
-        let head-size : length (bytesOf (header all)) ≡ 32 = length-bytesOf (header all) in
+        let nodes-size : length (bytesOf (p .nodes)) ≡ 4 * (packedNodeWords * i) = rw (← p .size) (length-bytesOf (p .nodes)) in
+        let head-size : length (bytesOf (header all)) ≡ 4 * headerWords = length-bytesOf (header all) in
         let behind : drop (4 * packedReserve n) l ≡ drop (4 * packedReserve n) before =
         ap (drop (4 * packedReserve n)) (p .words)
-        ∙ drop-sets (4 * packedReserve n) (bytesOf (p .nodes)) d (4 * 8) (omega (arith, nodes-size, reserve))
+        ∙ drop-sets (4 * packedReserve n) (bytesOf (p .nodes)) d (4 * headerWords) (omega (arith, nodes-size, reserve))
         ∙ ap (drop (4 * packedReserve n)) head
         ∙ drop-sets (4 * packedReserve n) (bytesOf (header all)) before 0 (omega (arith, head-size, reserve)) in
         rw (packing-refused k p h e) (
@@ -260,7 +249,7 @@ module _ (all : Bounds3) (ws : List ℕ) (n : ℕ) where
     outcome-given e =
         let count : length (header all ++ p .nodes) ≡ packedReserve n = length-append (header all) (p .nodes) ∙ omega (arith, p .size, reserve) in
         let bytes : length (bytesOf (header all ++ p .nodes)) ≡ 4 * packedReserve n = rw (← count) (length-bytesOf (header all ++ p .nodes)) in
-        let head-size : 0 + length (bytesOf (header all)) ≡ 32 = omega (arith, length-bytesOf (header all)) in
+        let head-size : 0 + length (bytesOf (header all)) ≡ 4 * headerWords = omega (arith, length-bytesOf (header all)) in
         let at : 0 + length (bytesOf (header all ++ p .nodes)) ≡ 4 * packedReserve n = omega (arith, bytes) in
         let whole : l ≡ sets before 0 (bytesOf (header all ++ p .nodes)) =
         p .words

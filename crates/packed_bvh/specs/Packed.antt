@@ -1,5 +1,5 @@
--- `pack_light_bvh` of `webgpu/light_bvh.rs`, in document 01's order: 2, 1, 3, then the Rust's. Eight words of header, the overall box's corners, and eight a
--- node. Definitions only. Assumes nothing.
+-- `pack_light_bvh` of `webgpu/light_bvh.rs`, in document 01's order: 2, 1, 3, then the Rust's. A header, the overall
+-- box's corners, and so many words a node. Definitions only. Assumes nothing.
 use Prim.Native.Nat.{ℕ, zero, suc, _+_, _*_, _/_}
 use mathlib.Core.Bool.{true, false, cond, _&&_, _||_}
 use mathlib.Core.List.{List, [], _∷_, _++_}
@@ -22,11 +22,27 @@ use Rattle.packed_bvh.specs.Quantize.{quantizeBounds, quantizeCos, encod
 use Rattle.packed_bvh.specs.declared.pack.Packed.{Packed}
 use Rattle.packed_bvh.specs.declared.pack.Packed.the-variants.{Words, Nothing, Refused}
 
--- ---- a node's words
+-- ---- the layout's numbers, which pack.rt and include/light_tree.h name too
 
--- `LIGHT_BVH_INDEX_MAX`
+-- the words of the header and of a node
+abbrev pub headerWords : ℕ
+headerWords = 8
+
+abbrev pub packedNodeWords : ℕ
+packedNodeWords = 8
+
+-- `LIGHT_BVH_INDEX_MAX`, and the bit above it, which a leaf's payload has
 abbrev pub indexMax : ℕ
 indexMax = 0x7fff_ffff
+
+abbrev pub leafBit : ℕ
+leafBit = 0x8000_0000
+
+-- the place of a node's words, behind the header
+abbrev pub packedPlace : ℕ → ℕ
+packedPlace i = headerWords + packedNodeWords * i
+
+-- ---- a node's words
 
 -- two numbers of sixteen bits as a word, the first one below
 abbrev pub paired : ℕ → ℕ → ℕ
@@ -42,7 +58,7 @@ payload (leaf h p) = h
 payload (interior l r p) = r
 
 abbrev pub payloadWord : LightBVHNode → ℕ
-payloadWord (leaf h p) = 0x8000_0000 + h
+payloadWord (leaf h p) = leafBit + h
 payloadWord (interior l r p) = r
 
 -- `to_words`: within the overall box, with the direction at unit length, the payload's word and the parent
@@ -93,7 +109,7 @@ header all = vecWords (all .min) ++ (0 ∷ []) ++ vecWords (all .max) ++ (0 ∷ 
 -- the words of n nodes; none without nodes
 abbrev pub packedReserve : ℕ → ℕ
 packedReserve zero = 0
-packedReserve (suc n) = 8 + 8 * suc n
+packedReserve (suc n) = packedPlace (suc n)
 
 -- `room` bytes are lent
 unfoldable pub packCheck : List ℕ → ℕ → Answer ℕ

@@ -1,4 +1,4 @@
-// `pack_light_bvh` (specs/Packed.antt): node words in, eight words of header and eight a node out.
+// `pack_light_bvh` (specs/Packed.antt): node words in, a header and packed nodes out.
 ghost use mathlib.Core.Bool.{_||_};
 ghost use mathlib.Core.Path.{_≡_};
 ghost use mathlib.Core.Option.{some};
@@ -13,6 +13,7 @@ ghost use Rattle.words.specs.Fill.{filled};
 ghost use Rattle.words.specs.Tray.{tray};
 ghost use Rattle.light_bounds.specs.Bounds.{allBoundsOf};
 ghost use Rattle.light_rows.specs.Nodes.{leaf, interior, invalidIndex};
+ghost use Rattle.packed_bvh.specs.Packed.{headerWords, packedNodeWords};
 ghost use Rattle.packed_bvh.specs.Packed.{paired, coneWord, compactWords, packNode, header, packedReserve, packCheck};
 ghost use Rattle.packed_bvh.specs.Packed.{packedTree, packLightBvh, packedBytes, bytesReserve, wordsPacked, packed};
 ghost use Rattle.packed_bvh.specs.PackedParts.{compactList, placing, placed, packBounds, packPlaced, nodePacked};
@@ -41,6 +42,15 @@ use words::floats::word_of_f32;
 use words::little_endian::set_word;
 use words::refusals::Refusal;
 
+// The words of the header and of a node.
+const HEADER_WORDS: usize = 8;
+
+const NODE_WORDS: usize = 8;
+// The greatest payload, and the bit above it, which a leaf's has.
+const INDEX_MAX: u32 = 0x7fff_ffff;
+
+const LEAF_BIT: u32 = 0x8000_0000;
+
 // How many words were packed, that there was no tree, or why not.
 pub enum Packed {
     Words(usize),
@@ -50,7 +60,7 @@ pub enum Packed {
 
 // ---- a node's words
 
-// The eight words of a node.
+// The words of a node.
 struct Compact {
     pub min_xy: u32,
     pub min_z_max_x: u32,
@@ -133,11 +143,11 @@ fn is_parent(parent: u32, count: usize) -> bool
 fn place_leaf(handle: u32, parent: u32, count: usize, index: usize) -> Placed
     ensures { λ r. ⌜ placed r ≡ placing count index (leaf handle parent) ⌝ }
 {
-    if 0x7fff_ffff < handle {
+    if INDEX_MAX < handle {
         return Placed::Refused(Refusal::TooWide);
     }
     if is_parent(parent, count) {
-        return Placed::Words(0x8000_0000 + handle, parent);
+        return Placed::Words(LEAF_BIT + handle, parent);
     }
     Placed::Refused(Refusal::BrokenTree)
 }
@@ -146,7 +156,7 @@ fn place_interior(left: u32, right: u32, parent: u32, count: usize, index: usize
     requires { ⌜ index < 8191 ⌝ }
     ensures { λ r. ⌜ placed r ≡ placing count index (interior «left» «right» parent) ⌝ }
 {
-    if 0x7fff_ffff < right {
+    if INDEX_MAX < right {
         return Placed::Refused(Refusal::TooWide);
     }
     if is_parent(parent, count) {
@@ -211,7 +221,7 @@ fn pack_node(nodes: &[u8], all: Bounds3, count: usize, index: usize) -> PackedNo
 // ---- what is written
 
 fn write_compact(out: &mut [u8], place: usize, c: Compact)
-    requires { ⌜ 4 * (place + 8) ≤ length (now out) ⌝ }
+    requires { ⌜ 4 * (place + packedNodeWords) ≤ length (now out) ⌝ }
     ensures { λ _. ⌜ now (out .exit) ≡ sets (now (out .entry)) (4 * place) (bytesOf (compactList c)) ⌝ }
 {
     set_word(out, place, c.min_xy);
@@ -225,7 +235,7 @@ fn write_compact(out: &mut [u8], place: usize, c: Compact)
 }
 
 fn write_header(out: &mut [u8], all: Bounds3)
-    requires { ⌜ 32 ≤ length (now out) ⌝ }
+    requires { ⌜ 4 * headerWords ≤ length (now out) ⌝ }
     ensures { λ _. ⌜ now (out .exit) ≡ sets (now (out .entry)) 0 (bytesOf (header all)) ⌝ }
 {
     set_word(out, 0, word_of_f32(all.min.x));
@@ -255,7 +265,11 @@ fn reserve(n: usize) -> usize
     requires { ⌜ n ≤ 8191 ⌝ }
     ensures { λ r. ⌜ r ≡ packedReserve n ⌝ }
 {
-    if n == 0 { 0 } else { 8 + 8 * n }
+    if n == 0 {
+        0
+    } else {
+        HEADER_WORDS + NODE_WORDS * n
+    }
 }
 
 // Header and nodes; a refusal zeroes the reserve.
@@ -271,7 +285,7 @@ fn pack_nodes(nodes: &[u8], all: Bounds3, n: usize, out: &mut [u8]) -> Packed
     while i < n {
         match pack_node(nodes, all, n, i) {
             PackedNode::Words(c) => {
-                write_compact(out, 8 + 8 * i, c);
+                write_compact(out, HEADER_WORDS + NODE_WORDS * i, c);
                 i += 1;
             }
             PackedNode::Refused(why) => {
@@ -311,10 +325,11 @@ fn refuse(out: &mut [u8], n: usize, why: Refusal) -> Packed
     Packed::Refused(why)
 }
 
-// Packs the node words with k, the number of powered lamps, and their box: 8 + 8 × nodes words are written as bytes, little-endian, and no word without nodes.
-// Refusals 2, 1, 3 leave the lent bytes as they are; 12 where box, nodes and k do not agree, 5 and 6 of the box, then node by node 12 of its kind and its
-// side, 5 to 8 of its record, 7 of its direction's length, 13 of a payload over 2^31 - 1, 12 of its parent and its left child: these zero the reserve.
-// No tree gives none.
+// Packs the node words with k, the number of powered lamps, and their box: the header and the nodes are written as
+// bytes, little-endian, and no word without nodes. Refusals 2, 1, 3 leave the lent bytes as they are; 12 where box, nodes
+// and k do not agree, 5 and 6 of the box, then node by node 12 of its kind and its side, 5 to 8 of its record, 7 of its
+// direction's length, 13 of a payload over INDEX_MAX, 12 of its parent and its left child: these zero the reserve. No
+// tree gives none.
 pub fn pack_light_bvh(nodes: &[u8], k: usize, all_bounds: AllBounds, out: &mut [u8]) -> Packed
     ensures { λ r. ⌜ packed r ≡ wordsPacked (packLightBvh (now (nodes .entry)) k (allBoundsOf «all_bounds») (length (now (out .entry)))) ⌝ }
     ensures { λ _. ⌜ now (out .exit) ≡ tray packedBytes (bytesReserve (now (nodes .entry)))

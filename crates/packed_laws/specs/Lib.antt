@@ -1,4 +1,3 @@
-pub mod PackedRead
 pub mod PackedLaws
 pub mod OverallBox
 pub mod BuiltPacks

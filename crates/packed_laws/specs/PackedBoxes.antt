@@ -21,10 +21,11 @@ use Rattle.ieee.specs.Choose.{clamp}
 use Rattle.ieee.specs.CutLaws.{cast-negative}
 use Rattle.ieee.specs.OperationOrder.{mul-nonneg}
 use Rattle.ieee.specs.OrderLaws.{nonneg, le-fin, finite-below}
-use Rattle.ieee.specs.Single.{_⊕_, _⊖_, _⊗_, _⊘_, single, zerof, onef}
+use Rattle.ieee.specs.Single.{_⊖_, _⊗_, _⊘_, single, zerof, onef}
 use Rattle.ieee.specs.Whole.{outward, nextWhole, floor, ceil, toU32}
 use Rattle.ieee.specs.WholeLaws.{toUnsigned-units}
 use Rattle.ieee.specs.WholeNumbers.{outward-small, outward-under, outward-over, nextWhole-value}
+use Rattle.packed_bvh.specs.PackedRead.{stepBack}
 use Rattle.packed_bvh.specs.Quantize.{lastStep, stepsOf, quantizeBounds}
 use Rattle.packed_bvh.specs.QuantizeLaws.{Portion, clamped, portion-steps}
 
@@ -151,10 +152,6 @@ step-above = (refl, (refl, refl), lit< tt)
 pub wide-corner : quantizeBounds true (single 0x7f00_0000) (single 0xff00_0000) (single 0x7f00_0000) ≡ 0
 unfolding quantizeBounds stepsOf toU32 ceil nextWhole clamp ofFields ofBits span climb size odd units round neg sum add sub mul div lt eq toUnsigned
 wide-corner = refl
-
--- the step q read back in floats
-abbrev pub stepBack : ℕ → Float → Float → Float
-stepBack q lo hi = lo ⊕ ofInt binary32 (pos q) ⊘ lastStep ⊗ (hi ⊖ lo)
 
 -- in the box from 0 to 1 the corner 3f7f8000 has step 65407 above it, which is read back as a float below it
 pub corner-below : (quantizeBounds true (single 0x3f7f_8000) zerof onef ≡ 65407) × T (lt (stepBack 65407 zerof onef) (single 0x3f7f_8000))

@@ -22,12 +22,12 @@ use Rattle.light_bounds.specs.declared.bounds.Bounds3.{Bounds3}
 use Rattle.light_bounds.specs.declared.light_bounds.LightBounds.{LightBounds}
 use Rattle.light_bounds.specs.declared.vecmath.Vec3.{Vec3}
 use Rattle.light_rows.specs.Nodes.{LightBVHNode, leaf, interior, parent, nodeBytes, nodeCount, nodeAt, boundsAt}
-use Rattle.packed_bvh.specs.Packed.{indexMax, paired, payload, payloadWord, compactWords, payloadCheck, parentCheck, leftCheck, packNode, packNodes, header}
+use Rattle.packed_bvh.specs.Packed.{headerWords, packedNodeWords, indexMax, leafBit, paired, payload, payloadWord, compactWords, payloadCheck, parentCheck, leftCheck, packNode, packNodes, header, packedPlace}
 use Rattle.packed_bvh.specs.Packed.{packedReserve, packCheck, agreed, packedTree, packLightBvh}
 use Rattle.packed_bvh.specs.Quantize.{quantizeBounds}
 use Rattle.packed_bvh.specs.QuantizeLaws.{quantize-small}
 use Rattle.packed_bvh.proofs.PackLaws.{count-known}
-use Rattle.packed_laws.specs.PackedRead.{readNode, packedPlace, readBox, boxAt, boxSteps}
+use Rattle.packed_bvh.specs.PackedRead.{readNode, readBox, boxAt, boxSteps}
 
 -- ---- a node
 
@@ -51,11 +51,11 @@ left-next i l r p e = go (eqb l (i + 1)) refl e
 node-back : (i : ℕ) (n : LightBVHNode) → payloadCheck n ≡ given tt → leftCheck i n ≡ given tt → n ≡ readNode i (payloadWord n) (parent n)
 unfolding readNode
 node-back i (leaf h p) small left =
-    let over : 0x8000_0000 + h - 0x8000_0000 ≡ h = omega arith in
-    rw (le-leb 0x8000_0000 (0x8000_0000 + h) (omega arith), over)
+    let over : leafBit + h - leafBit ≡ h = omega arith in
+    rw (le-leb leafBit (leafBit + h) (omega arith), over)
 node-back i (interior l r p) small left =
     let low = payload-small (interior l r p) small in
-    rw (lt-leb 0x8000_0000 r (omega arith), left-next i l r p left)
+    rw (lt-leb leafBit r (omega arith), left-next i l r p left)
 
 -- the words of a node that is packed, within the overall box
 record Row (all : Bounds3) (ws : List ℕ) (i : ℕ) (row : List ℕ) : Type 0 where
@@ -105,7 +105,7 @@ row-of count all ws i row e =
     let (d, _, e₄) = then-given (normalizeByDivision (b .direction)) (λ (d : Vec3). rest n b d) row e₃ in
     placed count all ws i n b d row node own passes e₄
 
-row-size : (all : Bounds3) (ws : List ℕ) (i : ℕ) (row : List ℕ) → Row all ws i row → length row ≡ 8
+row-size : (all : Bounds3) (ws : List ℕ) (i : ℕ) (row : List ℕ) → Row all ws i row → length row ≡ packedNodeWords
 unfolding compactWords
 row-size all ws i row r = rw (← r .is) refl
 
@@ -141,8 +141,8 @@ row-box all ws i row b r e =
 
 -- the words of n nodes, one behind another
 record Rows (all : Bounds3) (ws : List ℕ) (n : ℕ) (rows : List ℕ) : Type 0 where
-  size : length rows ≡ 8 * n
-  each : (i : ℕ) → i < n → (row : List ℕ) × Row all ws i row × ((j : ℕ) → j < 8 → getD rows (8 * i + j) 0 ≡ getD row j 0)
+  size : length rows ≡ packedNodeWords * n
+  each : (i : ℕ) → i < n → (row : List ℕ) × Row all ws i row × ((j : ℕ) → j < packedNodeWords → getD rows (packedNodeWords * i + j) 0 ≡ getD row j 0)
 
 module _ (all : Bounds3) (ws : List ℕ) where
   rows-one : (n : ℕ) (rows row : List ℕ) → Rows all ws n rows → Row all ws n row → Rows all ws (suc n) (rows ++ row)
@@ -150,11 +150,11 @@ module _ (all : Bounds3) (ws : List ℕ) where
       record { size = length-append rows row ∙ omega (arith, before .size, row-size all ws n row last); each = λ i l. go i l (ltb i n) refl }
     where
       go : (i : ℕ) → i < suc n → (b : Bool) → ltb i n ≡ b
-          → (r : List ℕ) × Row all ws i r × ((j : ℕ) → j < 8 → getD (rows ++ row) (8 * i + j) 0 ≡ getD r j 0)
+          → (r : List ℕ) × Row all ws i r × ((j : ℕ) → j < packedNodeWords → getD (rows ++ row) (packedNodeWords * i + j) 0 ≡ getD r j 0)
       go i l true e =
           let low = ltb-true i n e in
           let (r, is, words) = before .each i low in
-          (r, is, λ j few. List·getD-append rows row 0 (8 * i + j) (omega (arith, before .size)) ∙ words j few)
+          (r, is, λ j few. List·getD-append rows row 0 (packedNodeWords * i + j) (omega (arith, before .size)) ∙ words j few)
       go i l false e =
           let here : i ≡ n = omega (arith, ltb-false i n e) in
           (row, rw here last, λ j few. rw (here, ← before .size) (getD-append-add rows row j 0))
@@ -217,20 +217,20 @@ tree-made nodes n (some all) ws count e =
     }
 
 module _ (nodes : List ℕ) (all : Option Bounds3) (ws : List ℕ) (m : Made nodes all ws) where
-  made-length : length ws ≡ 8 + 8 * (length nodes / nodeBytes)
+  made-length : length ws ≡ packedPlace (length nodes / nodeBytes)
   made-length = rw (← m .is) (length-append (header (m .box)) (m .rows) ∙ omega (arith, m .rows-are .size))
 
   -- the words of the node at place i
   made-row : (i : ℕ) → i < length nodes / nodeBytes
-      → (row : List ℕ) × Row (m .box) (wordsOf nodes) i row × ((j : ℕ) → j < 8 → getD ws (packedPlace i + j) 0 ≡ getD row j 0)
+      → (row : List ℕ) × Row (m .box) (wordsOf nodes) i row × ((j : ℕ) → j < packedNodeWords → getD ws (packedPlace i + j) 0 ≡ getD row j 0)
   made-row i l =
       let (row, is, words) = m .rows-are .each i l in
       (row, is, λ j few. behind j ∙ words j few)
     where
-      behind : (j : ℕ) → getD ws (packedPlace i + j) 0 ≡ getD (m .rows) (8 * i + j) 0
+      behind : (j : ℕ) → getD ws (packedPlace i + j) 0 ≡ getD (m .rows) (packedNodeWords * i + j) 0
       behind j =
-          let at : packedPlace i + j ≡ 8 + (8 * i + j) = omega arith in
-          rw (← m .is, at) (getD-append-add (header (m .box)) (m .rows) (8 * i + j) 0)
+          let at : packedPlace i + j ≡ headerWords + (packedNodeWords * i + j) = omega arith in
+          rw (← m .is, at) (getD-append-add (header (m .box)) (m .rows) (packedNodeWords * i + j) 0)
 
   made-node : (i : ℕ) → i < length nodes / nodeBytes
       → nodeAt (wordsOf nodes) i ≡ given (readNode i (getD ws (packedPlace i + 6) 0) (getD ws (packedPlace i + 7) 0))
@@ -249,7 +249,7 @@ module _ (nodes : List ℕ) (all : Option Bounds3) (ws : List ℕ) (m : Made nod
       let (row, is, words) = made-row i l in
       subst (λ (r : LightBounds). validate r ≡ given tt) (given-injective (sym (is .own-is) ∙ e)) (is .passes)
 
-  made-header : take 8 ws ≡ header (m .box)
+  made-header : take headerWords ws ≡ header (m .box)
   made-header = rw (← m .is) refl
 
   made-zeros : (getD ws 3 0 ≡ 0) × (getD ws 7 0 ≡ 0)
@@ -264,7 +264,7 @@ module _ (nodes : List ℕ) (k : ℕ) (all : Option Bounds3) (room : ℕ) (ws : 
       let (box, agrees, e₂) = then-given (agreed n k all) (λ (box : Option Bounds3). packedTree (wordsOf nodes) n box) (some ws) e₁ in
       rw (agreed-is n k all box agrees) (tree-made nodes n box ws (check-count nodes room n checked) e₂)
 
-  pub packed-length : length ws ≡ 8 + 8 * (length nodes / nodeBytes)
+  pub packed-length : length ws ≡ packedPlace (length nodes / nodeBytes)
   packed-length = made-length nodes all ws made
 
   -- parents, children and handles come back exactly, whatever nodes were packed
@@ -283,7 +283,7 @@ module _ (nodes : List ℕ) (k : ℕ) (all : Option Bounds3) (room : ℕ) (ws : 
       rw (Option·some-injective box (made .box) (sym is ∙ made .handed)) (made-box nodes all ws made i b l e)
 
   -- a box was handed over, and the first eight words are its corners, a zero behind each
-  pub packed-header : (box : Bounds3) × (all ≡ some box) × (take 8 ws ≡ header box)
+  pub packed-header : (box : Bounds3) × (all ≡ some box) × (take headerWords ws ≡ header box)
   packed-header = (made .box, made .handed, made-header nodes all ws made)
 
   pub packed-zeros : (getD ws 3 0 ≡ 0) × (getD ws 7 0 ≡ 0)

@@ -24,7 +24,7 @@ use Rattle.packed_bvh.specs.Packed.{packLightBvh}
 use Rattle.packed_bvh.specs.Quantize.{quantizeBounds}
 use Rattle.packed_laws.specs.OverallBox.{Axis, Proper, record-low, overall-proper, node-within}
 use Rattle.packed_laws.specs.PackedLaws.{packed-header, packed-box}
-use Rattle.packed_laws.specs.PackedRead.{boxAt, boxSteps, StepHolds}
+use Rattle.packed_bvh.specs.PackedRead.{boxAt, boxSteps, StepHolds}
 use Rattle.packed_laws.specs.StepsOrder.{quantize-mono}
 
 -- ---- boxes

@@ -1,7 +1,7 @@
 -- Words and their little-endian bytes: lengths, the word at a place, and reading back what was written. Assumes nothing.
 use Prim.Native.Nat.{ℕ, zero, suc, _+_, _*_, _/_, _%_, _^_, _<_}
-use mathlib.Core.Path.{_≡_, refl, ap₂}
-use mathlib.Core.List.{List, [], _∷_}
+use mathlib.Core.Path.{_≡_, refl, ap, ap₂}
+use mathlib.Core.List.{List, [], _∷_, _++_}
 use native.Mathlib.Nat.{div-div-eq-div-mul}
 use native.Mathlib.Omega.{arith}
 use native.Mathlib.Numerals.{unary-clauses}
@@ -39,6 +39,11 @@ unfolding bytesOf
 bytesOf-at [] i h = absurd (omega arith)
 bytesOf-at (w ∷ rest) zero h = refl
 bytesOf-at (w ∷ rest) (suc i) h = simp unary-clauses (bytesOf-at rest i (omega arith))
+
+pub bytesOf-append : (xs ys : List ℕ) → bytesOf (xs ++ ys) ≡ bytesOf xs ++ bytesOf ys
+unfolding bytesOf
+bytesOf-append [] ys = refl
+bytesOf-append (x ∷ xs) ys = ap (λ (z : List ℕ). bytesOfWord x ++ z) (bytesOf-append xs ys)
 
 -- words below 2 ^ 32 come back from their bytes
 pub wordsOf-bytesOf : (ws : List ℕ) → ((i : ℕ) → getD ws i 0 < 2 ^ 32) → wordsOf (bytesOf ws) ≡ ws

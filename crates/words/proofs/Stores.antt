@@ -4,7 +4,7 @@ use mathlib.Core.Path.{_≡_, refl, _∙_}
 use mathlib.Core.List.{List, [], _∷_, _++_}
 use native.Mathlib.Omega.{arith}
 use lib.ListN.{length, getD, take, drop, set, length-append, length-drop}
-use lib.Seq.{sets, sets-eq, length-sets, take-at, drop-at, drop-drop, drop-cons, take-add, length-take-le}
+use lib.Seq.{sets, sets-eq, length-sets, take-at, drop-at, drop-drop, drop-cons, drop-set-lt, take-add, length-take-le}
 
 -- stores behind a front p that has been written
 pub stored : (p d vs : List ℕ) (n : ℕ) → length p ≡ n → n + length vs ≤ length d
@@ -41,3 +41,9 @@ sets-append l i [] us = let e : i + 0 ≡ i = omega arith in rw e
 sets-append l i (v ∷ vs) us =
     let e : suc i + length vs ≡ i + suc (length vs) = omega arith in
     sets-append (set l i v) (suc i) vs us ∙ rw e
+
+-- what lies behind stores stays
+pub drop-sets : (n : ℕ) (vs l : List ℕ) (i : ℕ) → i + length vs ≤ n → drop n (sets l i vs) ≡ drop n l
+drop-sets n [] l i h = refl
+drop-sets n (v ∷ vs) l i h =
+    drop-sets n vs (set l i v) (suc i) (omega arith) ∙ drop-set-lt n l i v (omega arith)

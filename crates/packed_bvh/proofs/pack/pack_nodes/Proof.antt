@@ -7,7 +7,7 @@ use lib.ListN.{length}
 use borrow.Author.Needs.{needs}
 use Rattle.words.specs.LittleEndian.{wordsOf}
 use Rattle.words.specs.Refusals.{number}
-use Rattle.packed_bvh.specs.Packed.{packedReserve}
+use Rattle.packed_bvh.specs.Packed.{packedPlace, packedReserve}
 use Rattle.packed_bvh.specs.PackedParts.{compactList, nodePacked}
 use Rattle.packed_bvh.proofs.PackLaws.{Packing, packing-none, packing-one, packing-length, reserve-some, reserve-small, outcome-refused, outcome-given}
 use Rattle.packed_bvh.proofs.pack.pack_nodes.Statement.{statement}
@@ -22,11 +22,11 @@ abbrev μ-loop : tie.MeasureT-loop
 abbrev start : tie.At-loop Inv-loop μ-loop → tie.Start Inv-loop μ-loop
 start c = c .before .before .before .before .before .before .before
 
-reserve : (s : tie.Start Inv-loop μ-loop) → packedReserve (s .args .n) ≡ 8 + 8 * s .args .n
+reserve : (s : tie.Start Inv-loop μ-loop) → packedReserve (s .args .n) ≡ packedPlace (s .args .n)
 reserve s = reserve-some (s .args .n) (s .pre .1 .0)
 
 -- the lent bytes keep their length, so there is room for every node
-room : (c : tie.At-loop Inv-loop μ-loop) → 4 * (8 + 8 * start c .args .n) ≤ length (c .loop .out)
+room : (c : tie.At-loop Inv-loop μ-loop) → 4 * packedPlace (start c .args .n) ≤ length (c .loop .out)
 room c =
     let s = start c in
     omega (

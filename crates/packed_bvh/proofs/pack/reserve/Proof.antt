@@ -2,11 +2,11 @@
 use Prim.Native.Nat.{ℕ, zero, suc, _+_, _*_}
 use mathlib.Core.Path.{_≡_, refl}
 use borrow.Author.Needs.{needs}
-use Rattle.packed_bvh.specs.Packed.{packedReserve}
+use Rattle.packed_bvh.specs.Packed.{packedPlace, packedReserve}
 use Rattle.packed_bvh.proofs.pack.reserve.Statement.{statement}
 use Rattle.packed_bvh.proofs.pack.reserve.Tie as tie
 
-some-nodes : (n : ℕ) → (n ≡ 0 → ⊥) → 8 + 8 * n ≡ packedReserve n
+some-nodes : (n : ℕ) → (n ≡ 0 → ⊥) → packedPlace n ≡ packedReserve n
 some-nodes zero h = absurd (h refl)
 some-nodes (suc n) h = refl
 

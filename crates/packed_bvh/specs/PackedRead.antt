@@ -1,21 +1,21 @@
--- A packed node read: its box in steps from its first three words, its children or its handle and its parent from its last two. Definitions only. Assumes
--- nothing.
-use Prim.Native.Nat.{ℕ, _+_, _-_, _*_, _/_, _%_, _≤_}
+-- A packed node read: its box in steps from its first three words, its children or its handle and its parent from its
+-- last two, and a step as a float. Definitions only. Assumes nothing.
+use Prim.Native.Nat.{ℕ, _+_, _-_, _/_, _%_, _≤_}
 use mathlib.Core.Bool.{true, false, cond}
 use mathlib.Core.List.{List}
 use lib.Dec.{leb}
+use lib.IntN.{pos}
+use lib.Ieee.{Float, binary32, ofInt}
 use lib.ListN.{getD}
+use Rattle.ieee.specs.Single.{_⊕_, _⊖_, _⊗_, _⊘_}
 use Rattle.light_bounds.specs.declared.bounds.Bounds3.{Bounds3}
 use Rattle.light_rows.specs.Nodes.{LightBVHNode, leaf, interior}
-use Rattle.packed_bvh.specs.Quantize.{quantizeBounds}
+use Rattle.packed_bvh.specs.Packed.{leafBit, packedPlace}
+use Rattle.packed_bvh.specs.Quantize.{lastStep, quantizeBounds}
 
 -- the node at place i that two packed words stand for: a leaf where bit 31 of the payload is set; a left child is the next node
 unfoldable pub readNode : ℕ → ℕ → ℕ → LightBVHNode
-readNode i payload p = cond (leb 0x8000_0000 payload) (leaf (payload - 0x8000_0000) p) (interior (i + 1) payload p)
-
--- the place of a node's words, behind the header
-abbrev pub packedPlace : ℕ → ℕ
-packedPlace i = 8 + 8 * i
+readNode i payload p = cond (leb leafBit payload) (leaf (payload - leafBit) p) (interior (i + 1) payload p)
 
 -- ---- boxes in steps
 
@@ -46,6 +46,10 @@ boxSteps all b = record {
   max-y = quantizeBounds true (b .max .y) (all .min .y) (all .max .y);
   max-z = quantizeBounds true (b .max .z) (all .min .z) (all .max .z);
 }
+
+-- a step read back as a float, between the ends of its axis
+abbrev pub stepBack : ℕ → Float → Float → Float
+stepBack q lo hi = lo ⊕ ofInt binary32 (pos q) ⊘ lastStep ⊗ (hi ⊖ lo)
 
 -- one box of steps within another
 pub record StepHolds (outer inner : StepBox) : Type 0 where
