@@ -3,7 +3,7 @@
 //! blocks and builds the same alias tables.
 
 #[cfg(reference)]
-#[allow(dead_code)]
+#[allow(dead_code, clippy::all)]
 mod gpu {
     pub mod flat {
         pub use light_tree::pbrt::*;

@@ -50,8 +50,8 @@ fn shapes() {
             // a leaf's right child is not read
             assert!(flawed(&|words| words.nodes[place][word] ^= 1 << bit) || word == 1 && !fork, "{place} {word} {bit}");
         }
-        for word in 3..9 {
-            let inward = f32::from_bits(node[word]) + if word < 6 { 0.5 } else { -0.5 };
+        for (word, end) in node.iter().enumerate().take(9).skip(3) {
+            let inward = f32::from_bits(*end) + if word < 6 { 0.5 } else { -0.5 };
             assert!(!fork || flawed(&|words| words.nodes[place][word] = inward.to_bits()), "{place} {word}");
         }
     }

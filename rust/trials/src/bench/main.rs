@@ -2,22 +2,10 @@
 //! by the same driver. The table below is what `bench --help` shows. It is a program and no part of the library, so that the compiler
 //! sees no more of a proved function's wrapper than whoever links it does.
 
-#[cfg(reference)]
-mod alias;
-#[cfg(reference)]
-mod bounds;
 mod floats;
 #[cfg(reference)]
-mod lamps;
-#[cfg(reference)]
-mod offices;
-#[cfg(reference)]
-mod packing;
+mod reference;
 mod timing;
-#[cfg(reference)]
-mod trees;
-#[cfg(reference)]
-mod walks;
 
 use trials::parts::{self, Part, none};
 use trials::with_reference;
@@ -46,42 +34,42 @@ const PARTS: &[Part] = &[
         takes: "",
         does: "Importance and union, beside the reference, on a mix of records and on those of a room.",
         time: "TIME",
-        call: with_reference!(table!(bounds::rows)),
+        call: with_reference!(table!(reference::bounds::rows)),
     },
     Part {
         name: "lamps",
         takes: "",
         does: "Blocks of lamp lists, beside the reference, by kinds of lamps.",
         time: "TIME",
-        call: with_reference!(table!(lamps::rows)),
+        call: with_reference!(table!(reference::lamps::rows)),
     },
     Part {
         name: "alias",
         takes: "",
         does: "Alias tables, beside the reference, by manners of weights.",
         time: "TIME",
-        call: with_reference!(table!(alias::rows)),
+        call: with_reference!(table!(reference::alias::rows)),
     },
     Part {
         name: "trees",
         takes: "",
         does: "Builds, beside the reference, of rooms of 64, 512 and 4,096 lamps.",
         time: "TIME",
-        call: with_reference!(table!(trees::rows)),
+        call: with_reference!(table!(reference::trees::rows)),
     },
     Part {
         name: "walks",
         takes: "",
         does: "Draws and chances by name, beside the reference, in rooms of 64, 512 and 4,096 lamps, with normals and without.",
         time: "TIME",
-        call: with_reference!(table!(walks::rows)),
+        call: with_reference!(table!(reference::walks::rows)),
     },
     Part {
         name: "packing",
         takes: "",
         does: "Packings, beside the reference, of rooms of 64, 512 and 4,096 lamps.",
         time: "TIME",
-        call: with_reference!(table!(packing::rows)),
+        call: with_reference!(table!(reference::packing::rows)),
     },
 ];
 

@@ -259,8 +259,8 @@ impl Random {
             UpCycle => {
                 // a fork and a fork below it, each the other's child
                 let child = fork.and_then(|fork| {
-                    let forks = words.children(fork)?.into_iter().filter(|child| words.children(*child).is_some());
-                    Some((fork, forks.last()?))
+                    let mut children = words.children(fork)?.into_iter();
+                    Some((fork, children.rfind(|child| words.children(*child).is_some())?))
                 });
                 let (fork, child) = child.unwrap_or((0, count - 1));
                 words.nodes[child][1] = fork as u32;

@@ -51,7 +51,7 @@ macro_rules! on_trees {
             if count > MOST_NODES {
                 return Err(CROWDED);
             }
-            if nodes.len() % NODE_BYTES != 0 {
+            if !nodes.len().is_multiple_of(NODE_BYTES) {
                 return Err(RAGGED);
             }
             let reserve = packing::reserve(count);

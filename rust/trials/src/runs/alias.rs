@@ -9,27 +9,10 @@ use crate::oracle::reference::{self, marked};
 use crate::parts::{Ended, count_and_seed};
 use crate::proved;
 
-const WEIGHTS: &[&str] = &[
-    "weights: none",
-    "weights: one",
-    "weights: 4,096",
-    "weights: over 4,096",
-    "weights: a zero",
-    "weights: -0",
-    "weights: all subnormal",
-    "weights: a sum not finite",
-    "room: more than is needed",
-    "room: bins short",
-    "room: work short",
-    "order: 3 before a weight out of range",
-    "bins: q is -0",
-    OWN,
-];
-
 /// Bins and work are lent from the middle of other words, which must stay.
 pub fn alias_tables(seed: u64, cases: u64) -> Tally {
     let mut random = Random::new(seed);
-    let mut tally = Tally::new(WEIGHTS);
+    let mut tally = Tally::new();
     for _ in turns("alias tables", cases) {
         let Case { weights, bins_room, work_room } = random.weights_case();
         let mut lent = [bins_room, work_room].map(|room| Lent::new(&mut random, room, word));
@@ -50,20 +33,23 @@ pub fn alias_tables(seed: u64, cases: u64) -> Tally {
         let table: Vec<[u32; 3]> = if given { whole[0].slice()[..3 * m].as_chunks().0.to_vec() } else { vec![] };
         let value = f32::from_bits;
         let more = [
-            given && m == 0,
-            given && m == 1,
-            given && m == 4096,
-            m > 4096,
-            any(0),
-            any(1 << 31),
-            given && m > 0 && weights.iter().all(|weight| value(*weight).is_subnormal()),
-            given && sum > f64::from(f32::MAX),
-            given && bins_room > 3 * m && work_room > 4 * m,
-            short && bins_room < 3 * m,
-            short && work_room < 4 * m && bins_room >= 3 * m,
-            short && weights.iter().any(|weight| !(value(*weight).is_finite() && value(*weight) >= 0.0)),
-            table.iter().any(|[q, _, _]| *q == 1 << 31),
-            own_answer != expected || own != whole,
+            ("weights: none", given && m == 0),
+            ("weights: one", given && m == 1),
+            ("weights: 4,096", given && m == 4096),
+            ("weights: over 4,096", m > 4096),
+            ("weights: a zero", any(0)),
+            ("weights: -0", any(1 << 31)),
+            ("weights: all subnormal", given && m > 0 && weights.iter().all(|weight| value(*weight).is_subnormal())),
+            ("weights: a sum not finite", given && sum > f64::from(f32::MAX)),
+            ("room: more than is needed", given && bins_room > 3 * m && work_room > 4 * m),
+            ("room: bins short", short && bins_room < 3 * m),
+            ("room: work short", short && work_room < 4 * m && bins_room >= 3 * m),
+            (
+                "order: 3 before a weight out of range",
+                short && weights.iter().any(|weight| !(value(*weight).is_finite() && value(*weight) >= 0.0)),
+            ),
+            ("bins: q is -0", table.iter().any(|[q, _, _]| *q == 1 << 31)),
+            (OWN, own_answer != expected || own != whole),
         ];
         tally.case(&expected, branches, &more, got == expected && lent == whole, || {
             let [got_bins, bins] = [&mut lent, &mut whole].map(|lent| shown(lent[0].slice()));

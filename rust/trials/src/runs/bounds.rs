@@ -11,7 +11,7 @@ use crate::proved;
 
 pub fn validates(seed: u64, cases: u64) -> Tally {
     let mut random = Random::new(seed);
-    let mut tally = Tally::new(&[]);
+    let mut tally = Tally::new();
     for _ in turns("validate", cases) {
         let record = random.record();
         let (expected, branches) = marked(|| reference::validate(&record));
@@ -21,23 +21,11 @@ pub fn validates(seed: u64, cases: u64) -> Tally {
     tally
 }
 
-const UNION: &[&str] = &[
-    "lost: the first fails its check",
-    "lost: the second fails its check",
-    "lost: by 5",
-    "lost: by 6",
-    "lost: by 7",
-    "lost: by 8",
-    "joined: NaN in the direction",
-    "joined: the power is infinite",
-    OWN,
-];
-
 /// The words that a union is written to lie at the front of a longer slice, whose rest must stay; a refusal 10 zeroes them, a
 /// refusal 1 leaves them.
 pub fn unions(seed: u64, cases: u64) -> Tally {
     let mut random = Random::new(seed);
-    let mut tally = Tally::new(UNION);
+    let mut tally = Tally::new();
     for _ in turns("union", cases) {
         let [a, b] = random.pair();
         let (expected, branches) = marked(|| reference::union(&a, &b));
@@ -55,15 +43,15 @@ pub fn unions(seed: u64, cases: u64) -> Tally {
         let why = if lost { fails[0].or(fails[1]) } else { None };
         let joined = |place: usize, word: u32| expected.is_ok_and(|joined| joined[place] == word);
         let more = [
-            lost && fails[0].is_some(),
-            lost && fails[0].is_none(),
-            why == Some(5),
-            why == Some(6),
-            why == Some(7),
-            why == Some(8),
-            joined(6, 0x7fc0_0000),
-            joined(9, 0x7f80_0000),
-            reference::native_union(&a, &b) != expected,
+            ("lost: the first fails its check", lost && fails[0].is_some()),
+            ("lost: the second fails its check", lost && fails[0].is_none()),
+            ("lost: by 5", why == Some(5)),
+            ("lost: by 6", why == Some(6)),
+            ("lost: by 7", why == Some(7)),
+            ("lost: by 8", why == Some(8)),
+            ("joined: NaN in the direction", joined(6, 0x7fc0_0000)),
+            ("joined: the power is infinite", joined(9, 0x7f80_0000)),
+            (OWN, reference::native_union(&a, &b) != expected),
         ];
         tally.case(&expected, branches, &more, same, || {
             format!("union({a:08x?}, {b:08x?}): {answer:?} {:08x?}, not {expected:08x?}", &got[..13])
@@ -72,22 +60,6 @@ pub fn unions(seed: u64, cases: u64) -> Tally {
     tally
 }
 
-const IMPORTANCE: &[&str] = &[
-    "weight: above 0",
-    "weight: 0 where the cosine is within the cone",
-    "weight: infinite",
-    "weight: -0",
-    "weight: lit, without a normal",
-    "weight: facing, with a normal",
-    "refused: 5 of the record",
-    "refused: 5 of the query",
-    "refused: 7 of the record",
-    "refused: 7 at the centre of a box",
-    "refused: 7 of a distance not finite",
-    "refused: 7 of the normal",
-    OWN,
-];
-
 fn at_center(record: &Record, query: &[u32]) -> bool {
     let value = |word: u32| f32::from_bits(word);
     (0..3).all(|i| value(query[i]) == (value(record[i]) + value(record[i + 3])) * 0.5)
@@ -95,7 +67,7 @@ fn at_center(record: &Record, query: &[u32]) -> bool {
 
 pub fn importances(seed: u64, cases: u64) -> Tally {
     let mut random = Random::new(seed);
-    let mut tally = Tally::new(IMPORTANCE);
+    let mut tally = Tally::new();
     for _ in turns("importance", cases) {
         let record = random.record();
         let query = random.query(&record);
@@ -107,19 +79,19 @@ pub fn importances(seed: u64, cases: u64) -> Tally {
         let (seven, normal) = (expected == Err(7) && check.is_none(), branches.has(Branch::Normal));
         let center = at_center(&record, &query);
         let more = [
-            lit && weight > 0.0,
-            lit && weight == 0.0,
-            weight == f32::INFINITY,
-            expected == Ok(1 << 31),
-            lit && !normal,
-            lit && normal,
-            expected == Err(5) && check.is_some(),
-            expected == Err(5) && check.is_none(),
-            expected == Err(7) && check.is_some(),
-            seven && !normal && center,
-            seven && !normal && !center,
-            seven && normal,
-            reference::native_importance(&record, &query) != expected,
+            ("weight: above 0", lit && weight > 0.0),
+            ("weight: 0 where the cosine is within the cone", lit && weight == 0.0),
+            ("weight: infinite", weight == f32::INFINITY),
+            ("weight: -0", expected == Ok(1 << 31)),
+            ("weight: lit, without a normal", lit && !normal),
+            ("weight: facing, with a normal", lit && normal),
+            ("refused: 5 of the record", expected == Err(5) && check.is_some()),
+            ("refused: 5 of the query", expected == Err(5) && check.is_none()),
+            ("refused: 7 of the record", expected == Err(7) && check.is_some()),
+            ("refused: 7 at the centre of a box", seven && !normal && center),
+            ("refused: 7 of a distance not finite", seven && !normal && !center),
+            ("refused: 7 of the normal", seven && normal),
+            (OWN, reference::native_importance(&record, &query) != expected),
         ];
         tally.case(&expected, branches, &more, got == expected, || {
             format!("importance({record:08x?}, {query:08x?}): {got:08x?}, not {expected:08x?}")

@@ -277,7 +277,7 @@ impl Search {
     pub fn run(draw: Draw, seed: u64, trees: u64, to_the_first: bool) -> Search {
         let mut random = Random::new(seed);
         let (mut search, mut progress) = (Search::default(), Progress::new("trees searched", trees));
-        while search.trees < trees && !(to_the_first && !search.found.is_empty()) {
+        while search.trees < trees && (!to_the_first || search.found.is_empty()) {
             progress.at(search.trees);
             let most = random.of(&[4, 8, 16, LAMPS]);
             let lamps = random.below(most) + 1;

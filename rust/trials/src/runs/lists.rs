@@ -10,31 +10,10 @@ use crate::oracle::reference::{self, marked};
 use crate::parts::{Ended, count_and_seed};
 use crate::proved;
 
-const LISTS: &[&str] = &[
-    "list: points",
-    "list: spots",
-    "list: groups",
-    "list: no lamps",
-    "list: 512 lamps",
-    "list: 4,096 lamps",
-    "list: over 4,096 lamps by word 0",
-    "list: over 2^20 words",
-    "room: more than is needed",
-    "room: one word short",
-    "room: none",
-    "order: 1 before a handle out of place",
-    "order: 4 before a short room",
-    "order: 3 before what a lamp is refused for",
-    "block: an infinite power",
-    "block: no power",
-    "block: a triangle with a NaN coordinate",
-    OWN,
-];
-
 /// The block is lent from the middle of other words, which must stay.
 pub fn lists(seed: u64, cases: u64) -> Tally {
     let mut random = Random::new(seed);
-    let mut tally = Tally::new(LISTS);
+    let mut tally = Tally::new();
     for _ in turns("lists", cases) {
         let lists::Case { list, room } = random.list_case();
         let mut lent = Lent::new(&mut random, room, word);
@@ -55,24 +34,30 @@ pub fn lists(seed: u64, cases: u64) -> Tally {
             groups.flat_map(|group| lists::triangles(group.words)).any(|triangle| triangle[..9].iter().any(is_nan))
         };
         let more = [
-            of(KINDS[0]),
-            of(KINDS[1]),
-            of(KINDS[2]),
-            given && count == 0,
-            given && count == 512,
-            given && count == MOST_LAMPS,
-            count > MOST_LAMPS,
-            list.len() > MOST_WORDS,
-            given && room > reserve,
-            expected == Err(3) && room + 1 == reserve,
-            expected == Err(3) && room == 0,
-            expected == Err(1) && list.get(1).is_some_and(|head| head & 0x3fff_ffff != 0),
-            expected == Err(4) && room < reserve,
-            expected == Err(3) && reference::build_light_bounds(&list, &mut vec![0; reserve]).is_err(),
-            figure(10, 0x7f80_0000),
-            figure(10, 0),
-            given && nan_corner(),
-            reference::native_build_light_bounds(&list, own.slice()) != expected || own != whole,
+            ("list: points", of(KINDS[0])),
+            ("list: spots", of(KINDS[1])),
+            ("list: groups", of(KINDS[2])),
+            ("list: no lamps", given && count == 0),
+            ("list: 512 lamps", given && count == 512),
+            ("list: 4,096 lamps", given && count == MOST_LAMPS),
+            ("list: over 4,096 lamps by word 0", count > MOST_LAMPS),
+            ("list: over 2^20 words", list.len() > MOST_WORDS),
+            ("room: more than is needed", given && room > reserve),
+            ("room: one word short", expected == Err(3) && room + 1 == reserve),
+            ("room: none", expected == Err(3) && room == 0),
+            (
+                "order: 1 before a handle out of place",
+                expected == Err(1) && list.get(1).is_some_and(|head| head & 0x3fff_ffff != 0),
+            ),
+            ("order: 4 before a short room", expected == Err(4) && room < reserve),
+            (
+                "order: 3 before what a lamp is refused for",
+                expected == Err(3) && reference::build_light_bounds(&list, &mut vec![0; reserve]).is_err(),
+            ),
+            ("block: an infinite power", figure(10, 0x7f80_0000)),
+            ("block: no power", figure(10, 0)),
+            ("block: a triangle with a NaN coordinate", given && nan_corner()),
+            (OWN, reference::native_build_light_bounds(&list, own.slice()) != expected || own != whole),
         ];
         tally.case(&expected, branches, &more, got == expected && lent == whole, || {
             let [got_words, words] = [lent.slice(), whole.slice()].map(|words| shown(words));

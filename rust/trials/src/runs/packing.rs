@@ -115,7 +115,7 @@ impl Judged {
     }
 
     /// Which number comes before another one that is met too.
-    fn orders(&self, numbers: &[u32]) -> Vec<bool> {
+    fn orders(&self, numbers: &[u32]) -> Vec<(&'static str, bool)> {
         let (given, first) = (numbers.first(), self.first());
         let later = numbers.iter().any(|number| Some(number) != given);
         let lengths = |number: u32| given == Some(&number) && later;
@@ -127,34 +127,25 @@ impl Judged {
         let last = self.nodes.iter().rev().find(|reasons| !reasons.is_empty());
         let across = first.first().zip(last.and_then(|last| last.first())).is_some_and(|(a, b)| a.number() != b.number());
         vec![
-            lengths(CROWDED),
-            lengths(RAGGED),
-            lengths(SHORT_TRAY),
-            !by_length && by_tree && self.of_box.is_some(),
-            !by_length && !by_tree && self.of_box.is_some_and(|number| first.first().is_some_and(|next| next.number() != number)),
-            node(|reason| *reason == Kind),
-            node(|reason| *reason == Side),
-            node(|reason| matches!(reason, Record(_))),
-            node(|reason| *reason == Length),
-            node(|reason| *reason == Payload),
-            !by_length && !by_tree && self.of_box.is_none() && across,
+            ("order: 2 before another", lengths(CROWDED)),
+            ("order: 1 before another", lengths(RAGGED)),
+            ("order: 3 before another", lengths(SHORT_TRAY)),
+            ("order: 12 of box, nodes and k before the box's own", !by_length && by_tree && self.of_box.is_some()),
+            (
+                "order: the box's before a node's",
+                !by_length
+                    && !by_tree
+                    && self.of_box.is_some_and(|number| first.first().is_some_and(|next| next.number() != number)),
+            ),
+            ("order: a kind's before another of its node", node(|reason| *reason == Kind)),
+            ("order: a side's before another of its node", node(|reason| *reason == Side)),
+            ("order: the record's before another of its node", node(|reason| matches!(reason, Record(_)))),
+            ("order: the length's before another of its node", node(|reason| *reason == Length)),
+            ("order: 13 before 12 of its node", node(|reason| *reason == Payload)),
+            ("order: an earlier node's before a later one's", !by_length && !by_tree && self.of_box.is_none() && across),
         ]
     }
 }
-
-const ORDERS: &[&str] = &[
-    "order: 2 before another",
-    "order: 1 before another",
-    "order: 3 before another",
-    "order: 12 of box, nodes and k before the box's own",
-    "order: the box's before a node's",
-    "order: a kind's before another of its node",
-    "order: a side's before another of its node",
-    "order: the record's before another of its node",
-    "order: the length's before another of its node",
-    "order: 13 before 12 of its node",
-    "order: an earlier node's before a later one's",
-];
 
 /// Why the words packed for a node are not those of its words, if they are not: what is kept is read back exact, the rest within its step.
 fn node_flaw(node: &[u32; NODE], packed: &[u32; PACKED_NODE], all: &Corners) -> Option<&'static str> {
@@ -250,23 +241,26 @@ fn packing(tally: &mut Tally, random: &mut Random, case: &Case, changes: &[Chang
     let count = case.nodes.len() / NODE_BYTES;
     let packed = matches!(expected, Ok(Some(_)));
     let rows = || words(&case.nodes).as_chunks::<NODE>().0.to_vec();
-    let mut more: Vec<bool> = CHANGES.iter().map(|(change, _)| changes.contains(change)).collect();
+    let mut more: Vec<_> = CHANGES.iter().map(|(change, label)| (*label, changes.contains(change))).collect();
     more.extend(judged.orders(&numbers));
     more.extend([
-        packed,
-        expected == Ok(None),
-        packed && count == 1,
-        packed && count == MOST_NODES,
-        packed && case.k != count.div_ceil(2),
-        packed && case.room > reserve(count),
-        packed && rows().iter().any(|node| node[0] & !PAYLOAD == INTERIOR && node[1] as usize >= count),
-        packed && rows().iter().any(|node| node[15] == 1),
-        packed && rows().iter().any(|node| node[12] == 1 << 31),
-        expected == Ok(None) && case.room > 0,
-        expected == Err(3) && case.room + 1 == reserve(count),
-        expected == Err(3) && case.room == 0,
-        expected == Err(12) && count == 0,
-        own_answer != expected || own != whole,
+        ("packed: a tree", packed),
+        ("packed: none", expected == Ok(None)),
+        ("packed: a lone leaf", packed && count == 1),
+        ("packed: 8,191 nodes", packed && count == MOST_NODES),
+        ("packed: though k is another", packed && case.k != count.div_ceil(2)),
+        ("packed: into a longer tray", packed && case.room > reserve(count)),
+        (
+            "packed: though a right child is past the end",
+            packed && rows().iter().any(|node| node[0] & !PAYLOAD == INTERIOR && node[1] as usize >= count),
+        ),
+        ("packed: two-sided", packed && rows().iter().any(|node| node[15] == 1)),
+        ("packed: a power of -0", packed && rows().iter().any(|node| node[12] == 1 << 31)),
+        ("packed: none though there are bytes", expected == Ok(None) && case.room > 0),
+        ("room: one byte short", expected == Err(3) && case.room + 1 == reserve(count)),
+        ("room: none", expected == Err(3) && case.room == 0),
+        ("broken: without nodes", expected == Err(12) && count == 0),
+        (OWN, own_answer != expected || own != whole),
     ]);
     let same = got == expected && lent == whole && flaw.is_none();
     tally.case(&expected, branches, &more, same, || {
@@ -275,34 +269,12 @@ fn packing(tally: &mut Tally, random: &mut Random, case: &Case, changes: &[Chang
     });
 }
 
-const PACKED: &[&str] = &[
-    "packed: a tree",
-    "packed: none",
-    "packed: a lone leaf",
-    "packed: 8,191 nodes",
-    "packed: though k is another",
-    "packed: into a longer tray",
-    "packed: though a right child is past the end",
-    "packed: two-sided",
-    "packed: a power of -0",
-    "packed: none though there are bytes",
-    "room: one byte short",
-    "room: none",
-    "broken: without nodes",
-    OWN,
-];
-
-fn tally() -> Tally {
-    let labels: Vec<&str> = CHANGES.iter().map(|(_, label)| *label).chain(ORDERS.iter().chain(PACKED).copied()).collect();
-    Tally::new(&labels)
-}
-
 /// Packings of built trees, some packings a tree, until there are so many.
 pub fn packings(seed: u64, cases: u64) -> Tally {
     on_deep_stack(|| {
         let mut random = Random::new(seed);
         let rooms = rooms(&mut random);
-        let (mut tally, mut progress) = (tally(), Progress::new("packings", cases));
+        let (mut tally, mut progress) = (Tally::new(), Progress::new("packings", cases));
         while tally.cases < cases {
             progress.at(tally.cases);
             let grown = if random.chance(ROOMS) {
@@ -324,7 +296,7 @@ pub fn packings(seed: u64, cases: u64) -> Tally {
 /// and every length of the tray up to some bytes past the reserve.
 pub fn each_word(seed: u64, trees: u64) -> Tally {
     let mut random = Random::new(seed);
-    let mut tally = tally();
+    let mut tally = Tally::new();
     for _ in 0..trees {
         let (sound, case) = loop {
             let (words, (k, all)) = random.grown_with_box(reference::build_light_bvh, 4);

@@ -20,24 +20,27 @@ pub struct Tally {
 }
 
 impl Tally {
-    pub(crate) fn new(more: &[&str]) -> Tally {
+    pub(crate) fn new() -> Tally {
         let branches = BRANCHES.iter().map(|(_, label)| label.to_string());
         let errors = REFUSALS.iter().map(|(message, n)| format!("error {n}: {message}"));
-        let labels = branches.chain(errors).chain(more.iter().map(|label| label.to_string())).map(|label| (label, 0));
-        Tally { labels: labels.collect(), ..Tally::default() }
+        Tally { labels: branches.chain(errors).map(|label| (label, 0)).collect(), ..Tally::default() }
     }
 
+    /// Counts a case: its answer, the branches on the way to it, and which of the run's own labels it has, in the same order each time.
     pub(crate) fn case<A>(
         &mut self,
         answer: &Result<A, u32>,
         branches: Branches,
-        more: &[bool],
+        more: &[(&str, bool)],
         same: bool,
         show: impl FnOnce() -> String,
     ) {
+        if self.cases == 0 {
+            self.labels.extend(more.iter().map(|(label, _)| (label.to_string(), 0)));
+        }
         self.cases += 1;
         self.answers[answer.as_ref().err().map_or(0, |n| *n as usize)] += 1;
-        let taken = branches.all().chain(more.iter().copied());
+        let taken = branches.all().chain(more.iter().map(|(_, taken)| *taken));
         self.labels.iter_mut().zip(taken).for_each(|((_, count), taken)| *count += u64::from(taken));
         if !same {
             self.differences += 1;

@@ -14,6 +14,7 @@ use crate::inputs::walks::Words;
 use crate::oracle::reference::{self, Branch, Branches, INVALID_INDEX, LOST_UNION, marked};
 use crate::parts::{Ended, count_and_seed};
 use crate::proved;
+use std::sync::LazyLock;
 
 /// Nodes, table, work and answer.
 type Trays = [Lent<u32>; 4];
@@ -136,42 +137,25 @@ pub(crate) fn rooms(random: &mut Random) -> [Grown; 3] {
     })
 }
 
-const TREES: &[&str] = &[
-    "tree: no lamps",
-    "tree: 512 lamps",
-    "tree: 4,096 lamps",
-    "tree: over 4,096 lamps by word 0",
-    "tree: over 2^20 words",
-    "tree: lamps, but none with power",
-    "tree: leaves not in the order of their handles",
-    "tree: 16 lamps or more, a fork above each but one",
-    "tree: a root of infinite power",
-    "tree: a root whose direction is NaN",
-    "tree: a root whose box has a zero of the other sign than the box answered",
-    "split: no cost wins, and neither side is empty",
-    "refused: a lamp without power",
-    "order: 2 before a wrong length",
-    "order: 1 for the count before a handle out of place",
-    "order: 4 before a short room",
-    "order: 3 before what a record is refused for",
-    "room: more than is needed",
-];
-
 /// What a short room is called, by its place.
 const ROOMS: [&str; 4] = ["nodes", "table", "work", "answer"];
 
-/// `TREES`, then which rooms are short, by a mask from 1 up, then how long the answer is, from 0 to 8.
-fn labels() -> Vec<String> {
+/// Which rooms are short, by a mask from 1 up.
+static SHORT: LazyLock<Vec<String>> = LazyLock::new(|| {
     let short = |mask: usize| {
         let rooms: Vec<&str> = (0..4).filter(|i| mask >> i & 1 == 1).map(|i| ROOMS[i]).collect();
         format!("room: short of {}", rooms.join(" and "))
     };
-    let lengths = (0..9).map(|length| format!("answer: {length} words, {}", if length < ANSWER { "3" } else { "given" }));
-    TREES.iter().map(|label| label.to_string()).chain((1..16).map(short)).chain(lengths).collect()
-}
+    (1..16).map(short).collect()
+});
 
-/// Which of `labels` hold.
-fn ways(case: &Case, after: &Trays, answer: Result<(), u32>, branches: Branches) -> Vec<bool> {
+/// How long the answer is, from 0 to 8 words.
+static LENGTHS: LazyLock<Vec<String>> = LazyLock::new(|| {
+    (0..9).map(|length| format!("answer: {length} words, {}", if length < ANSWER { "3" } else { "given" })).collect()
+});
+
+/// What a case is.
+fn ways(case: &Case, after: &Trays, answer: Result<(), u32>, branches: Branches) -> Vec<(&'static str, bool)> {
     let (m, count) = (case.light_count as usize, case.block.first().map_or(0, |count| *count as usize));
     let layout = check_block(&case.block);
     let given = answer.is_ok();
@@ -183,27 +167,42 @@ fn ways(case: &Case, after: &Trays, answer: Result<(), u32>, branches: Branches)
     let refused = || records(&case.block).find(|record| reference::validate(record).is_err());
     let short = (0..4).filter(|i| case.rooms[*i] < needed[*i]).map(|i| 1 << i).sum::<usize>();
     let mut ways = vec![
-        given && m == 0,
-        given && m == 512,
-        given && m == MOST_LAMPS,
-        count > MOST_LAMPS,
-        case.block.len() > MOST_WORDS,
-        given && m > 0 && k == 0,
-        !leaves.is_sorted(),
-        k >= 16 && depth(&nodes[..NODE * (2 * k - 1)]) == k - 1,
-        k > 0 && nodes[12] == 0x7f80_0000,
-        k > 0 && nodes[9] == 0x7fc0_0000,
-        around.is_some_and(|around| around != nodes[3..9]),
-        branches.has(Branch::DefaultSplit) && !branches.has(Branch::MiddleCut),
-        matches!(answer, Err(5..=8)) && refused().is_some_and(|record| record[9] & !(1 << 31) == 0),
-        answer == Err(2) && case.block.len() != 1 + BLOCK_RECORD * count,
-        answer == Err(1) && layout == Err(4),
-        answer == Err(4) && case.rooms.iter().zip(reserves(m)).any(|(room, reserve)| *room < reserve),
-        answer == Err(3) && refused().is_some(),
-        given && (0..4).any(|i| case.rooms[i] > needed[i]),
+        ("tree: no lamps", given && m == 0),
+        ("tree: 512 lamps", given && m == 512),
+        ("tree: 4,096 lamps", given && m == MOST_LAMPS),
+        ("tree: over 4,096 lamps by word 0", count > MOST_LAMPS),
+        ("tree: over 2^20 words", case.block.len() > MOST_WORDS),
+        ("tree: lamps, but none with power", given && m > 0 && k == 0),
+        ("tree: leaves not in the order of their handles", !leaves.is_sorted()),
+        ("tree: 16 lamps or more, a fork above each but one", k >= 16 && depth(&nodes[..NODE * (2 * k - 1)]) == k - 1),
+        ("tree: a root of infinite power", k > 0 && nodes[12] == 0x7f80_0000),
+        ("tree: a root whose direction is NaN", k > 0 && nodes[9] == 0x7fc0_0000),
+        (
+            "tree: a root whose box has a zero of the other sign than the box answered",
+            around.is_some_and(|around| around != nodes[3..9]),
+        ),
+        (
+            "split: no cost wins, and neither side is empty",
+            branches.has(Branch::DefaultSplit) && !branches.has(Branch::MiddleCut),
+        ),
+        (
+            "refused: a lamp without power",
+            matches!(answer, Err(5..=8)) && refused().is_some_and(|record| record[9] & !(1 << 31) == 0),
+        ),
+        ("order: 2 before a wrong length", answer == Err(2) && case.block.len() != 1 + BLOCK_RECORD * count),
+        ("order: 1 for the count before a handle out of place", answer == Err(1) && layout == Err(4)),
+        (
+            "order: 4 before a short room",
+            answer == Err(4) && case.rooms.iter().zip(reserves(m)).any(|(room, reserve)| *room < reserve),
+        ),
+        ("order: 3 before what a record is refused for", answer == Err(3) && refused().is_some()),
+        ("room: more than is needed", given && (0..4).any(|i| case.rooms[i] > needed[i])),
     ];
-    ways.extend((1..16).map(|which| answer == Err(3) && short == which));
-    ways.extend((0..9).map(|length| case.rooms[3] == length && answer == if length < ANSWER { Err(3) } else { Ok(()) }));
+    ways.extend((1..).zip(SHORT.iter()).map(|(which, label)| (label.as_str(), answer == Err(3) && short == which)));
+    let fits = |length: usize| if length < ANSWER { Err(3) } else { Ok(()) };
+    ways.extend(
+        (0..).zip(LENGTHS.iter()).map(|(length, label)| (label.as_str(), case.rooms[3] == length && answer == fits(length))),
+    );
     ways
 }
 
@@ -214,8 +213,7 @@ pub fn trees(seed: u64, cases: u64) -> Tally {
 
 fn run(seed: u64, cases: u64) -> Tally {
     let mut random = Random::new(seed);
-    let labels = labels();
-    let mut tally = Tally::new(&labels.iter().map(String::as_str).chain([OWN]).collect::<Vec<&str>>());
+    let mut tally = Tally::new();
     for _ in turns("trees", cases) {
         let mut case = random.tree_case();
         case.rooms[3] = random.answer_room();
@@ -227,7 +225,7 @@ fn run(seed: u64, cases: u64) -> Tally {
         let flaw = flaw(&case, &before, &after, answer);
         let same = flaw.is_none() && proved == answer && ours == after;
         let mut more = ways(&case, &after, answer, branches);
-        more.push(own_answer != answer || own != after);
+        more.push((OWN, own_answer != answer || own != after));
         tally.case(&answer, branches, &more, same, || format!("build_light_bvh({case:08x?}): {answer:?}, {proved:?}, {flaw:?}"));
     }
     tally

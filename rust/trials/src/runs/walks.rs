@@ -56,12 +56,8 @@ impl Plot<'_> {
         }
     }
 
-    fn damaged(&self, damage: Damage) -> bool {
-        self.damages.contains(&damage)
-    }
-
-    fn more(&self) -> Vec<bool> {
-        DAMAGES.iter().map(|(damage, _)| self.damaged(*damage)).collect()
+    fn more(&self) -> Vec<(&'static str, bool)> {
+        DAMAGES.iter().map(|(damage, label)| (*label, self.damages.contains(damage))).collect()
     }
 
     /// For a message, cut where it is long.
@@ -80,21 +76,24 @@ impl Plot<'_> {
         let by_length = matches!(expected, Err(1 | 2));
         let mut more = self.more();
         more.extend([
-            chance.is_some(),
-            expected == Ok(None) && nodes > 0,
-            expected == Ok(None) && nodes == 0,
-            chance == Some(0x7fc0_0000),
-            chance == Some(0),
-            chance.is_some() && nodes == MOST_NODES,
-            chance.is_some() && u.to_bits() == 1 << 31,
-            chance.is_some() && query.iter().any(|word| !f32::from_bits(*word).is_finite()),
-            expected == Err(12) && branches.has(Branch::IntoRight),
-            expected == Err(11) && nodes == 0,
-            expected == Err(1) && !(0.0..=1.0).contains(&u),
-            by_length,
-            !by_length && self.decoded.by_reference(),
-            !by_length && !self.decoded.by_reference(),
-            self.decoded.own_sample(query, u).is_some_and(|own| own != expected),
+            ("draw: a lamp", chance.is_some()),
+            ("draw: none, no weight", expected == Ok(None) && nodes > 0),
+            ("draw: none, no nodes", expected == Ok(None) && nodes == 0),
+            ("draw: the chance is NaN", chance == Some(0x7fc0_0000)),
+            ("draw: the chance is 0", chance == Some(0)),
+            ("draw: a lamp of 8,191 nodes", chance.is_some() && nodes == MOST_NODES),
+            ("draw: a lamp by -0", chance.is_some() && u.to_bits() == 1 << 31),
+            (
+                "draw: a lamp for a query that is not finite",
+                chance.is_some() && query.iter().any(|word| !f32::from_bits(*word).is_finite()),
+            ),
+            ("draw: 12 behind a right child", expected == Err(12) && branches.has(Branch::IntoRight)),
+            ("order: 11 though there are no nodes", expected == Err(11) && nodes == 0),
+            ("order: 1 before 11", expected == Err(1) && !(0.0..=1.0).contains(&u)),
+            (BY_LENGTH, by_length),
+            (BY_REFERENCE, !by_length && self.decoded.by_reference()),
+            (BY_COPY, !by_length && !self.decoded.by_reference()),
+            (OWN, self.decoded.own_sample(query, u).is_some_and(|own| own != expected)),
         ]);
         let shown = || format!("draw({query:08x?}, {:08x}) of {}: {got:08x?}, not {expected:08x?}", u.to_bits(), self.shown());
         tally.case(&expected, branches, &more, got == expected, shown);
@@ -109,19 +108,19 @@ impl Plot<'_> {
         let mut more = self.more();
         let walked = branches.has(Branch::FromLeft) || branches.has(Branch::FromRight);
         more.extend([
-            walked && expected.is_ok_and(|chance| f32::from_bits(chance) > 0.0),
-            expected == Ok(0) && leaf.is_none(),
-            expected == Ok(0) && leaf == Some(u32::MAX),
-            expected == Ok(0) && branches.has(Branch::NoWeight),
-            expected == Ok(0x7fc0_0000),
-            expected.is_ok() && walked && self.decoded.nodes() == MOST_NODES,
-            expected == Err(12) && walked,
-            expected == Err(12) && self.decoded.nodes() == 0,
-            expected == Err(2) && self.nodes.words().len() % NODE_BYTES != 0,
-            by_length,
-            !by_length && self.decoded.by_reference(),
-            !by_length && !self.decoded.by_reference(),
-            self.decoded.own_pmf(query, handle).is_some_and(|own| own != expected),
+            ("chance: above 0, by a walk", walked && expected.is_ok_and(|chance| f32::from_bits(chance) > 0.0)),
+            ("chance: 0, past the table", expected == Ok(0) && leaf.is_none()),
+            ("chance: 0, no leaf", expected == Ok(0) && leaf == Some(u32::MAX)),
+            ("chance: 0, no weight", expected == Ok(0) && branches.has(Branch::NoWeight)),
+            ("chance: NaN", expected == Ok(0x7fc0_0000)),
+            ("chance: of 8,191 nodes", expected.is_ok() && walked && self.decoded.nodes() == MOST_NODES),
+            ("chance: 12 behind a step up", expected == Err(12) && walked),
+            ("chance: 12, no nodes", expected == Err(12) && self.decoded.nodes() == 0),
+            ("order: 2 before 1", expected == Err(2) && !self.nodes.words().len().is_multiple_of(NODE_BYTES)),
+            (BY_LENGTH, by_length),
+            (BY_REFERENCE, !by_length && self.decoded.by_reference()),
+            (BY_COPY, !by_length && !self.decoded.by_reference()),
+            (OWN, self.decoded.own_pmf(query, handle).is_some_and(|own| own != expected)),
         ]);
         let shown = || format!("chance({query:08x?}, {handle:x}) of {}: {got:08x?}, not {expected:08x?}", self.shown());
         tally.case(&expected, branches, &more, got == expected, shown);
@@ -132,56 +131,12 @@ const BY_LENGTH: &str = "oracle: document 01's own check of lengths";
 const BY_REFERENCE: &str = "oracle: the reference itself";
 const BY_COPY: &str = "oracle: the copy of its loop, some word decodes to no node of the Rust";
 
-const DRAWS: &[&str] = &[
-    "draw: a lamp",
-    "draw: none, no weight",
-    "draw: none, no nodes",
-    "draw: the chance is NaN",
-    "draw: the chance is 0",
-    "draw: a lamp of 8,191 nodes",
-    "draw: a lamp by -0",
-    "draw: a lamp for a query that is not finite",
-    "draw: 12 behind a right child",
-    "order: 11 though there are no nodes",
-    "order: 1 before 11",
-    BY_LENGTH,
-    BY_REFERENCE,
-    BY_COPY,
-    OWN,
-];
-
-const CHANCES: &[&str] = &[
-    "chance: above 0, by a walk",
-    "chance: 0, past the table",
-    "chance: 0, no leaf",
-    "chance: 0, no weight",
-    "chance: NaN",
-    "chance: of 8,191 nodes",
-    "chance: 12 behind a step up",
-    "chance: 12, no nodes",
-    "order: 2 before 1",
-    BY_LENGTH,
-    BY_REFERENCE,
-    BY_COPY,
-    OWN,
-];
-
-fn labels(more: &[&'static str]) -> Vec<&'static str> {
-    DAMAGES.iter().map(|(_, label)| *label).chain(more.iter().copied()).collect()
-}
-
 /// Walks over trees, some walks a tree, until there are so many.
-fn run(
-    what: &'static str,
-    more: &[&'static str],
-    seed: u64,
-    cases: u64,
-    mut walk: impl FnMut(&mut Random, &Plot, &mut Tally) + Send,
-) -> Tally {
+fn run(what: &'static str, seed: u64, cases: u64, mut walk: impl FnMut(&mut Random, &Plot, &mut Tally) + Send) -> Tally {
     on_deep_stack(|| {
         let mut random = Random::new(seed);
         let rooms = rooms(&mut random);
-        let (mut tally, mut progress) = (Tally::new(&labels(more)), Progress::new(what, cases));
+        let (mut tally, mut progress) = (Tally::new(), Progress::new(what, cases));
         while tally.cases < cases {
             progress.at(tally.cases);
             let plot = Plot::new(&mut random, &rooms);
@@ -195,7 +150,7 @@ fn run(
 
 pub fn draws(seed: u64, cases: u64) -> Tally {
     let mut asked = (0, [0; 6], vec![]);
-    run("draws", DRAWS, seed, cases, move |random, plot, tally| {
+    run("draws", seed, cases, move |random, plot, tally| {
         // some u for each query
         let (turn, query, edges) = &mut asked;
         if *turn % 4 == 0 {
@@ -209,7 +164,7 @@ pub fn draws(seed: u64, cases: u64) -> Tally {
 }
 
 pub fn chances(seed: u64, cases: u64) -> Tally {
-    run("chances", CHANCES, seed, cases, |random, plot, tally| {
+    run("chances", seed, cases, |random, plot, tally| {
         let (query, handle) = (plot.query(random), random.walk_handle(plot.table.words().len() / 4));
         plot.chance(tally, &query, handle);
     })
@@ -218,7 +173,7 @@ pub fn chances(seed: u64, cases: u64) -> Tally {
 /// Each word of each node of some small trees replaced by each kind of wrong value in turn: draws and chances.
 pub fn each_word(seed: u64, trees: u64) -> [Tally; 2] {
     let mut random = Random::new(seed);
-    let mut tallies = [DRAWS, CHANCES].map(|more| Tally::new(&labels(more)));
+    let mut tallies = [(); 2].map(|()| Tally::new());
     for _ in 0..trees {
         // a query that all is drawn for, so that an answer turns on the word
         let (sound, query) = loop {

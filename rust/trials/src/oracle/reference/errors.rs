@@ -12,69 +12,62 @@ impl PbrtError {
     }
 }
 
-/// Document 01's number for each error that the functions here can give.
-pub const REFUSALS: &[(&str, u32)] = &[
-    ("Light bounds contain a non-finite coordinate.", 5),
-    ("Light bounds have min greater than max.", 6),
-    ("Light bounds contain a non-finite value.", 5),
-    ("Light bounds direction must be non-zero.", 7),
-    ("Light bounds contain an invalid range.", 8),
-    ("Importance input contains a non-finite value.", 5),
-    ("Light direction must be finite and non-zero.", 7),
-    (MISPLACED, 4),
-    ("Light emission or scale is invalid.", 8),
-    ("Spot light cone is invalid.", 8),
-    ("Area light triangle has zero area.", 9),
-    ("Area light geometric normal must be finite and non-zero.", 7),
-    ("Area light group has no triangles.", 9),
-    (LOST, LOST_UNION),
-    ("Power light weights must be finite and non-negative.", 8),
-    ("Light BVH sample coordinate is invalid.", 11),
-    (PAST_LEFT, 12),
-    (PAST_RIGHT, 12),
-    (SPENT_DRAW, 12),
-    (PAST_LEAF, 12),
-    (PAST_PARENT, 12),
-    (CHILDLESS_PARENT, 12),
-    (NOT_OWNED, 12),
-    (SPENT_CHANCE, 12),
-    (UNKNOWN_NODE, 12),
-    (UNKNOWN_PARENT, 12),
-    (UNKNOWN_SIDE, 12),
-    ("Non-empty Light BVH must have global bounds.", 12),
-    ("Light BVH global bounds require non-empty nodes and handles.", 12),
-    (BOX_NOT_FINITE, 5),
-    (BOX_INVERTED, 6),
-    ("Light BVH direction must be finite and non-zero.", 7),
-    ("Light BVH payload exceeds the 31-bit packed index limit.", 13),
-    ("Light BVH node {index} has an invalid parent.", 12),
-    ("Light BVH nodes do not satisfy the DFS left-child invariant.", 12),
-    (PACKED_UNKNOWN_NODE, 12),
-    (PACKED_UNKNOWN_SIDE, 12),
-];
+macro_rules! refusals {
+    ($($number:literal $($name:ident =)? $message:literal;)*) => {
+        $($(pub const $name: &str = $message;)?)*
 
-/// The walks' errors; no words lead to the two that are not here, "reached an invalid node" (it was weighed) and "has no right child".
-pub const SPENT_DRAW: &str = "Light BVH traversal exceeded its node limit.";
-pub const PAST_LEAF: &str = "Light BVH PMF reached an invalid leaf.";
-pub const PAST_PARENT: &str = "Light BVH PMF reached an invalid parent.";
-pub const CHILDLESS_PARENT: &str = "Light BVH PMF parent has no right child.";
-pub const NOT_OWNED: &str = "Light BVH PMF child is not owned by its parent.";
-pub const SPENT_CHANCE: &str = "Light BVH PMF exceeded its node limit.";
-/// The messages that substitution.rs gives to their panics.
-pub const PAST_LEFT: &str = "the left child is past the end";
-pub const PAST_RIGHT: &str = "the right child is past the end";
-/// Document 01's own: no node of the Rust has such words.
-pub const UNKNOWN_NODE: &str = "the node entered has an unknown kind";
-pub const UNKNOWN_PARENT: &str = "the parent has an unknown kind";
-pub const UNKNOWN_SIDE: &str = "the node weighed has an unknown side";
+        /// Document 01's number for each error that the functions here can give.
+        pub const REFUSALS: &[(&str, u32)] = &[$(($message, $number)),*];
+    };
+}
 
-/// The same of the packing.
-pub const PACKED_UNKNOWN_NODE: &str = "a packed node has an unknown kind";
-pub const PACKED_UNKNOWN_SIDE: &str = "a packed node has an unknown side";
-/// The messages that substitution.rs gives to the one error of the overall box. No words lead to the packing's two others, "node count
-/// exceeds" (there are at most 8,191) and "quantization overflowed" (a share is at most 1 or NaN).
-const BOX_NOT_FINITE: &str = "Global Light BVH bounds are not finite.";
-const BOX_INVERTED: &str = "Global Light BVH bounds have min greater than max.";
+// No words lead to two errors of the walks, "reached an invalid node" (it was weighed) and "has no right child", nor to two of the packing,
+// "node count exceeds" (there are at most 8,191) and "quantization overflowed" (a share is at most 1 or NaN).
+refusals! {
+    5 "Light bounds contain a non-finite coordinate.";
+    6 "Light bounds have min greater than max.";
+    5 "Light bounds contain a non-finite value.";
+    7 "Light bounds direction must be non-zero.";
+    8 "Light bounds contain an invalid range.";
+    5 "Importance input contains a non-finite value.";
+    7 "Light direction must be finite and non-zero.";
+    // the one error that comes before a short slice
+    4 MISPLACED = "Light handles must match the global LightRecord order.";
+    8 "Light emission or scale is invalid.";
+    8 "Spot light cone is invalid.";
+    9 "Area light triangle has zero area.";
+    7 "Area light geometric normal must be finite and non-zero.";
+    9 "Area light group has no triangles.";
+    // the message that substitution.rs gives to any error of a union within a group or a tree
+    10 LOST = "a union's operand fails its check";
+    8 "Power light weights must be finite and non-negative.";
+    11 "Light BVH sample coordinate is invalid.";
+    // the messages that substitution.rs gives to the panics of the walks
+    12 PAST_LEFT = "the left child is past the end";
+    12 PAST_RIGHT = "the right child is past the end";
+    12 SPENT_DRAW = "Light BVH traversal exceeded its node limit.";
+    12 PAST_LEAF = "Light BVH PMF reached an invalid leaf.";
+    12 PAST_PARENT = "Light BVH PMF reached an invalid parent.";
+    12 CHILDLESS_PARENT = "Light BVH PMF parent has no right child.";
+    12 NOT_OWNED = "Light BVH PMF child is not owned by its parent.";
+    12 SPENT_CHANCE = "Light BVH PMF exceeded its node limit.";
+    // document 01's own: no node of the Rust has such words
+    12 UNKNOWN_NODE = "the node entered has an unknown kind";
+    12 UNKNOWN_PARENT = "the parent has an unknown kind";
+    12 UNKNOWN_SIDE = "the node weighed has an unknown side";
+    12 "Non-empty Light BVH must have global bounds.";
+    12 "Light BVH global bounds require non-empty nodes and handles.";
+    // the messages that substitution.rs gives to the one error of the overall box
+    5 BOX_NOT_FINITE = "Global Light BVH bounds are not finite.";
+    6 BOX_INVERTED = "Global Light BVH bounds have min greater than max.";
+    7 "Light BVH direction must be finite and non-zero.";
+    13 "Light BVH payload exceeds the 31-bit packed index limit.";
+    12 "Light BVH node {index} has an invalid parent.";
+    12 "Light BVH nodes do not satisfy the DFS left-child invariant.";
+    // document 01's own
+    12 PACKED_UNKNOWN_NODE = "a packed node has an unknown kind";
+    12 PACKED_UNKNOWN_SIDE = "a packed node has an unknown side";
+}
 
 pub(crate) fn invalid_box(min: [f32; 3], max: [f32; 3]) -> PbrtError {
     let finite = min.into_iter().chain(max).all(f32::is_finite);
@@ -88,12 +81,6 @@ pub(crate) fn past_left() -> PbrtError {
 pub(crate) fn past_right() -> PbrtError {
     PbrtError(PAST_RIGHT)
 }
-
-/// The one error that comes before a short slice.
-pub(crate) const MISPLACED: &str = "Light handles must match the global LightRecord order.";
-
-/// The message that substitution.rs gives to any error of a union within a group or a tree.
-const LOST: &str = "a union's operand fails its check";
 
 pub(crate) fn lost(_: PbrtError) -> PbrtError {
     PbrtError(LOST)

@@ -119,7 +119,7 @@ macro_rules! files {
 }
 
 /// The reference over document 01's library functions.
-#[allow(dead_code)]
+#[allow(dead_code, clippy::all)]
 pub mod oracle {
     pub use super::INVALID_INDEX;
     use super::{Branch, Light, PbrtError, Standin, invalid_box, lost, mark, past_left, past_right};
@@ -129,7 +129,7 @@ pub mod oracle {
 }
 
 /// The reference over Rust's own.
-#[allow(dead_code)]
+#[allow(dead_code, clippy::all)]
 pub mod native {
     pub use super::INVALID_INDEX;
     use super::{Light, PbrtError, invalid_box, lost, past_left, past_right};

@@ -1,6 +1,6 @@
 //! The proved importance and union beside the reference's with Rust's own library functions.
 
-use crate::offices::Office;
+use super::offices::Office;
 use crate::timing::{INPUTS, SAMPLES, calls, row};
 use trials::inputs::random::Random;
 use trials::inputs::records::{Query, Record, vectors};

@@ -1,33 +1,25 @@
 //! The proved build beside the reference's with Rust's own library functions.
 
-use crate::offices::{LAMPS, Office};
-use crate::timing::{SAMPLES, builds};
-use trials::inputs::random::Random;
+use super::offices::{Office, builds, table};
+use crate::timing::SAMPLES;
 use trials::inputs::trees::{lent, reserves};
 use trials::proved::tree_build_light_bvh;
 
 pub fn rows() {
-    println!("Rooms of points, spots and panels; microseconds a build, medians of {SAMPLES} samples.");
-    println!(
-        "Proved: the whole call by C, block words to node words. Rust: build_light_bvh with its own library functions, its records ready."
+    let above = format!(
+        "Rooms of points, spots and panels; microseconds a build, medians of {SAMPLES} samples.\n\
+        Proved: the whole call by C, block words to node words. Rust: build_light_bvh with its own library functions, its records ready.\n\
+        lamps | proved us | Rust us | ratio"
     );
-    println!("lamps | proved us | Rust us | ratio");
-    let mut random = Random::new(0);
-    for lamps in LAMPS {
-        let block = Office::new(&mut random, lamps).block;
+    table(&above, |_, Office { lamps, block, .. }| {
         let mut trays = reserves(lamps).map(|reserve| vec![0; reserve]);
         let records = own::records(&block);
-        builds(
-            &lamps.to_string(),
-            [
-                &mut || {
-                    tree_build_light_bvh(lamps as u32, &block, lent(&mut trays)).unwrap();
-                    trays[3][0].into()
-                },
-                &mut || own::build(&records) as u64,
-            ],
-        );
-    }
+        let mut proved = || {
+            tree_build_light_bvh(lamps as u32, &block, lent(&mut trays)).unwrap();
+            trays[3][0].into()
+        };
+        builds(&lamps.to_string(), [&mut proved, &mut || own::build(&records) as u64]);
+    });
 }
 
 /// The reference behind a call, since the linker inlines no proved function either.

@@ -1,21 +1,19 @@
 //! The proved packing, into a lent slice, beside the reference's with Rust's own library functions, which allocates.
 
-use crate::offices::{LAMPS, Office};
-use crate::timing::{SAMPLES, builds};
+use super::offices::{builds, table};
+use crate::timing::SAMPLES;
 use trials::inputs::packing::reserve;
-use trials::inputs::random::Random;
 use trials::proved::packed_pack_light_bvh;
 
 pub fn rows() {
-    println!("Rooms of points, spots and panels; microseconds a packing, medians of {SAMPLES} samples.");
-    println!(
-        "Proved: the whole call by C, node bytes to packed bytes lent. Rust: pack_light_bvh with its own library functions, over its own nodes, to vectors of its own; or from the same bytes to the same."
+    let above = format!(
+        "Rooms of points, spots and panels; microseconds a packing, medians of {SAMPLES} samples.\n\
+        Proved: the whole call by C, node bytes to packed bytes lent. Rust: pack_light_bvh with its own library functions, over its own \
+        nodes, to vectors of its own; or from the same bytes to the same.\n\
+        lamps | nodes | Rust from | proved us | Rust us | ratio"
     );
-    println!("lamps | nodes | Rust from | proved us | Rust us | ratio");
-    let mut random = Random::new(0);
-    for lamps in LAMPS {
-        let office = Office::new(&mut random, lamps);
-        let (tree, nodes) = (&office.tree, office.node_bytes());
+    table(&above, |_, office| {
+        let (lamps, tree, nodes) = (office.lamps, &office.tree, office.node_bytes());
         let (k, all) = (tree.bounded_handles.len(), tree.all_bounds.unwrap());
         let corners = std::array::from_fn(|i| [all.min, all.max][i / 3][i % 3].to_bits());
         let mut out = vec![0; reserve(tree.nodes.len())];
@@ -27,7 +25,7 @@ pub fn rows() {
         let mut written = vec![0; reserve(tree.nodes.len())];
         builds(&label("bytes"), [&mut proved, &mut || own::from_bytes(&nodes, tree, &mut written)]);
         assert!(out == written, "the words packed of {lamps} lamps from bytes");
-    }
+    });
 }
 
 /// The reference behind a call, since the linker inlines no proved function either.

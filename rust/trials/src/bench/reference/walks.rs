@@ -1,7 +1,7 @@
 //! The proved draw and chance by name beside the reference's with Rust's own library functions.
 
-use crate::offices::{LAMPS, Office};
-use crate::timing::{INPUTS, SAMPLES, pass};
+use super::offices::{Office, pass, table};
+use crate::timing::{INPUTS, SAMPLES};
 use trials::inputs::random::Random;
 use trials::inputs::records::{Query, vectors};
 use trials::inputs::walks::{NONE, bytes};
@@ -10,18 +10,15 @@ use trials::oracle::reference::native::light_bvh::{LightBVH, bvh_light_sampler_p
 use trials::proved::{sampler_pmf, sampler_sample};
 
 pub fn rows() {
-    println!("Rooms of points, spots and panels, points on benches and walls; nanoseconds a call, medians of {SAMPLES} samples.");
-    println!(
-        "Proved: the whole call by C, over node bytes. Rust: light_bvh.rs with its own library functions, over its own nodes."
+    let above = format!(
+        "Rooms of points, spots and panels, points on benches and walls; nanoseconds a call, medians of {SAMPLES} samples.\n\
+        Proved: the whole call by C, over node bytes. Rust: light_bvh.rs with its own library functions, over its own nodes.\n\
+        walk | lamps | normals | forks | proved ns | Rust ns | ratio"
     );
-    println!("walk | lamps | normals | forks | proved ns | Rust ns | ratio");
-    let mut random = Random::new(0);
-    for lamps in LAMPS {
-        let place = Place::new(&mut random, lamps);
-        for normals in [false, true] {
-            place.rows(&mut random, normals);
-        }
-    }
+    table(&above, |random, office| {
+        let place = Place { nodes: office.node_bytes(), table: bytes(&office.tree.handle_to_leaf), office };
+        [false, true].into_iter().for_each(|normals| place.rows(random, normals));
+    });
 }
 
 /// An office, with its nodes and table as the proved functions read them.
@@ -32,11 +29,6 @@ struct Place {
 }
 
 impl Place {
-    fn new(random: &mut Random, lamps: usize) -> Place {
-        let office = Office::new(random, lamps);
-        Place { nodes: office.node_bytes(), table: bytes(&office.tree.handle_to_leaf), office }
-    }
-
     /// How many forks lie above a lamp's leaf.
     fn above(&self, handle: u32) -> usize {
         let parent = |place: &u32| Some(self.office.tree.nodes[*place as usize].parent()).filter(|parent| *parent != NONE);
@@ -44,7 +36,7 @@ impl Place {
     }
 
     fn rows(&self, random: &mut Random, normals: bool) {
-        let lamps = self.office.tree.handle_to_leaf.len();
+        let lamps = self.office.lamps;
         let queries: Vec<Query> = std::iter::repeat_with(|| self.office.room.query(random))
             .filter(|query| query[3..].iter().any(|word| *word << 1 != 0) == normals)
             .take(INPUTS)
