@@ -19,7 +19,7 @@ abbrev Inv-loop : tie.InvT-loop
 Inv-loop nodes count leaf held entries₀ place₀ here₀ pmf₀ entries place here pmf =
     (node here ≡ nodeAt (wordsOf nodes) place)
     × ((q : Query) → held ≡ prepared q
-      → ascend (wordsOf nodes) q entries place pmf .outcome ≡ ascend (wordsOf nodes) q count leaf onef .outcome)
+    → ascend (wordsOf nodes) q entries place pmf .outcome ≡ ascend (wordsOf nodes) q count leaf onef .outcome)
 
 abbrev μ-loop : tie.MeasureT-loop
 μ-loop nodes count leaf held entries₀ place₀ here₀ pmf₀ entries place here pmf = entries
@@ -45,8 +45,8 @@ loop-again c =
     let stands = ap parentOf (sym (loop .inv .0)) ∙ sym (at .parent-of .ensures) ∙ ap aboveOf (inner .before .before .parent .given .1) in (
       above .node-at2 .ensures,
       λ q h.
-      let step = rise-held _ _ q h _ _ ∙ sym (c .before .before .before .rise .ensures) ∙ ap factorOf (c .before .share .given .1) in
-      sym (ascend-part _ _ _ _ _ (at .before .loop-test .taken) stands (inner .if1 .left) step) ∙ loop .inv .1 q h,
+          let step = rise-held _ _ q h _ _ ∙ sym (c .before .before .before .rise .ensures) ∙ ap factorOf (c .before .share .given .1) in
+          sym (ascend-part _ _ _ _ _ (at .before .loop-test .taken) stands (inner .if1 .left) step) ∙ loop .inv .1 q h,
     )
 
 returns-2 : tie.Need-returns-2 Inv-loop μ-loop
