@@ -12,10 +12,8 @@ use Rattle.words.specs.Tray.{tray}
 use Rattle.words.specs.TrayLaws.{tray-full}
 use Rattle.words.proofs.Reserves.{tray-zeroed}
 use Rattle.words.proofs.RowLaws.{Written, written-none, written-one, written-under, written-behind, Walked, walked-none, walked-one, walked-refused, walked-all}
-use Rattle.light_rows.specs.RecordWords.{recordList, writtenAt}
 use Rattle.light_bounds.specs.declared.light_bounds.LightBounds.{LightBounds}
-use Rattle.light_rows.specs.RecordPlaces.{writtenAt-sets}
-use Rattle.light_rows.specs.Block.{boundsWords, boundsRow, blockWords, handlePlace, recordPlace, packExhaustiveBounds}
+use Rattle.light_rows.specs.Block.{boundsWords, boundsRow, blockWords, handlePlace, packExhaustiveBounds}
 use Rattle.lamps.specs.Build.{Passed, nextBounds, buildLightBounds}
 use Rattle.lamps.specs.LampList.{lampList}
 use Rattle.lamps.proofs.BuildLaws.{list-counted, build-refused, build-given, row-width, length-block}
@@ -44,23 +42,19 @@ taking-none list m d few room =
 
 module _ {list : List ℕ} {m : ℕ} {block₀ block : List ℕ} {place at : ℕ} (t : Taking list m block₀ block place at) where
   pub taking-next : (p : Passed) → place < m → nextBounds list at ≡ given p
-      → Taking list m block₀ (writtenAt (set block (handlePlace place) place) (recordPlace place) (p .bounds)) (place + 1) (p .next .at)
+      → Taking list m block₀ (sets block (handlePlace place) (boundsRow place (p .bounds))) (place + 1) (p .next .at)
   taking-next p h e =
       let n : length (t .done) ≡ place = t .walked .size in
-      let s : recordPlace place ≡ suc (handlePlace place) = omega arith in
-      let room : recordPlace place + 13 ≤ length (set block (handlePlace place) place) = rw length-set (omega (arith, t .room)) in
-      let put : writtenAt (set block (handlePlace place) place) (recordPlace place) (p .bounds) ≡ sets block (handlePlace place) (boundsRow place (p .bounds)) =
-      writtenAt-sets (set block (handlePlace place) place) (recordPlace place) (p .bounds) room
-      ∙ ap (λ (k : ℕ). sets (set block (handlePlace place) place) k (recordList (p .bounds))) s in
       let behind : 1 + boundsWords * length (t .done) ≡ handlePlace place = ap (λ (k : ℕ). 1 + boundsWords * k) n in
-      let row = written-one boundsRow boundsWords row-width (p .bounds) (handlePlace place) (t .written) behind (omega (arith, t .room, t .written .same)) in
+      let row = written-one boundsRow boundsWords row-width (p .bounds) (handlePlace place) (t .written) behind
+      (omega (arith, t .room, t .written .same)) in
       record {
         few = t .few;
-        room = rw (put, length-sets) (t .room);
+        room = rw length-sets (t .room);
         within = omega arith;
         done = t .done ++ p .bounds ∷ [];
         walked = walked-one (boundsWalk list) p (t .walked) h e;
-        written = rw put (rw n at row);
+        written = rw n at row;
       }
 
 module _ (d : List ℕ) {list l : List ℕ} {m place at : ℕ} (t : Taking list m (set d 0 m) l place at) (counted : count (lampList list) ≡ given m)

@@ -13,8 +13,8 @@ use super::lamp_list::Step;
 use super::lamp_list::check_list;
 use light_bounds::light_bounds::Bounded;
 use light_bounds::light_bounds::LightBounds;
-use light_rows::block::EXHAUSTIVE_BOUNDS_WORDS;
-use light_rows::record_words::write_record;
+use light_rows::block::block_words;
+use light_rows::block::write_row;
 use words::answers::Counted;
 use words::fill::zero_words;
 use words::refusals::Refusal;
@@ -42,7 +42,8 @@ fn next_bounds(list: &[u32], cursor: Cursor) -> Next
     }
 }
 
-// The block of a list: 1 + 14m words, the side last in each record. Refusals 2, 1, 4, 3 leave the lent words as they are, later ones zero 1 + 14m of them.
+// The block of a list: 1 + 14m words, the side last in each record. Refusals 2, 1, 4, 3 leave the lent words as they
+// are, later ones zero 1 + 14m of them.
 pub fn build_light_bounds(list: &[u32], block: &mut [u32]) -> Counted
     ensures { λ r. ⌜ counted r ≡ count (buildLightBounds (now (list .entry)) (length (now (block .entry)))) ⌝ }
     ensures { λ _. ⌜ now (block .exit) ≡ tray packExhaustiveBounds (blockWords (getD (now (list .entry)) 0 0))
@@ -50,7 +51,7 @@ pub fn build_light_bounds(list: &[u32], block: &mut [u32]) -> Counted
 {
     match check_list(list) {
         Counted::Count(m) => {
-            if block.len() < 1 + EXHAUSTIVE_BOUNDS_WORDS * m {
+            if block.len() < block_words(m) {
                 return Counted::Refused(Refusal::ShortTray);
             }
             write_block(list, m, block)
@@ -73,12 +74,11 @@ fn write_block(list: &[u32], m: usize, block: &mut [u32]) -> Counted
     while place < m {
         match next_bounds(list, cursor) {
             Next::Bounds(record, next) => {
-                block[1 + EXHAUSTIVE_BOUNDS_WORDS * place] = place as u32;
-                write_record(block, 2 + EXHAUSTIVE_BOUNDS_WORDS * place, record);
+                write_row(block, place as u32, record);
                 cursor = next;
             }
             Next::Refused(why) => {
-                zero_words(block, 0, 1 + EXHAUSTIVE_BOUNDS_WORDS * m);
+                zero_words(block, 0, block_words(m));
                 return Counted::Refused(why);
             }
         }

@@ -23,10 +23,12 @@ use light_bounds::bounds::union;
 use light_bounds::light_bounds::validate;
 use light_rows::block::check_handles;
 use light_rows::block::check_layout;
+use light_rows::block::light;
+use light_rows::block::light_box;
+use light_rows::block::light_phi;
 use light_rows::nodes::INVALID_INDEX;
 use light_rows::nodes::NODE_WORDS;
-use light_split::lights::light;
-use light_split::lights::light_box;
+use light_rows::nodes::head_at;
 use words::answers::Counted;
 use words::fill::fill_words;
 use words::fill::zero_words;
@@ -102,8 +104,7 @@ fn check_records(block: &[u32], m: usize) -> Validity
 fn is_powered(block: &[u32], handle: u32) -> bool
     ensures { λ r. ⌜ r ≡ isPowered (now (block .entry)) handle ⌝ }
 {
-    let record = light(block, handle);
-    record.phi > 0.0
+    light_phi(block, handle) > 0.0
 }
 
 // Their handles, in order, to the front of the slice, and how many they are.
@@ -173,7 +174,7 @@ fn table_leaves(nodes: &[u32], n: usize, table: &mut [u32])
 {
     let mut i: u32 = 0;
     while wide(i) < n {
-        let head = nodes[NODE_WORDS * wide(i)];
+        let head = head_at(nodes, wide(i));
         if kind_of(head) == 1 {
             let handle = wide(handle_of(head));
             if handle < table.len() {

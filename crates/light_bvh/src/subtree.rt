@@ -11,31 +11,22 @@ ghost use Rattle.light_bvh.specs.Subtree.{labelOf, buildSubtree, subtree
 ghost use Rattle.light_bvh.specs.Subtree.{splitCount, splitHandles, unionAt, joinedWords};
 use light_bounds::light_bounds::Bounded;
 use light_bounds::light_bounds::union;
-use light_rows::block::EXHAUSTIVE_BOUNDS_WORDS;
+use light_rows::block::label;
+use light_rows::block::light;
 use light_rows::nodes::NODE_WORDS;
+use light_rows::nodes::bounds_in;
 use light_rows::nodes::write_interior;
 use light_rows::nodes::write_leaf;
-use light_rows::record_words::record_or_zeros;
-use light_split::lights::light;
 use light_split::partition::partition_handles;
 use light_split::split::Chosen;
 use light_split::split::choose_split;
 use words::answers::Counted;
-use words::places::wide;
-use words::places::word_or_zero;
 use words::refusals::Refusal;
 
 // Whether a stretch has its tree: a union's operand can fail its check.
 pub(crate) enum Subtree {
     Built,
     Lost,
-}
-
-// The label of a row.
-fn label(block: &[u32], handle: u32) -> u32
-    ensures { λ r. ⌜ r ≡ labelOf (now (block .entry)) handle ⌝ }
-{
-    word_or_zero(block, 1 + EXHAUSTIVE_BOUNDS_WORDS * wide(handle))
 }
 
 // Parts the stretch at its best cut: how many handles the left half has.
@@ -67,8 +58,8 @@ fn union_children(nodes: &[u32], right: usize) -> Bounded
     requires { ⌜ right < 2 ^ 30 ⌝ }
     ensures { λ r. ⌜ bounded r ≡ unionAt (now (nodes .entry)) right ⌝ }
 {
-    let left_bounds = record_or_zeros(nodes, NODE_WORDS + 3);
-    let right_bounds = record_or_zeros(nodes, NODE_WORDS * right + 3);
+    let left_bounds = bounds_in(nodes, 1);
+    let right_bounds = bounds_in(nodes, right);
     union(left_bounds, right_bounds)
 }
 

@@ -1,4 +1,5 @@
--- The bounds block: `pack_exhaustive_bounds` of `light_sampler.rs`. A count, then rows of a handle and a record. Definitions only. Assumes nothing.
+-- The bounds block: `pack_exhaustive_bounds` of `light_sampler.rs`. A count, then rows of a handle and a record. The layout of
+-- a row is said here alone. Definitions only. Assumes nothing.
 use Prim.Native.Nat.{ℕ, _+_, _*_}
 use mathlib.Core.Bool.{Bool, cond, _&&_}
 use mathlib.Core.List.{List, _∷_}
@@ -46,7 +47,8 @@ handleAt ws i = eqb (getD ws (handlePlace i) 0) i
 unfoldable pub blockLayout : List ℕ → Answer ℕ
 blockLayout ws =
     let m = getD ws 0 0 in
-    cond (crowded ws) (refused 2) (cond (eqb (length ws) (blockWords m) && below (sideAt ws) m) (given m) (refused 1))
+    cond (crowded ws) (refused 2)
+    (cond (eqb (length ws) (blockWords m) && below (sideAt ws) m) (given m) (refused 1))
 
 -- then 4
 unfoldable pub blockHandles : List ℕ → Answer ℕ

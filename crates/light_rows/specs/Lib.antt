@@ -1,4 +1,5 @@
 pub mod RecordWords
+pub mod RecordRow
 pub mod RecordPlaces
 pub mod RecordLaws
 pub mod QueryWords

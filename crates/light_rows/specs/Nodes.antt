@@ -1,5 +1,6 @@
--- A node of the light tree as sixteen words: head, right child, parent, record. The head's top bits are 01 at a leaf, with its handle below, and 10 at an
--- interior node, with its left child. The layout of a node is said here alone. Definitions only. Assumes nothing.
+-- A node of the light tree as sixteen words: head, right child, parent, record. The head's top bits are 01 at a leaf, with
+-- its handle below, and 10 at an interior node, with its left child. The layout of a node is said here alone.
+-- Definitions only. Assumes nothing.
 use Prim.Native.Nat.{ℕ, suc, _+_, _*_, _/_, _%_}
 use mathlib.Core.Bool.{Bool, cond, _&&_}
 use mathlib.Core.List.{List, _∷_}
@@ -22,12 +23,19 @@ pub data LightBVHNode : Type 0 where
 abbrev pub invalidIndex : ℕ
 invalidIndex = 0xffff_ffff
 
+-- `NODE_WORDS`: three words, then the record
 abbrev pub nodeWords : ℕ
 nodeWords = 3 + recordWords
 
--- the places of a node's head and of its record
+-- the places of a node's head, of its other words and of its record
 abbrev pub nodePlace : ℕ → ℕ
 nodePlace i = nodeWords * i
+
+abbrev pub rightChildPlace : ℕ → ℕ
+rightChildPlace i = nodePlace i + 1
+
+abbrev pub parentPlace : ℕ → ℕ
+parentPlace i = nodePlace i + 2
 
 abbrev pub boundsPlace : ℕ → ℕ
 boundsPlace i = nodePlace i + 3
@@ -86,7 +94,9 @@ nodeOf head right p =
 -- the node at a place, 12 past the end
 unfoldable pub nodeAt : List ℕ → ℕ → Answer LightBVHNode
 nodeAt ws i =
-    cond (leb (nodePlace (suc i)) (length ws)) (nodeOf (getD ws (nodePlace i) 0) (getD ws (nodePlace i + 1) 0) (getD ws (nodePlace i + 2) 0)) (refused 12)
+    cond (leb (nodePlace (suc i)) (length ws))
+    (nodeOf (getD ws (nodePlace i) 0) (getD ws (rightChildPlace i) 0) (getD ws (parentPlace i) 0))
+    (refused 12)
 
 -- its record, 12 past the end or where the side is unknown
 unfoldable pub boundsAt : List ℕ → ℕ → Answer LightBounds

@@ -1,5 +1,5 @@
--- A record as thirteen words: box min 3 and max 3, direction 3, phi, `cos_theta_o`, `cos_theta_e`, side. The layout of a record is said here alone.
--- Definitions only. Assumes nothing.
+-- A record as thirteen words: box min 3 and max 3, direction 3, phi, `cos_theta_o`, `cos_theta_e`, side. The layout of a
+-- record is said here alone. Definitions only. Assumes nothing.
 use Prim.Native.Nat.{ℕ, _+_}
 use mathlib.Core.Bool.{cond, _&&_}
 use mathlib.Core.List.{List, [], _∷_, _++_}
@@ -22,7 +22,22 @@ use Rattle.light_bounds.specs.declared.vecmath.Vec3.{Vec3}
 abbrev pub recordWords : ℕ
 recordWords = 13
 
--- the place of the side in a record that starts at a place
+-- the places of its parts in a record that starts at a place, with its box's min
+abbrev pub maxPlace : ℕ → ℕ
+maxPlace at = at + 3
+
+abbrev pub directionPlace : ℕ → ℕ
+directionPlace at = at + 6
+
+abbrev pub phiPlace : ℕ → ℕ
+phiPlace at = at + 9
+
+abbrev pub cosOPlace : ℕ → ℕ
+cosOPlace at = at + 10
+
+abbrev pub cosEPlace : ℕ → ℕ
+cosEPlace at = at + 11
+
 abbrev pub sidePlace : ℕ → ℕ
 sidePlace at = at + 12
 
@@ -33,17 +48,18 @@ vecAt ws at = vec (single (getD ws at 0)) (single (getD ws (at + 1) 0)) (single 
 
 -- the box alone
 abbrev pub boxAt : List ℕ → ℕ → Bounds3
-boxAt ws at = record { min = vecAt ws at; max = vecAt ws (at + 3) }
+boxAt ws at = record { min = vecAt ws at; max = vecAt ws (maxPlace at) }
 
 abbrev pub readRecord : List ℕ → ℕ → LightBounds
 readRecord ws at =
-    lightBounds (boxAt ws at) (vecAt ws (at + 6)) (single (getD ws (at + 9) 0)) (single (getD ws (at + 10) 0)) (single (getD ws (at + 11) 0))
-    (sideOf (getD ws (sidePlace at) 0))
+    lightBounds (boxAt ws at) (vecAt ws (directionPlace at)) (single (getD ws (phiPlace at) 0))
+    (single (getD ws (cosOPlace at) 0)) (single (getD ws (cosEPlace at) 0)) (sideOf (getD ws (sidePlace at) 0))
 
 -- the record at a place; too few words, and a side that is unknown, are refusal n: 1 in a list or a block, 12 in a tree
 unfoldable pub recordAt : ℕ → List ℕ → ℕ → Answer LightBounds
 recordAt n ws at =
-    cond (leb (at + recordWords) (length ws) && sideKnown (getD ws (sidePlace at) 0)) (given (readRecord ws at)) (refused n)
+    cond (leb (at + recordWords) (length ws) && sideKnown (getD ws (sidePlace at) 0)) (given (readRecord ws at))
+    (refused n)
 
 -- what the enum `Found` answers
 abbrev pub found : ℕ → Found → Answer LightBounds
@@ -57,7 +73,8 @@ vecWords v = toBits binary32 (v .x) ∷ toBits binary32 (v .y) ∷ toBits binary
 
 -- what stands behind the vectors
 abbrev pub restWords : LightBounds → List ℕ
-restWords r = toBits binary32 (r .phi) ∷ toBits binary32 (r .«cos_theta_o») ∷ toBits binary32 (r .«cos_theta_e») ∷ sideWord (r .side) ∷ []
+restWords r =
+    toBits binary32 (r .phi) ∷ toBits binary32 (r .«cos_theta_o») ∷ toBits binary32 (r .«cos_theta_e») ∷ sideWord (r .side) ∷ []
 
 unfoldable pub recordList : LightBounds → List ℕ
 recordList r = vecWords (r .bounds .min) ++ vecWords (r .bounds .max) ++ vecWords (r .direction) ++ restWords r

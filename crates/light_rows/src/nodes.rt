@@ -1,19 +1,21 @@
-// A node as sixteen words (specs/Nodes.antt): head, right child, parent, record. The layout of a node is here alone.
+// A node as sixteen words (specs/Nodes.antt): head, right child, parent, record. Where the words of a node stand is said
+// here alone.
 ghost use mathlib.Core.Path.{_≡_};
 ghost use mathlib.Core.Bool.{cond};
 ghost use mathlib.Core.List.{_∷_};
-ghost use Prim.Native.Nat.{_*_, _+_, _≤_};
-ghost use lib.ListN.{length};
+ghost use Prim.Native.Nat.{_*_, _+_, _^_, _≤_, _<_};
+ghost use lib.ListN.{length, getD};
 ghost use lib.Seq.{sets};
 ghost use Rattle.words.specs.Answers.{counted};
 ghost use Rattle.words.specs.Heads.{handleOf};
 ghost use Rattle.words.specs.LittleEndian.{wordsOf};
-ghost use Rattle.light_rows.specs.RecordWords.{found, recordList};
+ghost use Rattle.light_rows.specs.RecordWords.{found, readRecord, recordList};
 ghost use Rattle.light_rows.specs.Nodes.{leaf, interior, node, nodeCount, nodeOf, nodeAt, boundsAt, nodeWords};
-ghost use Rattle.light_rows.specs.Nodes.{nodePlace, nodeFits, nodeWritten, rowFits};
+ghost use Rattle.light_rows.specs.Nodes.{nodePlace, boundsPlace, nodeFits, nodeWritten, rowFits};
 use super::record_words::Found;
 use super::record_words::RECORD_WORDS;
 use super::record_words::read_record_bytes;
+use super::record_words::record_or_zeros;
 use super::record_words::write_record;
 use light_bounds::light_bounds::LightBounds;
 use words::answers::Counted;
@@ -22,8 +24,15 @@ use words::heads::kind_of;
 use words::little_endian::word_at;
 use words::refusals::Refusal;
 
+// The places of a node's parts behind its head.
+const RIGHT_CHILD_PLACE: usize = 1;
+
+const PARENT_PLACE: usize = 2;
+
+const BOUNDS_PLACE: usize = 3;
+
 // The words of a node.
-pub const NODE_WORDS: usize = 3 + RECORD_WORDS;
+pub const NODE_WORDS: usize = BOUNDS_PLACE + RECORD_WORDS;
 
 // The bytes of a node.
 pub const NODE_BYTES: usize = 4 * NODE_WORDS;
@@ -58,9 +67,9 @@ fn put_node(
     ensures { λ _. ⌜ now (words .exit) ≡ sets (now (words .entry)) at (head ∷ «right_child» ∷ parent ∷ recordList bounds) ⌝ }
 {
     words[at] = head;
-    words[at + 1] = right_child;
-    words[at + 2] = parent;
-    write_record(words, at + 3, bounds);
+    words[at + RIGHT_CHILD_PLACE] = right_child;
+    words[at + PARENT_PLACE] = parent;
+    write_record(words, at + BOUNDS_PLACE, bounds);
 }
 
 // A node at a place, its head of a kind and a number; nothing where its row is not there or the number does not fit.
@@ -142,6 +151,24 @@ pub fn write_interior(
     )
 }
 
+// ---- read back while the tree is built, from words
+
+// The head of the node at a place.
+pub fn head_at(nodes: &[u32], place: usize) -> u32
+    requires { ⌜ nodePlace place < length (now nodes) ⌝ }
+    ensures { λ r. ⌜ r ≡ getD (now (nodes .entry)) (nodePlace place) 0 ⌝ }
+{
+    nodes[NODE_WORDS * place]
+}
+
+// The record of the node at a place, words past the end as 0.
+pub fn bounds_in(nodes: &[u32], place: usize) -> LightBounds
+    requires { ⌜ place < 2 ^ 30 ⌝ }
+    ensures { λ r. ⌜ r ≡ readRecord (now (nodes .entry)) (boundsPlace place) ⌝ }
+{
+    record_or_zeros(nodes, NODE_WORDS * place + BOUNDS_PLACE)
+}
+
 // ---- reading, from little-endian bytes
 
 // How many nodes there are: over 8,191 are refusal 2, a part of a node is 1.
@@ -179,8 +206,8 @@ pub fn node_at(nodes: &[u8], place: usize) -> Node
         let at = NODE_WORDS * place;
         return node_of(
             word_at(nodes, at),
-            word_at(nodes, at + 1),
-            word_at(nodes, at + 2),
+            word_at(nodes, at + RIGHT_CHILD_PLACE),
+            word_at(nodes, at + PARENT_PLACE),
         );
     }
     Node::Unknown
@@ -191,7 +218,7 @@ pub fn bounds_at(nodes: &[u8], place: usize) -> Found
     ensures { λ r. ⌜ found 12 r ≡ boundsAt (wordsOf (now (nodes .entry))) place ⌝ }
 {
     if place < nodes.len() / 4 / NODE_WORDS {
-        return read_record_bytes(nodes, NODE_WORDS * place + 3);
+        return read_record_bytes(nodes, NODE_WORDS * place + BOUNDS_PLACE);
     }
     Found::Nothing
 }

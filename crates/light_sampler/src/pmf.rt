@@ -5,7 +5,7 @@ ghost use Rattle.words.specs.Answers.{counted};
 ghost use Rattle.words.specs.LittleEndian.{wordsOf};
 ghost use Rattle.light_sampler.specs.Sampler.{pmfCheck, leafOf, pmf as pmfOf, chance};
 ghost use Rattle.light_sampler.specs.Walks.{partOf, rise as riseOf, ascend as ascendOf};
-ghost use Rattle.light_rows.specs.Nodes.{nodeAt};
+ghost use Rattle.light_rows.specs.Nodes.{node, nodeAt};
 ghost use Rattle.light_sampler.specs.Turns.{byPrepared, factorOf, parentOf, aboveOf};
 use super::weigh::Weights;
 use super::weigh::weigh_children;
@@ -50,11 +50,12 @@ fn part_of(place: usize, left: usize, right: usize, x: f32, y: f32) -> Factor
     Factor::Refused(Refusal::BrokenTree)
 }
 
-// From a child to its parent.
-fn rise(nodes: &[u8], query: Prepared, place: usize, parent: u32) -> Factor
+// From a child to its parent, whose node is read already.
+fn rise(nodes: &[u8], query: Prepared, place: usize, parent: u32, above: Node) -> Factor
+    requires { ⌜ node above ≡ nodeAt (wordsOf (now nodes)) parent ⌝ }
     ensures { λ r. ⌜ factorOf r ≡ riseOf (wordsOf (now (nodes .entry))) (byPrepared query) place parent ⌝ }
 {
-    match node_at(nodes, parent as usize) {
+    match above {
         Node::Interior(_, right, _) => match weigh_children(nodes, query, parent as usize, right) {
             Weights::Both(x, y) => part_of(place, parent as usize + 1, right as usize, x, y),
             Weights::Refused(why) => Factor::Refused(why),
@@ -64,41 +65,44 @@ fn rise(nodes: &[u8], query: Prepared, place: usize, parent: u32) -> Factor
     }
 }
 
-// The parent of the node at a place; `Unknown` where there is no node.
+// The parent of a node; `Unknown` where there is no node.
 enum Above {
     Parent(u32),
     Unknown,
 }
 
-fn parent_at(nodes: &[u8], place: usize) -> Above
-    ensures { λ r. ⌜ aboveOf r ≡ parentOf (nodeAt (wordsOf (now (nodes .entry))) place) ⌝ }
+fn parent_of(here: Node) -> Above
+    ensures { λ r. ⌜ aboveOf r ≡ parentOf (node here) ⌝ }
 {
-    match node_at(nodes, place) {
+    match here {
         Node::Leaf(_, parent) => Above::Parent(parent),
         Node::Interior(_, _, parent) => Above::Parent(parent),
         Node::Unknown => Above::Unknown,
     }
 }
 
-// The walk: at most `count` nodes are entered.
+// The walk: at most `count` nodes are entered. Each is read once, when it is the parent of the one before.
 fn ascend(nodes: &[u8], query: Query, count: usize, leaf: u32) -> Chance
     ensures { λ r. ⌜ chance r ≡ ascendOf (wordsOf (now (nodes .entry))) query count leaf onef .outcome ⌝ }
 {
     let held = prepare(query);
     let mut entries = count;
     let mut place = leaf as usize;
+    let mut here = node_at(nodes, place);
     let mut pmf: f32 = 1.0;
     while entries > 0 {
         entries -= 1;
-        match parent_at(nodes, place) {
+        match parent_of(here) {
             Above::Parent(parent) => {
                 if parent == INVALID_INDEX {
                     return Chance::Pmf(pmf);
                 }
-                match rise(nodes, held, place, parent) {
+                let above = node_at(nodes, parent as usize);
+                match rise(nodes, held, place, parent, above) {
                     Factor::Part(share) => {
                         pmf = pmf * share;
                         place = parent as usize;
+                        here = above;
                     }
                     Factor::Nought => {
                         return Chance::Pmf(0.0);

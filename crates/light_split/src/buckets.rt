@@ -9,7 +9,6 @@ ghost use Rattle.light_split.specs.Buckets.{slotOf, slotList, joinTo, fi
 ghost use Rattle.light_split.specs.Buckets.{mOmega, kr as krOf, evaluateCost, sideCost, Right};
 use super::lights::bucket_of;
 use super::lights::component;
-use super::lights::light;
 use floats::choose::max;
 use floats::choose::min;
 use light_bounds::bounds::Bounds3;
@@ -21,6 +20,7 @@ use light_bounds::light_bounds::LightBounds;
 use light_bounds::light_bounds::union;
 use light_bounds::side::side_of;
 use light_bounds::vecmath::Vec3;
+use light_rows::block::light;
 use trig::acos;
 use trig::cos;
 use words::floats::word_of_f32;

@@ -16,9 +16,9 @@ use super::buckets::side_cost;
 use super::buckets::union_from;
 use super::lights::centroid_ends;
 use super::lights::component;
-use super::lights::light_box;
 use light_bounds::bounds::Bounds3;
 use light_bounds::bounds::union;
+use light_rows::block::light_box;
 
 // A cut: behind which bucket of which axis.
 pub struct Split {

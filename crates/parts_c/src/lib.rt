@@ -27,7 +27,8 @@ use light_bounds::light_bounds::Bounded;
 use light_bounds::light_bounds::LightBounds;
 use light_bounds::light_bounds::union;
 use light_bounds::light_bounds::validate;
-use light_rows::block::check_block;
+use light_rows::block::check_handles;
+use light_rows::block::check_layout;
 use light_rows::query_words::QUERY_WORDS;
 use light_rows::query_words::query_of;
 use light_rows::record_words::Found;
@@ -352,5 +353,8 @@ pub extern "C" fn bounds_union(a: &[u32], b: &[u32], out: &mut [u32]) -> u32
 pub extern "C" fn lamps_check_block(block: &[u32]) -> u32
     ensures { λ r. ⌜ r ≡ code (blockCheck (now (block .entry))) ⌝ }
 {
-    counted_code(check_block(block))
+    match check_layout(block) {
+        Counted::Count(_) => counted_code(check_handles(block)),
+        Counted::Refused(why) => refusal_number(why),
+    }
 }

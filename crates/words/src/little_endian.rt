@@ -1,6 +1,6 @@
 // Words as little-endian bytes (specs/LittleEndian.antt).
 ghost use mathlib.Core.Path.{_≡_};
-ghost use Prim.Native.Nat.{ℕ, _*_, _/_};
+ghost use Prim.Native.Nat.{ℕ, _*_, _/_, _<_};
 ghost use lib.ListN.{getD, length};
 ghost use Rattle.words.specs.LittleEndian.{wordsOf, bytesOf, setWord, wordCount, readWords, writtenWords};
 ghost use Rattle.words.specs.Answers.{counted};
@@ -19,17 +19,25 @@ pub fn word_count(bytes: &[u8]) -> Counted
     }
 }
 
+// The word at a place that is known to be within the bytes.
+pub fn word_in(bytes: &[u8], place: usize) -> u32
+    requires { ⌜ place < length (now bytes) / 4 ⌝ }
+    ensures { λ r. ⌜ r ≡ getD (wordsOf (now (bytes .entry))) place 0 ⌝ }
+{
+    let at = 4 * place;
+    let a = bytes[at] as u32;
+    let b = bytes[at + 1] as u32;
+    let c = bytes[at + 2] as u32;
+    let d = bytes[at + 3] as u32;
+    a + 256 * b + 65536 * c + 16777216 * d
+}
+
 // The word at a place, and 0 past the last whole word.
 pub fn word_at(bytes: &[u8], place: usize) -> u32
     ensures { λ r. ⌜ r ≡ getD (wordsOf (now (bytes .entry))) place 0 ⌝ }
 {
     if place < bytes.len() / 4 {
-        let at = 4 * place;
-        let a = bytes[at] as u32;
-        let b = bytes[at + 1] as u32;
-        let c = bytes[at + 2] as u32;
-        let d = bytes[at + 3] as u32;
-        a + 256 * b + 65536 * c + 16777216 * d
+        word_in(bytes, place)
     } else {
         0
     }

@@ -27,8 +27,10 @@ few c = let (rs, lamps, n, is, h) = list-counted (now (c .before .before .before
 returns : tie.Need-returns
 unfolding tray
 returns c =
-    let args = c .before .before .before .before .before .before .before .args in
-    rw (build-short (now (args .list)) (length (now (args .block))) _ (read (c .before)) (omega arith)) (refl, refl)
+    let words = c .before in
+    let args = words .before .before .before .before .before .before .before .args in
+    rw (build-short (now (args .list)) (length (now (args .block))) _ (read (words .before)) (omega (arith, words .block-words .ensures)))
+    (refl, refl)
 
 returns-3 : tie.Need-returns-3
 returns-3 c =
@@ -43,5 +45,6 @@ returns-3 c =
 
 pub build-light-bounds-spec : {M : Type 1} → statement M
 build-light-bounds-spec =
-    tie.close (tie.spec (λ c κs. search needs) (λ c. search needs) (λ c. omega (arith, few c)) (λ c. omega (arith, few c)) returns
-    (λ c κs. (read (c .before .before), omega arith)) (λ c. search needs) (λ c. search needs) (λ c. search needs) returns-3)
+    tie.close (tie.spec (λ c κs. search needs) (λ c. search needs) (λ c κs. omega (arith, few c)) returns
+    (λ c κs. (read (c .before .before .before), omega (arith, c .before .before .block-words .ensures))) (λ c. search needs) (λ c. search needs)
+    (λ c. search needs) returns-3)

@@ -30,35 +30,30 @@ loop-holds c =
     rw (c .new .ensures) (taking-none (now (args .list)) (args .m) (now (args .block)) few (c .before .before .before .pre .1))
 
 same-length : tie.Need-same-length Inv-loop μ-loop
-same-length c = c .before .before .zero-words .kept .0 ∙
-    c .before .before .before .before .before .before .before .before .before .loop .inv .written .same ∙ length-set
-    (now (c .before .before .before .before .before .before .before .before .before .before .before .before .before .args .block)) 0
-    (c .before .before .before .before .before .before .before .before .before .before .before .before .before .args .m)
+same-length c =
+    let zeroed = c .before .before in
+    let loop = zeroed .before .before .before .before .before .before .before .before in
+    let args = loop .before .before .before .before .args in
+    zeroed .zero-words .kept .0 ∙ loop .loop .inv .written .same ∙ length-set (now (args .block)) 0 (args .m)
 
 returns : tie.Need-returns Inv-loop μ-loop
 returns c =
-    let told = sym (c .before .before .before .before .before .before .before .next-bounds .ensures) ∙ ap passed
-    (c .before .before .before .before .before .why .given .1) in
+    let zeroed = c .before .before in
+    let arm = zeroed .before .before .before .before in
+    let loop = arm .before .before .before .before in
+    let start = loop .before .before .before .before in
+    let told = sym (arm .before .before .next-bounds .ensures) ∙ ap passed (arm .why .given .1) in
     let (answer, block) =
-    taking-refused (now (c .before .before .before .before .before .before .before .before .before .before .before .before .before .args .block))
-    (c .before .before .before .before .before .before .before .before .before .loop .inv)
-    (c .before .before .before .before .before .before .before .before .before .before .before .before .before .pre .0)
-    (c .before .before .before .before .before .before .before .before .before .before .before .before .before .pre .1)
-    (number (c .before .before .before .before .before .why .given .0 .0))
-    (omega arith) told in
-    (answer, c .before .before .zero-words .ensures ∙ block)
+    taking-refused (now (start .args .block)) (loop .loop .inv) (start .pre .0) (start .pre .1) (number (arm .why .given .0 .0)) (omega arith) told in
+    (answer, rw (zeroed .before .block-words .ensures) at (zeroed .zero-words .ensures) ∙ block)
 
 loop-again : tie.Need-loop-again Inv-loop μ-loop
 loop-again c =
-    let told = sym (c .before .before .before .before .before .before .before .next-bounds .ensures) ∙ ap passed
-    (c .before .before .before .before .before .«record» .given .1) in
-    rw (c .before .before .write-record .ensures)
-    (taking-next (c .before .before .before .before .before .before .before .before .before .loop .inv)
-    (record {
-      bounds = c .before .before .before .before .before .«record» .given .0 .0;
-      next =
-          c .before .before .before .before .before .«record» .given .0 .1 .0;
-    }) (omega arith) told)
+    let arm = c .before .before .before .before .before in
+    let told = sym (arm .before .before .next-bounds .ensures) ∙ ap passed (arm .«record» .given .1) in
+    rw (c .before .before .write-row .ensures)
+    (taking-next (arm .before .before .before .before .loop .inv)
+    (record { bounds = arm .«record» .given .0 .0; next = arm .«record» .given .0 .1 .0 }) (omega arith) told)
 
 same-length-2 : tie.Need-same-length-2 Inv-loop μ-loop
 same-length-2 c = c .before .loop .inv .written .same ∙ length-set (now (c .before .before .before .before .before .args .block)) 0
@@ -71,6 +66,5 @@ returns-2 c = taking-all (now (c .before .before .before .before .before .args .
 pub write-block-spec : {M : Type 1} → statement M
 write-block-spec =
     tie.close (tie.spec Inv-loop μ-loop cast-block (λ c. omega (arith, c .before .before .pre .1)) (λ c κs. search needs) loop-holds
-    (λ c κs. search needs) (λ c. search needs) (λ c. omega arith) (λ c. omega arith) (λ c. omega arith) (λ c. omega arith)
-    (λ c. omega arith) (λ c. omega arith) (λ c. omega arith) (λ c κs. search needs) (λ c. search needs) (λ c. omega arith)
-    (λ c. omega arith) (λ c κs. search needs) same-length returns (λ c. omega arith) (λ c. omega arith) loop-again same-length-2 returns-2)
+    (λ c κs. search needs) (λ c. search needs) (λ c. omega arith) (λ c κs. omega arith) (λ c. search needs) (λ c κs. omega arith)
+    (λ c κs. omega (arith, c .block-words .ensures)) same-length returns (λ c. omega arith) (λ c. omega arith) loop-again same-length-2 returns-2)

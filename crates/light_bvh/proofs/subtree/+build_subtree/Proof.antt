@@ -23,10 +23,10 @@ use Rattle.light_bvh.proofs.subtree.build_subtree.Reads as build-subtre
 use Rattle.light_bvh.proofs.subtree.build_subtree.Kinds as kinds
 use Rattle.light_bvh.proofs.subtree.+build_subtree.Lts-build_subtree as lts
 use Rattle.light_bvh.proofs.subtree.join_children.Reads as join-children-reads
-use Rattle.light_bvh.proofs.subtree.label.Reads as label-reads
 use Rattle.light_bvh.proofs.subtree.split_stretch.Reads as split-stretch-reads
 use Rattle.light_rows.proofs.nodes.write_leaf.Reads as write-leaf-reads
-use Rattle.light_split.proofs.lights.light.Reads as light-reads
+use Rattle.light_rows.proofs.block.label.Reads as label-reads
+use Rattle.light_rows.proofs.block.light.Reads as light-reads
 use Rattle.light_bvh.proofs.subtree.+build_subtree.{statement}
 use Rattle.light_bvh.proofs.subtree.+build_subtree.Tie.{close}
 

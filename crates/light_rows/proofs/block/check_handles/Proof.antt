@@ -1,6 +1,6 @@
--- `light_rows::block::check_handles` meets its contract: up to `i` every handle is its place. Assumes nothing.
+-- `light_rows::block::check_handles`: up to `i` every handle is its place. Assumes nothing.
 use Prim.Native.Nat.{ℕ, _-_, _+_, _*_, _≤_, _<_}
-use mathlib.Core.Path.{_≡_, refl, subst, sym, _∙_}
+use mathlib.Core.Path.{_≡_, refl, subst, sym, ap, _∙_}
 use mathlib.Core.Bool.{true, false}
 use denote.Ref.{now}
 use native.Mathlib.Omega.{arith}
@@ -25,18 +25,23 @@ loop-holds c = (c .wide .ensures ∙ c .before .word-or-zero .ensures, omega (ar
 
 loop-again : tie.Need-loop-again Inv-loop μ-loop
 loop-again c =
-    let loop = c .before .before .before .before .loop in
-    let block = now (c .before .before .before .before .before .before .before .before .args .block) in
-    let e : getD block (handlePlace (loop .i)) 0 ≡ loop .i = sym (c .before .wide2 .ensures ∙ c .before .before .word-or-zero2 .ensures) ∙ c .if1 .taken in
-    (loop .inv .0, loop .inv .1, omega arith, rw (below-next (handleAt block) (loop .i), loop .inv .3, eq-eqb _ _ e))
+    let read = c .before .before in
+    let loop = read .before .before .before .loop in
+    let block = now (read .before .before .before .before .before .before .before .args .block) in
+    let handle : c .before .wide2 .result ≡ getD block (handlePlace (loop .i)) 0 =
+    c .before .wide2 .ensures ∙ read .word-or-zero2 .ensures ∙ ap (λ (k : ℕ). getD block k 0) (read .before .block-words .ensures) in
+    (loop .inv .0, loop .inv .1, omega arith, rw (below-next (handleAt block) (loop .i), loop .inv .3, eq-eqb _ _ (sym handle ∙ c .if1 .taken)))
 
 returns : tie.Need-returns Inv-loop μ-loop
 unfolding blockHandles
 returns c =
-    let loop = c .before .before .before .before .loop in
-    let block = now (c .before .before .before .before .before .before .before .before .args .block) in
+    let read = c .before .before in
+    let loop = read .before .before .before .loop in
+    let block = now (read .before .before .before .before .before .before .before .args .block) in
+    let handle : c .before .wide2 .result ≡ getD block (handlePlace (loop .i)) 0 =
+    c .before .wide2 .ensures ∙ read .word-or-zero2 .ensures ∙ ap (λ (k : ℕ). getD block k 0) (read .before .block-words .ensures) in
     rw (below-false (handleAt block) (getD block 0 0) (loop .i) (omega (arith, loop .inv .0))
-    (ne-eqb _ _ (λ e. c .if1 .left (c .before .wide2 .ensures ∙ c .before .before .word-or-zero2 .ensures ∙ e))))
+    (ne-eqb _ _ (λ e. c .if1 .left (handle ∙ e))))
 
 returns-2 : tie.Need-returns-2 Inv-loop μ-loop
 unfolding blockHandles
@@ -48,5 +53,6 @@ returns-2 c =
 
 pub check-handles-spec : {M : Type 1} → statement M
 check-handles-spec =
-    tie.close (tie.spec Inv-loop μ-loop (λ c κs. search needs) (λ c κs. search needs) loop-holds (λ c. search needs) (λ c. search needs)
-    (λ c κs. search needs) (λ c κs. search needs) (λ c. search needs) (λ c. search needs) loop-again returns returns-2)
+    tie.close (tie.spec Inv-loop μ-loop (λ c κs. search needs) (λ c κs. search needs) loop-holds
+    (λ c κs. omega (arith, c .before .loop .inv .1)) (λ c κs. search needs) (λ c κs. search needs) (λ c. search needs)
+    (λ c. search needs) loop-again returns returns-2)

@@ -1,4 +1,4 @@
--- `light_rows::record_words::box_at` meets its contract: past the end both corners are 0. Assumes nothing.
+-- `light_rows::record_words::box_at` reads both corners; past the end both are 0. Assumes nothing.
 use Prim.Native.Nat.{_+_}
 use native.Mathlib.Omega.{arith}
 use denote.Ref.{now}
