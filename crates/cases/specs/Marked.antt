@@ -118,7 +118,8 @@ oneThree = buildPowerAliasTable (0x3f800000 ∷ 0x40400000 ∷ []) 7 9
 
 -- ---- the cases
 
-pub record Marked : Type 0 where
+-- the pair: built, and drawn from
+pub record Pair : Type 0 where
   -- Pair case, u 0.25 and 0.75: `0 3f000000 3f000000`, `1 3f000000 3f000000`
   pub pair-built : treeWordsOf (buildLightBvh 2 pair 48 2 4) ≡ (pairNodes, pairTable)
   pub pair-quarter : line 0x3e800000 ≡ given (0, 0x3f000000, 0x3f000000)
@@ -127,11 +128,16 @@ pub record Marked : Type 0 where
   pub pair-one : line 0x3f800000 ≡ given (1, 0x3f000000, 0x3f000000)
   pub pair-minus-zero : line 0x80000000 ≡ given (0, 0x3f000000, 0x3f000000)
   pub pair-past-one : line 0x3f800001 ≡ refused 11
+
+-- other trees
+pub record Trees : Type 0 where
   -- no nodes: u 0.5 none, NaN 11
   pub no-nodes : sample [] bench half ≡ given none
   pub no-nodes-nan : sample [] bench (single 0x7fc00000) ≡ refused 11
   -- three lamps at one point: leaves at nodes 1, 3, 4
   pub three-leaves : treeWordsOf (buildLightBvh 3 three 80 3 6) .1 ≡ 1 ∷ 3 ∷ 4 ∷ []
+
+pub record Packs : Type 0 where
   -- pair's lamp 1 packed, behind the header and two nodes
   pub pair-packed : packedFrom 24 (packLightBvh (bytesOf pairNodes) 2 (some pairBox) 128)
       ≡ 0x0000ffff ∷ 0xffff0000 ∷ 0 ∷ 0x80008000 ∷ 0x3f800000 ∷ 0x1fff8000 ∷ 0x80000001 ∷ 0 ∷ []
@@ -147,6 +153,9 @@ pub record Marked : Type 0 where
   pub direction-read : (bitsOf (decodeOctahedral 0xffff 0xffff) ≡ 0 ∷ 0 ∷ 0xbf800000 ∷ [])
       × (bitsOf (decodeOctahedral 0x8000 0x8000) ≡ 0x37800100 ∷ 0x37800100 ∷ 0x3f800000 ∷ [])
       × (bitsOf (decodeOctahedral 40000 1234) ≡ 0x3d407bfa ∷ 0xbf78f0cc ∷ 0xbe69ead7 ∷ [])
+
+-- roots and alias tables
+pub record Tables : Type 0 where
   -- square root of 40000000: 3fb504f3; of 00000001: 1a3504f3
   pub root-of-two : word (sqrt binary32) 0x40000000 ≡ 0x3fb504f3
   pub root-of-smallest : word (sqrt binary32) 0x00000001 ≡ 0x1a3504f3
@@ -154,10 +163,19 @@ pub record Marked : Type 0 where
   pub alias-of-one-three : tray binWords 6 oneThree (1 ∷ 2 ∷ 3 ∷ 4 ∷ 5 ∷ 6 ∷ 7 ∷ [])
       ≡ 0x3f000000 ∷ 0x3e800000 ∷ 1 ∷ 0x3f800000 ∷ 0x3f400000 ∷ 0xffffffff ∷ 7 ∷ []
   pub work-of-one-three : tray (λ (bs : List Bin). []) 8 oneThree (1 ∷ 2 ∷ 3 ∷ 4 ∷ 5 ∷ 6 ∷ 7 ∷ 8 ∷ 9 ∷ []) ≡ 0 ∷ 0 ∷ 0 ∷ 0 ∷ 0 ∷ 0 ∷ 0 ∷ 0 ∷ 9 ∷ []
+
+pub record Arcs : Type 0 where
   -- not marked, and proved beside them: the cosine of half π and arcs of -1 and 1, as f32 has them
   pub cos-of-half-pi : word cos 0x3fc90fdb ≡ 0xb33bbd2e
   pub acos-of-minus-one : word acos 0xbf800000 ≡ 0x40490fdb
   pub asin-of-one : word asin 0x3f800000 ≡ 0x3fc90fdb
+
+pub record Marked : Type 0 where
+  pub of-pair : Pair
+  pub of-trees : Trees
+  pub of-packs : Packs
+  pub of-tables : Tables
+  pub of-arcs : Arcs
 
 pub marked : Marked
 unfolding toBits ofBits ofInt span climb size odd units round neg sum add sub mul div lt eq le isNan toUnsigned fmin fmax clamp fabs isSignNegative narrow root
@@ -175,27 +193,24 @@ unfolding toBits ofBits ofInt span climb size odd units round neg sum add sub mu
     turnsAliasTable leftover table buildPowerAliasTable
 marked =
     record {
-      pair-built = refl;
-      pair-quarter = refl;
-      pair-three-quarters = refl;
-      pair-one = refl;
-      pair-minus-zero = refl;
-      pair-past-one = refl;
-      no-nodes = refl;
-      no-nodes-nan = refl;
-      three-leaves = refl;
-      pair-packed = refl;
-      half-down = refl;
-      half-up = refl;
-      no-extent = (refl, refl);
-      cosines = (refl, refl, refl);
-      direction-down = refl;
-      direction-read = (refl, refl, refl);
-      root-of-two = refl;
-      root-of-smallest = refl;
-      alias-of-one-three = refl;
-      work-of-one-three = refl;
-      cos-of-half-pi = refl;
-      acos-of-minus-one = refl;
-      asin-of-one = refl;
+      of-pair = record {
+        pair-built = refl;
+        pair-quarter = refl;
+        pair-three-quarters = refl;
+        pair-one = refl;
+        pair-minus-zero = refl;
+        pair-past-one = refl;
+      };
+      of-trees = record { no-nodes = refl; no-nodes-nan = refl; three-leaves = refl };
+      of-packs = record {
+        pair-packed = refl;
+        half-down = refl;
+        half-up = refl;
+        no-extent = (refl, refl);
+        cosines = (refl, refl, refl);
+        direction-down = refl;
+        direction-read = (refl, refl, refl);
+      };
+      of-tables = record { root-of-two = refl; root-of-smallest = refl; alias-of-one-three = refl; work-of-one-three = refl };
+      of-arcs = record { cos-of-half-pi = refl; acos-of-minus-one = refl; asin-of-one = refl };
     }

@@ -6,6 +6,7 @@
 use Prim.Native.Nat.{ℕ, suc, _+_, _*_, _^_, _-_, _≤_, _<_}
 use mathlib.Core.Path.{_≡_, refl, ap, sym, subst}
 use mathlib.Core.Bool.{Bool, true, false, not, cond}
+use mathlib.Core.Logic.{_⊎_, inl, inr}
 use native.Mathlib.Nat.{add-le-add, le-trans as le-then, le-of-eq, mul-comm, lt-of-mul-lt-mul-right, mul-pos, lt-of-not-le, mul-le-mul-right, mul-lt-mul-of-pos-right, le-of-lt}
 use native.Mathlib.Decide.{decLe}
 use native.Mathlib.Omega.{arith}
@@ -174,24 +175,21 @@ sum-finite f s m e s′ m′ e′ t n d t′ n′ d′ h k =
             ≡ (g * c′ + l * c) * (d * d′) + (p * d′ + n * d) * (c * c′)
         fewer g p l n c d c′ d′ = omega arith
 
--- a sum with an infinity that is no NaN
-add-inf-left : (f : Format) (s : Bool) (z : Float) → T (not (isNan (add f (inf s) z))) → add f (inf s) z ≡ inf s
-unfolding add isNan
-add-inf-left f s nan h = absurd h
-add-inf-left f true (inf true) h = refl
-add-inf-left f true (inf false) h = absurd h
-add-inf-left f false (inf true) h = absurd h
-add-inf-left f false (inf false) h = refl
-add-inf-left f s (fin t n d) h = refl
+-- a sum with an infinity is a NaN or that infinity, on either side
+add-inf : (f : Format) (s : Bool) (z : Float)
+    → ((add f (inf s) z ≡ nan) ⊎ (add f (inf s) z ≡ inf s)) × ((add f z (inf s) ≡ nan) ⊎ (add f z (inf s) ≡ inf s))
+unfolding add
+add-inf f s nan = (inl refl, inl refl)
+add-inf f true (inf true) = (inr refl, inr refl)
+add-inf f true (inf false) = (inl refl, inl refl)
+add-inf f false (inf true) = (inl refl, inl refl)
+add-inf f false (inf false) = (inr refl, inr refl)
+add-inf f s (fin t n d) = (inr refl, inr refl)
 
-add-inf-right : (f : Format) (s : Bool) (z : Float) → T (not (isNan (add f z (inf s)))) → add f z (inf s) ≡ inf s
-unfolding add isNan
-add-inf-right f s nan h = absurd h
-add-inf-right f true (inf true) h = refl
-add-inf-right f true (inf false) h = absurd h
-add-inf-right f false (inf true) h = absurd h
-add-inf-right f false (inf false) h = refl
-add-inf-right f s (fin t n d) h = refl
+other : {x y : Float} → (x ≡ nan) ⊎ (x ≡ y) → T (not (isNan x)) → x ≡ y
+unfolding isNan
+other (inl e) known = absurd (rw e at known)
+other (inr e) known = e
 
 is-top : (x : Float) → T (le (inf false) x) → x ≡ inf false
 unfolding le
@@ -204,25 +202,25 @@ is-top (fin t n d) h = absurd h
 pub sum-mono : (f : Format) (u v w z : Float) → T (not (isNan (add f u w))) → T (not (isNan (add f v z))) → T (le u v) → T (le w z)
     → T (le (add f u w) (add f v z))
 sum-mono f nan v w z p q h k = absurd (unfold le in h)
-sum-mono f (inf true) v w z p q h k = rw (add-inf-left f true w p) (le-bottom (add f v z) q)
+sum-mono f (inf true) v w z p q h k = rw (other (add-inf f true w .0) p) (le-bottom (add f v z) q)
 sum-mono f (inf false) v w z p q h k =
     let top = is-top v h in
     let known : T (not (isNan (add f (inf false) z))) = subst (λ (x : Float). T (not (isNan (add f x z)))) top q in
-    rw (top, add-inf-left f false z known) (le-top (add f (inf false) w) p)
+    rw (top, other (add-inf f false z .0) known) (le-top (add f (inf false) w) p)
 sum-mono f (fin s m e) v nan z p q h k = absurd (unfold le in k)
-sum-mono f (fin s m e) v (inf true) z p q h k = rw (add-inf-right f true (fin s m e) p) (le-bottom (add f v z) q)
+sum-mono f (fin s m e) v (inf true) z p q h k = rw (other (add-inf f true (fin s m e) .1) p) (le-bottom (add f v z) q)
 sum-mono f (fin s m e) v (inf false) z p q h k =
     let top = is-top z k in
     let known : T (not (isNan (add f v (inf false)))) = subst (λ (x : Float). T (not (isNan (add f v x)))) top q in
-    rw (top, add-inf-right f false v known) (le-top (add f (fin s m e) (inf false)) p)
+    rw (top, other (add-inf f false v .1) known) (le-top (add f (fin s m e) (inf false)) p)
 sum-mono f (fin s m e) nan (fin t n d) z p q h k = absurd (unfold le in h)
 sum-mono f (fin s m e) (inf true) (fin t n d) z p q h k = absurd (unfold le in h)
 sum-mono f (fin s m e) (inf false) (fin t n d) z p q h k =
-    rw (add-inf-left f false z q) (le-top (add f (fin s m e) (fin t n d)) p)
+    rw (other (add-inf f false z .0) q) (le-top (add f (fin s m e) (fin t n d)) p)
 sum-mono f (fin s m e) (fin s′ m′ e′) (fin t n d) nan p q h k = absurd (unfold le in k)
 sum-mono f (fin s m e) (fin s′ m′ e′) (fin t n d) (inf true) p q h k = absurd (unfold le in k)
 sum-mono f (fin s m e) (fin s′ m′ e′) (fin t n d) (inf false) p q h k =
-    rw (add-inf-right f false (fin s′ m′ e′) q) (le-top (add f (fin s m e) (fin t n d)) p)
+    rw (other (add-inf f false (fin s′ m′ e′) .1) q) (le-top (add f (fin s m e) (fin t n d)) p)
 sum-mono f (fin s m e) (fin s′ m′ e′) (fin t n d) (fin t′ n′ d′) p q h k = sum-finite f s m e s′ m′ e′ t n d t′ n′ d′ h k
 
 -- a sum of finite terms is no NaN

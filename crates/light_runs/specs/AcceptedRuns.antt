@@ -31,14 +31,10 @@ use Rattle.tree_laws.specs.TreeWords.{placeOf}
 use Rattle.words.specs.Lists.{reversed, lastOf}
 use Rattle.light_runs.specs.DownLaws.{weighed-not-below}
 use Rattle.light_runs.specs.FromTo.{from-to}
-use Rattle.light_runs.specs.RunLaws.{walk-last, walk-between}
+use Rattle.light_runs.specs.RunLaws.{cap, walk-last, walk-between}
 use Rattle.light_runs.specs.WeightedTree.{walk, weighed}
 
 -- ---- u capped at the root
-
-most-known : T (not (isNan most))
-unfolding isNan ofBits
-most-known = tt
 
 capped : (u : Float) → FromZeroToOne u → T (nonneg (fmin u most))
 unfolding ofBits
@@ -83,7 +79,7 @@ module _ (ws : List ℕ) (b : LightBVH) (parts : Parts ws b) where
         ∙ ap (λ (x : Walked Draw). x .places) (at w (vw .second)) in
         let alike =
         walk-between 0 (weighed q t) onef (fmin u most) (fmin v most) (fmin w most) (weighed-not-below q t) (capped u (uv .first))
-        (fmin-mono u v most most-known (uv .order)) (fmin-mono v w most most-known (vw .order)) (fmin-cap w most most-known) enters in
+        (fmin-mono u v most (cap .known) (uv .order)) (fmin-mono v w most (cap .known) (vw .order)) (fmin-cap w most (cap .known)) enters in
         (d .0, ap (λ (x : Walked Draw). x .outcome) (at v (uv .second) ∙ alike ∙ sym (at u (uv .first))) ∙ d .1)
 
     -- the place where the draw ends is the lamp's
@@ -97,7 +93,7 @@ module _ (ws : List ℕ) (b : LightBVH) (parts : Parts ws b) where
     in-order u w uw h i d f =
         rw (← ends-at u (uw .first) h d, ← ends-at w (uw .second) i f)
         (walk-last 0 (weighed q t) onef onef (fmin u most) (fmin w most) (weighed-not-below q t) (capped u (uw .first))
-        (fmin-mono u w most most-known (uw .order)) (fmin-cap w most most-known))
+        (fmin-mono u w most (cap .known) (uw .order)) (fmin-cap w most (cap .known)))
 
     -- two lamps at one place are one
     apart : (u w : Float) → InOrder u w → (h i : ℕ) → Draws b q u h → Draws b q w i → placeOf b h ≡ placeOf b i → h ≡ i

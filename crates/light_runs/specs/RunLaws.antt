@@ -24,49 +24,35 @@ use Rattle.light_runs.specs.WeightedTree.{Weighted, leaf, fork, leavesOf
 
 -- ---- the u within a branch
 
-most-known : T (not (isNan most))
-unfolding ofBits isNan
-most-known = tt
+-- what the cap of u is, and 1
+pub record Cap : Type 0 where
+  pub known : T (not (isNan most))
+  pub finite-is : T (finite most)
+  pub nonneg-is : T (nonneg most)
+  pub fits-is : T (fits binary32 most)
+  pub to-one : T (le most onef)
+  pub one-fits : T (fits binary32 onef)
+  pub one-finite : T (finite onef)
 
-most-finite : T (finite most)
-unfolding ofBits
-most-finite = tt
-
-most-nonneg : T (nonneg most)
-unfolding ofBits
-most-nonneg = tt
-
-most-fits : T (fits binary32 most)
-unfolding ofBits fits
-most-fits = tt
-
-one-fits : T (fits binary32 onef)
-unfolding ofBits fits
-one-fits = tt
-
-one-finite : T (finite onef)
-unfolding ofBits
-one-finite = tt
-
-most-one : T (le most onef)
-unfolding ofBits le
-most-one = tt
+pub cap : Cap
+unfolding ofBits isNan fits le
+cap = record { known = tt; finite-is = tt; nonneg-is = tt; fits-is = tt; to-one = tt; one-fits = tt; one-finite = tt }
 
 -- a share, or a quotient that a fork goes on with
 abbrev NanOr : Float → Type 0
 NanOr s = (s ≡ nan) ⊎ T (nonneg s)
 
 capped-nonneg : (x : Float) → NanOr x → T (nonneg (fmin x most))
-capped-nonneg x (inl e) = subst (λ (z : Float). T (nonneg (fmin z most))) (sym e) (subst (λ (z : Float). T (nonneg z)) (sym (fmin-nan most)) most-nonneg)
+capped-nonneg x (inl e) = subst (λ (z : Float). T (nonneg (fmin z most))) (sym e) (subst (λ (z : Float). T (nonneg z)) (sym (fmin-nan most)) (cap .nonneg-is))
 capped-nonneg x (inr h) =
-    elim (fmin-is x most) [ inl e ↦ subst (λ (z : Float). T (nonneg z)) (sym e) h | inr e ↦ subst (λ (z : Float). T (nonneg z)) (sym e) most-nonneg ]
+    elim (fmin-is x most) [ inl e ↦ subst (λ (z : Float). T (nonneg z)) (sym e) h | inr e ↦ subst (λ (z : Float). T (nonneg z)) (sym e) (cap .nonneg-is) ]
 
 -- in order within the branch, and up to `most`
 abbrev Next : Float → Float → Type 0
 Next u v = T (nonneg u) × T (le u v) × T (le v most)
 
 next : (x y : Float) → NanOr x → T (le x y) → Next (fmin x most) (fmin y most)
-next x y p h = (capped-nonneg x p, fmin-mono x y most most-known h, fmin-cap y most most-known)
+next x y p h = (capped-nonneg x p, fmin-mono x y most (cap .known) h, fmin-cap y most (cap .known))
 
 sub-nan : (u : Float) → u ⊖ nan ≡ nan
 unfolding sub add neg
@@ -95,7 +81,7 @@ module _ (u v : Float) (P : T (nonneg u)) (h : T (le u v)) (M : T (le v most)) w
   nonneg-v = nonneg-up u v P h
 
   finite-v : T (finite v)
-  finite-v = finite-below v most nonneg-v M most-finite
+  finite-v = finite-below v most nonneg-v M (cap .finite-is)
 
   finite-u : T (finite u)
   finite-u = finite-below u v P h finite-v
@@ -117,18 +103,18 @@ module _ (u v : Float) (P : T (nonneg u)) (h : T (le u v)) (M : T (le v most)) w
       let k : (w : Float) → fmin ((w ⊖ s) ⊘ (onef ⊖ s)) most ≡ most =
       λ (w : Float). ap (λ (z : Float). fmin ((w ⊖ z) ⊘ (onef ⊖ z)) most) e ∙ ap (λ (z : Float). fmin (z ⊘ (onef ⊖ nan)) most) (sub-nan w)
       ∙ ap (λ (z : Float). fmin z most) (nan-div (onef ⊖ nan)) ∙ fmin-nan most in
-      rw (k u, k v) (most-nonneg, le-refl most most-known, le-refl most most-known)
+      rw (k u, k v) ((cap .nonneg-is), le-refl most (cap .known), le-refl most (cap .known))
   right-next s (inr p) n =
       let a : T (le s u) = le-of-not-lt s u (nonneg-known s p) (nonneg-known u P) n in
       let b : T (le s v) = le-trans s u v a h in
       let c : T (le s most) = le-trans s v most b M in
       let o : T (lt (fin false 0 (pos 0)) (onef ⊖ s)) = below-one s p c in
-      let d : T (le s onef) = le-trans s most onef c most-one in
+      let d : T (le s onef) = le-trans s most onef c (cap .to-one) in
       let f : T (finite (onef ⊖ s)) =
-      finite-below (onef ⊖ s) onef (sub-nonneg binary32 onef s p one-finite d) (sub-le binary32 onef s one-fits one-finite p d) one-finite in
+      finite-below (onef ⊖ s) onef (sub-nonneg binary32 onef s p (cap .one-finite) d) (sub-le binary32 onef s (cap .one-fits) (cap .one-finite) p d) (cap .one-finite) in
       let g : T (finite (v ⊖ s)) =
       finite-below (v ⊖ s) most (sub-nonneg binary32 v s p finite-v b)
-      (le-trans (v ⊖ s) (most ⊖ s) most (sub-mono binary32 v most s p most-finite b M) (sub-le binary32 most s most-fits most-finite p c)) most-finite in
+      (le-trans (v ⊖ s) (most ⊖ s) most (sub-mono binary32 v most s p (cap .finite-is) b M) (sub-le binary32 most s (cap .fits-is) (cap .finite-is) p c)) (cap .finite-is) in
       let i : T (nonneg (u ⊖ s)) = sub-nonneg binary32 u s p finite-u a in
       next ((u ⊖ s) ⊘ (onef ⊖ s)) ((v ⊖ s) ⊘ (onef ⊖ s)) (div-nonneg binary32 (u ⊖ s) (onef ⊖ s) i o)
       (div-mono binary32 (u ⊖ s) (v ⊖ s) (onef ⊖ s) i g f o (sub-mono binary32 u v s p finite-v a h))

@@ -31,16 +31,16 @@ headerWords = 8
 abbrev pub packedNodeWords : ℕ
 packedNodeWords = 8
 
+-- the place of a node's words, behind the header
+abbrev pub packedPlace : ℕ → ℕ
+packedPlace i = headerWords + packedNodeWords * i
+
 -- `LIGHT_BVH_INDEX_MAX`, and the bit above it, which a leaf's payload has
 abbrev pub indexMax : ℕ
 indexMax = 0x7fff_ffff
 
 abbrev pub leafBit : ℕ
 leafBit = 0x8000_0000
-
--- the place of a node's words, behind the header
-abbrev pub packedPlace : ℕ → ℕ
-packedPlace i = headerWords + packedNodeWords * i
 
 -- ---- a node's words
 

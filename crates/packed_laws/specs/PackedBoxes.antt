@@ -22,7 +22,7 @@ use Rattle.ieee.specs.CutLaws.{cast-negative}
 use Rattle.ieee.specs.OperationOrder.{mul-nonneg}
 use Rattle.ieee.specs.OrderLaws.{nonneg, le-fin, finite-below}
 use Rattle.ieee.specs.Single.{_⊖_, _⊗_, _⊘_, single, zerof, onef}
-use Rattle.ieee.specs.Whole.{outward, nextWhole, floor, ceil, toU32}
+use Rattle.ieee.specs.Whole.{negative, outward, nextWhole, floor, ceil, toU32}
 use Rattle.ieee.specs.WholeLaws.{toUnsigned-units}
 use Rattle.ieee.specs.WholeNumbers.{outward-small, outward-under, outward-over, nextWhole-value}
 use Rattle.packed_bvh.specs.PackedRead.{stepBack}
@@ -90,33 +90,37 @@ whole-value : (q : ℕ) → q ≤ 65535 → HasValue (ofInt binary32 (pos q)) fa
 unfolding ofInt
 whole-value q l = round-whole binary32 false q (le-trans l (lit≤ tt))
 
-zero-steps : (e : ℤ) → T (le (ofInt binary32 (pos 0)) (fin true 0 e)) × T (le (fin true 0 e) (ofInt binary32 (pos 0)))
+-- n is at least x, or at most
+abbrev Beside : Bool → Float → Float → Type 0
+Beside true n x = T (le x n)
+Beside false n x = T (le n x)
+
+zero-beside : (up : Bool) (e : ℤ) → Beside up (ofInt binary32 (pos 0)) (fin true 0 e)
 unfolding ofInt round size span climb units odd
-zero-steps e = (le-fin false 0 (pos 0) true 0 e .1 (omega arith), le-fin true 0 e false 0 (pos 0) .1 (omega arith))
+zero-beside true e = le-fin true 0 e false 0 (pos 0) .1 (omega arith)
+zero-beside false e = le-fin false 0 (pos 0) true 0 e .1 (omega arith)
 
-floor-below : (x : Float) → Steps x → T (le (ofInt binary32 (pos (toU32 (floor binary32 x)))) x)
-unfolding toU32 floor
-floor-below nan s = absurd (s .low)
-floor-below (inf true) s = absurd (s .low)
-floor-below (inf false) s = absurd (unfold le lt eq in s .high)
-floor-below (fin true m e) s = let none : m ≡ 0 = eqb→eq m 0 (s .low) in rw (cast-zero true m e s, none) (zero-steps e .0)
-floor-below (fin false m e) s =
-    let (is, small) = cast-next false m e s in
-    rw is
-    (le-of-values (ofInt binary32 (pos (outward false m e))) (fin false m e) (outward false m e) 1 (m * up e) (down e) (lit< tt) (down-pos e)
-    (whole-value (outward false m e) small) (refl, refl) (omega (arith, outward-under m e .at-most)))
+whole-beside : (up : Bool) (m : ℕ) (e : ℤ) → outward up m e ≤ 65535 → Beside up (ofInt binary32 (pos (outward up m e))) (fin false m e)
+whole-beside true m e small =
+    let q = outward true m e in
+    le-of-values (fin false m e) (ofInt binary32 (pos q)) (m * up e) (down e) q 1 (down-pos e) (lit< tt) (refl, refl)
+    (whole-value q small) (omega (arith, outward-over m e .at-least))
+whole-beside false m e small =
+    let q = outward false m e in
+    le-of-values (ofInt binary32 (pos q)) (fin false m e) q 1 (m * up e) (down e) (lit< tt) (down-pos e) (whole-value q small)
+    (refl, refl) (omega (arith, outward-under m e .at-most))
 
-ceil-above : (x : Float) → Steps x → T (le x (ofInt binary32 (pos (toU32 (ceil binary32 x)))))
-unfolding toU32 ceil
-ceil-above nan s = absurd (s .low)
-ceil-above (inf true) s = absurd (s .low)
-ceil-above (inf false) s = absurd (unfold le lt eq in s .high)
-ceil-above (fin true m e) s = let none : m ≡ 0 = eqb→eq m 0 (s .low) in rw (cast-zero false m e s, none) (zero-steps e .1)
-ceil-above (fin false m e) s =
-    let (is, small) = cast-next true m e s in
-    rw is
-    (le-of-values (fin false m e) (ofInt binary32 (pos (outward true m e))) (m * up e) (down e) (outward true m e) 1 (down-pos e) (lit< tt)
-    (refl, refl) (whole-value (outward true m e) small) (omega (arith, outward-over m e .at-least)))
+-- the whole step next to x, upward or downward: ceil's or floor's
+next-beside : (up : Bool) (x : Float) → Steps x
+    → Beside up (ofInt binary32 (pos (toUnsigned 32 (nextWhole binary32 (cond up (not (negative x)) (negative x)) x)))) x
+next-beside up nan s = absurd (s .low)
+next-beside up (inf true) s = absurd (s .low)
+next-beside up (inf false) s = absurd (unfold le lt eq in s .high)
+next-beside up (fin true m e) s =
+    let none : m ≡ 0 = eqb→eq m 0 (s .low) in
+    rw (cast-zero (cond up false true) m e s, none) (zero-beside up e)
+next-beside true (fin false m e) s = let (is, small) = cast-next true m e s in rw is (whole-beside true m e small)
+next-beside false (fin false m e) s = let (is, small) = cast-next false m e s in rw is (whole-beside false m e small)
 
 -- ---- of a coordinate
 
@@ -132,13 +136,13 @@ module _ (v lo hi : Float) (extent : eq lo hi ≡ false) (known : T (not (isNan 
 
   -- a minimum is packed as a step at or below the computed one
   pub down-below : T (le (ofInt binary32 (pos (quantizeBounds false v lo hi))) (stepsOf v lo hi))
-  unfolding quantizeBounds
-  down-below = rw extent (floor-below (stepsOf v lo hi) computed)
+  unfolding quantizeBounds toU32 floor
+  down-below = rw extent (next-beside false (stepsOf v lo hi) computed)
 
   -- a maximum as one at or above it
   pub up-above : T (le (stepsOf v lo hi) (ofInt binary32 (pos (quantizeBounds true v lo hi))))
-  unfolding quantizeBounds
-  up-above = rw extent (ceil-above (stepsOf v lo hi) computed)
+  unfolding quantizeBounds toU32 ceil
+  up-above = rw extent (next-beside true (stepsOf v lo hi) computed)
 
 -- ---- not of the coordinates
 

@@ -61,12 +61,11 @@ node-back i (interior l r p) small left =
 record Row (all : Bounds3) (ws : List ℕ) (i : ℕ) (row : List ℕ) : Type 0 where
   node : LightBVHNode
   own : LightBounds
-  unit : Vec3
   node-is : nodeAt ws i ≡ given node
   own-is : boundsAt ws i ≡ given own
   passes : validate own ≡ given tt
   back : node ≡ readNode i (payloadWord node) (parent node)
-  is : compactWords all own unit (payloadWord node) (parent node) ≡ row
+  unit : (d : Vec3) × (compactWords all own d (payloadWord node) (parent node) ≡ row)
 
 -- behind its record's checks
 placed : (count : ℕ) (all : Bounds3) (ws : List ℕ) (i : ℕ) (n : LightBVHNode) (b : LightBounds) (d : Vec3) (row : List ℕ)
@@ -81,12 +80,11 @@ placed count all ws i n b d row node own passes e =
     record {
       node = n;
       own = b;
-      unit = d;
       node-is = node;
       own-is = own;
       passes = passes;
       back = node-back i n small left;
-      is = given-injective {a = words} e₃;
+      unit = (d, given-injective {a = words} e₃);
     }
 
 row-of : (count : ℕ) (all : Bounds3) (ws : List ℕ) (i : ℕ) (row : List ℕ) → packNode count all ws i ≡ given row → Row all ws i row
@@ -107,11 +105,11 @@ row-of count all ws i row e =
 
 row-size : (all : Bounds3) (ws : List ℕ) (i : ℕ) (row : List ℕ) → Row all ws i row → length row ≡ packedNodeWords
 unfolding compactWords
-row-size all ws i row r = rw (← r .is) refl
+row-size all ws i row r = rw (← r .unit .1) refl
 
 row-node : (all : Bounds3) (ws : List ℕ) (i : ℕ) (row : List ℕ) → Row all ws i row → nodeAt ws i ≡ given (readNode i (getD row 6 0) (getD row 7 0))
 unfolding compactWords
-row-node all ws i row r = rw (← r .is) (r .node-is ∙ ap given (r .back))
+row-node all ws i row r = rw (← r .unit .1) (r .node-is ∙ ap given (r .back))
 
 -- two numbers of sixteen bits come back
 halves : (low high : ℕ) → low ≤ 65535 → (paired low high % 0x1_0000 ≡ low) × (paired low high / 0x1_0000 ≡ high)
@@ -130,7 +128,7 @@ row-box all ws i row b r e =
     let same : r .own ≡ b = given-injective (sym (r .own-is) ∙ e) in
     let min = r .own .bounds .min in
     let max = r .own .bounds .max in
-    rw (← r .is, ← same)
+    rw (← r .unit .1, ← same)
     (words-box (quantizeBounds false (min .x) (all .min .x) (all .max .x)) (quantizeBounds false (min .y) (all .min .y) (all .max .y))
     (quantizeBounds false (min .z) (all .min .z) (all .max .z)) (quantizeBounds true (max .x) (all .min .x) (all .max .x))
     (quantizeBounds true (max .y) (all .min .y) (all .max .y)) (quantizeBounds true (max .z) (all .min .z) (all .max .z))

@@ -1,5 +1,5 @@
--- `packed_bvh::pack::pack_light_bvh` meets its contract: the first checks leave the lent bytes as they are; then box, nodes and lamps agree and the nodes are
--- packed, or the reserve is zeroed. Assumes nothing.
+-- `packed_bvh::pack::pack_light_bvh`: the first checks leave the lent bytes as they are; then box, nodes and lamps agree
+-- and the nodes are packed, or the reserve is zeroed. Assumes nothing.
 use Prim.Native.Nat.{ℕ, _*_, _≤_, _<_}
 use mathlib.Core.Path.{_≡_, refl, sym, ap, _∙_}
 use mathlib.Core.Logic.{⊎-elim}
@@ -11,6 +11,7 @@ use borrow.Author.Needs.{needs}
 use Rattle.words.specs.Answers.{given, counted}
 use Rattle.words.specs.Refusals.{number}
 use Rattle.light_bounds.specs.Bounds.{validity}
+use Rattle.light_bounds.specs.declared.bounds.Bounds3.{Bounds3}
 use Rattle.light_nodes.specs.Nodes.{maxNodes}
 use Rattle.packed_bvh.specs.Packed.{packCheck, packedReserve}
 use Rattle.packed_bvh.proofs.PackLaws.{check-known, filled-none, agreed-empty, agreed-dark, agreed-valid, agreed-refused, agreed-nothing, agreed-lamps}
@@ -41,6 +42,13 @@ pack-nodes-requires c κs =
     let else1 = c .before .before .before .before .before in
     let at = else1 .before .before .before .before in
     (fits at .0, (some-of (count at) (else1 .if1 .left), fits at .1))
+
+-- where a box is there with nodes and lamps: the place at which it was told, and the box
+abbrev boxed : tie.Else2 → tie.After-known-told
+boxed c = c .before .before .before .before .before
+
+abbrev box-at : tie.Else2 → Bounds3
+box-at c = c .before .before .before .all-bounds .given .0 .0
 
 -- a box, and no nodes
 returns : tie.Need-returns
@@ -82,14 +90,13 @@ returns-4 c =
     let done = c .before .before in
     let told = done .before .before in
     let check = told .before .before in
-    let else2 = check .before in
-    let box = else2 .before .before .before in
-    let at = box .before .before in
+    let neither = check .before in
+    let at = boxed neither in
     let args = start at .args in
-    let all = box .all-bounds .given .0 .0 in
-    rw (box .all-bounds .given .1)
+    let all = box-at neither in
+    rw (neither .before .before .before .all-bounds .given .1)
     (outcome-agreed (now (args .nodes)) (args .k) (some all) (now (args .out)) (count at) (checked at) (some all)
-    (agreed-valid (count at) (args .k) all (else2 .before .if1 .left) (else2 .if2 .left)
+    (agreed-valid (count at) (args .k) all (neither .before .if1 .left) (neither .if2 .left)
     (sym (check .check .ensures) ∙ ap validity (told .enum-told .given .1))) (done .pack-nodes .ensures .0) (done .pack-nodes .ensures .1))
 
 -- a box that is refused
@@ -98,14 +105,13 @@ returns-5 c =
     let zeroed = c .before .before in
     let told = zeroed .before .before .before in
     let check = told .before .before in
-    let else2 = check .before in
-    let box = else2 .before .before .before in
-    let at = box .before .before in
+    let neither = check .before in
+    let at = boxed neither in
     let args = start at .args in
-    let all = box .all-bounds .given .0 .0 in
-    rw (box .all-bounds .given .1)
-    (outcome-late (now (args .nodes)) (args .k) (some all) (now (args .out)) (count at) (checked at) (number (told .why .given .0 .0))
-    (agreed-refused (count at) (args .k) all (else2 .before .if1 .left) (else2 .if2 .left) (number (told .why .given .0 .0))
+    let why = number (told .why .given .0 .0) in
+    rw (neither .before .before .before .all-bounds .given .1)
+    (outcome-late (now (args .nodes)) (args .k) (some (box-at neither)) (now (args .out)) (count at) (checked at) why
+    (agreed-refused (count at) (args .k) (box-at neither) (neither .before .if1 .left) (neither .if2 .left) why
     (sym (check .check .ensures) ∙ ap validity (told .why .given .1))) (zeroed .refuse2 .ensures .0) (zeroed .refuse2 .ensures .1))
 
 -- no box, and nodes or lamps
