@@ -16,7 +16,8 @@ unfolding hexBytes
 returns c =
     let room = c .before .before .before .before in
     let n = room .before .before .before .args .n in
-    put-all _ _ _ 8 (length-hex n) (sym (room .before .fits2 .ensures) ∙ room .if1 .taken) (c .before .before .lay-digits .ensures)
+    put-all _ _ _ 8 (length-hex n) (sym (room .before .fits2 .ensures) ∙ room .if1 .taken)
+    (c .before .before .lay-digits .ensures)
 
 returns-2 : tie.Need-returns-2
 returns-2 c = put-none _ _ _ 8 (length-hex _) (sym (c .before .fits2 .ensures) ∙ c .if1 .left)

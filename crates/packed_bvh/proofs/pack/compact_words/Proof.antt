@@ -10,20 +10,33 @@ use Rattle.packed_bvh.specs.QuantizeLaws.{quantize-small, quantize-axis-
 use Rattle.packed_bvh.proofs.pack.compact_words.Statement.{statement}
 use Rattle.packed_bvh.proofs.pack.compact_words.Tie as tie
 
+-- a step takes sixteen bits
 small : {r q : ℕ} → r ≡ q → q ≤ 65535 → r < 65536
 small e h = omega arith
 
 pair-requires : tie.Need-pair-requires
-pair-requires c κs = (small (c .before .quantize-down .ensures) (quantize-small _ _ _ _), small (c .quantize-down2 .ensures) (quantize-small _ _ _ _))
+pair-requires c κs =
+    let low = small (c .before .quantize-down .ensures) (quantize-small _ _ _ _) in
+    let high = small (c .quantize-down2 .ensures) (quantize-small _ _ _ _) in
+    (low, high)
 
 pair-requires-2 : tie.Need-pair-requires-2
-pair-requires-2 c κs = (small (c .before .quantize-down3 .ensures) (quantize-small _ _ _ _), small (c .quantize-up .ensures) (quantize-small _ _ _ _))
+pair-requires-2 c κs =
+    let low = small (c .before .quantize-down3 .ensures) (quantize-small _ _ _ _) in
+    let high = small (c .quantize-up .ensures) (quantize-small _ _ _ _) in
+    (low, high)
 
 pair-requires-3 : tie.Need-pair-requires-3
-pair-requires-3 c κs = (small (c .before .quantize-up2 .ensures) (quantize-small _ _ _ _), small (c .quantize-up3 .ensures) (quantize-small _ _ _ _))
+pair-requires-3 c κs =
+    let low = small (c .before .quantize-up2 .ensures) (quantize-small _ _ _ _) in
+    let high = small (c .quantize-up3 .ensures) (quantize-small _ _ _ _) in
+    (low, high)
 
 pair-requires-4 : tie.Need-pair-requires-4
-pair-requires-4 c κs = (small (c .before .quantize-axis .ensures) (quantize-axis-small _), small (c .quantize-axis2 .ensures) (quantize-axis-small _))
+pair-requires-4 c κs =
+    let low = small (c .before .quantize-axis .ensures) (quantize-axis-small _) in
+    let high = small (c .quantize-axis2 .ensures) (quantize-axis-small _) in
+    (low, high)
 
 returns : tie.Need-returns
 unfolding compactWords encodeOctahedral
@@ -52,6 +65,8 @@ returns c =
 
 pub compact-words-spec : {M : Type 1} → statement M
 compact-words-spec =
-    tie.close (tie.spec (λ c κs. search needs) (λ c κs. search needs) (λ c κs. search needs) pair-requires (λ c κs. search needs)
-    (λ c κs. search needs) pair-requires-2 (λ c κs. search needs) (λ c κs. search needs) pair-requires-3 (λ c κs. search needs)
+    tie.close (tie.spec (λ c κs. search needs) (λ c κs. search needs) (λ c κs. search needs) pair-requires
+    (λ c κs. search needs)
+    (λ c κs. search needs) pair-requires-2 (λ c κs. search needs) (λ c κs. search needs) pair-requires-3
+    (λ c κs. search needs)
     (λ c κs. search needs) pair-requires-4 (λ c κs. search needs) (λ c κs. search needs) returns)
