@@ -44,13 +44,16 @@ use words::floats::word_of_f32;
 use words::little_endian::set_word;
 use words::refusals::Refusal;
 
-// The words of the header and of a node.
+// The words of the header.
 const HEADER_WORDS: usize = 8;
 
+// The words of a node.
 const NODE_WORDS: usize = 8;
-// The greatest payload, and the bit above it, which a leaf's has.
+
+// The greatest payload.
 const INDEX_MAX: u32 = 0x7fff_ffff;
 
+// The bit above it, which a leaf's payload has.
 const LEAF_BIT: u32 = 0x8000_0000;
 
 // How many words were packed, that there was no tree, or why not.

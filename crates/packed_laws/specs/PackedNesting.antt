@@ -43,6 +43,10 @@ module _ (lo hi a b c d : Float) (all : Axis lo hi) (low : T (le lo a)) (high : 
       quantize-mono true d b lo hi (all .low) (all .high)
       (le-trans lo c d (le-trans lo a c low min) (inner .order)) max high
 
+  axis : (quantizeBounds false a lo hi ≤ quantizeBounds false c lo hi)
+      × (quantizeBounds true d lo hi ≤ quantizeBounds true b lo hi)
+  axis = (min-steps, max-steps)
+
 pub steps-nest : (all outer inner : Bounds3) → Proper all → Holds all outer → Holds outer inner → Proper inner
     → StepHolds (boxSteps all outer) (boxSteps all inner)
 unfolding boxSteps
@@ -53,25 +57,22 @@ steps-nest all o i p h k q =
     let b = o .max in
     let c = i .min in
     let d = i .max in
+    let along-x =
+    axis (lo .x) (hi .x) (a .x) (b .x) (c .x) (d .x) (p .along-x) (h .min-x) (h .max-x) (k .min-x) (k .max-x)
+    (q .along-x) in
+    let along-y =
+    axis (lo .y) (hi .y) (a .y) (b .y) (c .y) (d .y) (p .along-y) (h .min-y) (h .max-y) (k .min-y) (k .max-y)
+    (q .along-y) in
+    let along-z =
+    axis (lo .z) (hi .z) (a .z) (b .z) (c .z) (d .z) (p .along-z) (h .min-z) (h .max-z) (k .min-z) (k .max-z)
+    (q .along-z) in
     record {
-      min-x =
-          min-steps (lo .x) (hi .x) (a .x) (b .x) (c .x) (d .x) (p .along-x) (h .min-x) (h .max-x) (k .min-x) (k .max-x)
-          (q .along-x);
-      min-y =
-          min-steps (lo .y) (hi .y) (a .y) (b .y) (c .y) (d .y) (p .along-y) (h .min-y) (h .max-y) (k .min-y) (k .max-y)
-          (q .along-y);
-      min-z =
-          min-steps (lo .z) (hi .z) (a .z) (b .z) (c .z) (d .z) (p .along-z) (h .min-z) (h .max-z) (k .min-z) (k .max-z)
-          (q .along-z);
-      max-x =
-          max-steps (lo .x) (hi .x) (a .x) (b .x) (c .x) (d .x) (p .along-x) (h .min-x) (h .max-x) (k .min-x) (k .max-x)
-          (q .along-x);
-      max-y =
-          max-steps (lo .y) (hi .y) (a .y) (b .y) (c .y) (d .y) (p .along-y) (h .min-y) (h .max-y) (k .min-y) (k .max-y)
-          (q .along-y);
-      max-z =
-          max-steps (lo .z) (hi .z) (a .z) (b .z) (c .z) (d .z) (p .along-z) (h .min-z) (h .max-z) (k .min-z) (k .max-z)
-          (q .along-z);
+      min-x = along-x .0;
+      min-y = along-y .0;
+      min-z = along-z .0;
+      max-x = along-x .1;
+      max-y = along-y .1;
+      max-z = along-z .1;
     }
 
 -- ---- the packed words of a build that was accepted
