@@ -107,7 +107,7 @@ enum light_refusals {
 #define LIGHT_ANSWER_WORDS 7
 #define LIGHT_BIN_WORDS 3
 
-/* The words of a packed tree's header and of a packed node: HEADER_WORDS and NODE_WORDS of packed_bvh. */
+/* The words of a packed tree's header and of a packed node (packed_bvh HEADER_WORDS, NODE_WORDS). */
 #define LIGHT_PACKED_HEADER_WORDS 8
 #define LIGHT_PACKED_NODE_WORDS 8
 

@@ -22,7 +22,8 @@ module _ (f : Format) (m : ℕ) (e : ℤ) where
 
   below : T (fits f (fin true m e)) → sub f (fin false 0 (pos 0)) (fin true m e) ≡ fin false m e
   unfolding sub add neg sum fabs
-  below F = rw (none, itself, one-mul (down e), zero-add (m * up e)) (round-self f false m e (fabs-fits f (fin true m e) F))
+  below F =
+      rw (none, itself, one-mul (down e), zero-add (m * up e)) (round-self f false m e (fabs-fits f (fin true m e) F))
 
   above : 0 < m * up e → T (fits f (fin false m e)) → sub f (fin false 0 (pos 0)) (fin false m e) ≡ fin true m e
   unfolding sub add neg sum
@@ -36,7 +37,8 @@ module _ (f : Format) (m : ℕ) (e : ℤ) where
       let k : 0 - m * up e ≡ m * up e = omega arith in
       rw (none, itself, one-mul (down e), le-ltb 0 (m * up e) (omega arith), k) (round-self f false m e F)
 
-pub abs-greater : (f : Format) (x : Float) → T (fits f x) → cond (lt (sub f (fin false 0 (pos 0)) x) x) x (sub f (fin false 0 (pos 0)) x) ≡ fabs x
+pub abs-greater : (f : Format) (x : Float) → T (fits f x)
+    → cond (lt (sub f (fin false 0 (pos 0)) x) x) x (sub f (fin false 0 (pos 0)) x) ≡ fabs x
 unfolding fabs lt
 abs-greater f nan F = unfold sub add neg in refl
 abs-greater f (inf true) F = unfold sub add neg in refl

@@ -1,10 +1,12 @@
--- Casts of the whole numbers next to a value, by the cast n of the value itself, which cuts toward zero: floor changes no cast; ceil's is n + 1 where n lies
--- below the value, else n; round's is n + 1 where n and a half is at most the value, else n. Assumes nothing.
+-- Casts of the whole numbers next to a value, by the cast n of the value itself, which cuts toward zero: floor changes
+-- no cast; ceil's is n + 1 where n lies below the value, else n; round's is n + 1 where n and a half is at most the
+-- value, else n. Assumes nothing.
 use Prim.Native.Nat.{ℕ, suc, _+_, _*_, _-_, _/_, _^_, _≤_, _<_, min, zero-le}
 use mathlib.Core.Path.{_≡_, refl, sym, _∙_, ap, subst}
 use mathlib.Core.Bool.{Bool, true, false, cond}
 use mathlib.Core.Logic.{_↔_, _⊎_, inl, inr}
-use native.Mathlib.Nat.{le-trans, le-of-eq, le-of-mul-le-mul-right, lt-of-mul-lt-mul-right, mul-le-mul-right, mul-lt-mul-of-pos-right, mul-pos, div-add-mod', mod-lt}
+use native.Mathlib.Nat.{le-trans, le-of-eq, le-of-mul-le-mul-right, lt-of-mul-lt-mul-right, mul-le-mul-right}
+use native.Mathlib.Nat.{mul-lt-mul-of-pos-right, mul-pos, div-add-mod', mod-lt}
 use native.Mathlib.Nat.{eq-of-mul-eq-mul-right, lt-of-lt-of-le, lt-of-not-le}
 use native.Mathlib.Omega.{arith}
 use lib.Dec.{T, lit<, lit≤, ltb→lt, lt→ltb}
@@ -36,28 +38,34 @@ abbrev pub NanOrAtMost : ℕ → Float → Type 0
 NanOrAtMost n x = (x ≡ nan) ⊎ T (le x (fin false n (pos 0)))
 
 -- the cast of the whole number next to it is at most n
-pub next-small : (w n : ℕ) (away : Bool) (x : Float) → T (fits binary32 x) → NanOrAtMost n x → toUnsigned w (nextWhole binary32 away x) ≤ n
+pub next-small : (w n : ℕ) (away : Bool) (x : Float) → T (fits binary32 x) → NanOrAtMost n x
+    → toUnsigned w (nextWhole binary32 away x) ≤ n
 unfolding nextWhole toUnsigned
 next-small w n away x F (inl e) = rw e zero-le
 next-small w n away nan F (inr h) = zero-le
 next-small w n away (inf true) F (inr h) = zero-le
 next-small w n away (inf false) F (inr h) = absurd (unfold le lt eq in h)
 next-small w n away (fin true m e) F (inr h) =
-    le-trans (le-of-eq (cast-negative w (nextWhole binary32 away (fin true m e)) (outward away m e) (nextWhole-value binary32 true m e F away))) zero-le
+    le-trans (le-of-eq (cast-negative w (nextWhole binary32 away (fin true m e)) (outward away m e)
+    (nextWhole-value binary32 true m e F away))) zero-le
 next-small w n away (fin false m e) F (inr h) =
     let q = outward away m e in
     let l = le-fin false m e false n (pos 0) .0 h in
     let small : q ≤ n = outward-small away m e n (omega arith) in
-    let is = toUnsigned-units w (nextWhole binary32 away (fin false m e)) q 1 (lit< tt) (nextWhole-value binary32 false m e F away) in
+    let is =
+    toUnsigned-units w (nextWhole binary32 away (fin false m e)) q 1 (lit< tt)
+    (nextWhole-value binary32 false m e F away) in
     le-trans (le-of-eq is) (omega arith)
 
 pub cut-floor : (f : Format) (w : ℕ) (x : Float) → T (fits f x) → toUnsigned w (floor f x) ≡ toUnsigned w x
 unfolding floor nextWhole toUnsigned
 cut-floor f w nan F = refl
 cut-floor f w (inf s) F = refl
-cut-floor f w (fin true m e) F = cast-negative w (nextWhole f true (fin true m e)) (outward true m e) (nextWhole-value f true m e F true)
+cut-floor f w (fin true m e) F =
+    cast-negative w (nextWhole f true (fin true m e)) (outward true m e) (nextWhole-value f true m e F true)
 cut-floor f w (fin false m e) F =
-    whole-cast w (nextWhole f false (fin false m e)) (outward false m e) (nextWhole-value f false m e F false) ∙ omega arith
+    whole-cast w (nextWhole f false (fin false m e)) (outward false m e) (nextWhole-value f false m e F false)
+    ∙ omega arith
 
 -- ---- a value of a / c compared with m * 2 ^ e
 
@@ -83,8 +91,10 @@ module _ (v : Float) (a c m : ℕ) (e : ℤ) (C : 0 < c) where
       go (inf t) h = absurd h
       go (fin true p d) h = absurd (mathlib.Core.Bool.true≢false (h .0))
       go (fin false p d) h = (
-        λ t. there (p * up d) (m * up e) (down d) (down e) (down-pos d) (h .1) (ltb→lt (p * up d * down e) (m * up e * down d) t),
-        λ l. lt→ltb (p * up d * down e) (m * up e * down d) (back (p * up d) (m * up e) (down d) (down e) (down-pos d) (h .1) l),
+        λ t. there (p * up d) (m * up e) (down d) (down e) (down-pos d) (h .1)
+            (ltb→lt (p * up d * down e) (m * up e * down d) t),
+        λ l. lt→ltb (p * up d * down e) (m * up e * down d)
+            (back (p * up d) (m * up e) (down d) (down e) (down-pos d) (h .1) l),
       )
 
   le-value : HasValue v false a c → T (le v (fin false m e)) ↔ (a * down e ≤ m * up e * c)
@@ -172,9 +182,11 @@ and-half n h = go (round binary32 false n 1) (round-whole binary32 false n (omeg
     sum p d k =
         let num : p * up d * 2 + 1 * 1 * down d ≡ (2 * n + 1) * down d = omega arith in
         let D : 0 < down d * 2 = omega (arith, down-pos d) in
-        rescale (round binary32 false (p * up d * 2 + 1 * 1 * down d) (down d * 2)) (p * up d * 2 + 1 * 1 * down d) (down d * 2) (2 * n + 1) 2 D (omega arith)
+        rescale (round binary32 false (p * up d * 2 + 1 * 1 * down d) (down d * 2)) (p * up d * 2 + 1 * 1 * down d)
+        (down d * 2) (2 * n + 1) 2 D (omega arith)
         (round-exact binary32 false (p * up d * 2 + 1 * 1 * down d) (down d * 2) (2 * n + 1) 148 D h
-        (lt-of-lt-of-le (shl-lt 24 148 h) (pow-mono {i = 172} {j = 277} (lit≤ tt))) (twice (2 ^ 148) (p * up d * 2 + 1 * 1 * down d) (down d) num))
+        (lt-of-lt-of-le (shl-lt 24 148 h) (pow-mono {i = 172} {j = 277} (lit≤ tt)))
+        (twice (2 ^ 148) (p * up d * 2 + 1 * 1 * down d) (down d) num))
 
     go : (v : Float) → HasValue v false n 1 → HasValue (v ⊕ half) false (2 * n + 1) 2
     go nan k = absurd k
@@ -185,7 +197,8 @@ and-half n h = go (round binary32 false n 1) (round-whole binary32 false n (omeg
 -- ---- ceil and round, by the cast
 
 -- a cast that is short of its largest number is the whole part
-whole-part : (w m : ℕ) (e : ℤ) (n : ℕ) → n ≡ min (m * up e / down e) (2 ^ w - 1) → n + 1 < 2 ^ w → (n * down e ≤ m * up e) × (m * up e < suc n * down e)
+whole-part : (w m : ℕ) (e : ℤ) (n : ℕ) → n ≡ min (m * up e / down e) (2 ^ w - 1) → n + 1 < 2 ^ w
+    → (n * down e ≤ m * up e) × (m * up e < suc n * down e)
 whole-part w m e n is short =
     let k : n ≡ m * up e / down e = omega arith in
     let parts = div-add-mod' (m * up e) (down e) in
@@ -203,13 +216,15 @@ not-lt (fin false p d) a c h nan (inr e) = refl
 not-lt (fin false p d) a c h (inf s) (inr e) = rw e
 not-lt (fin false p d) a c h (fin s m g) (inr e) = rw e
 
-not-le : (v : Float) (a c : ℕ) → 0 < a → HasValue v false a c → (x : Float) → (x ≡ nan) ⊎ (negative x ≡ true) → T (le v x) → ⊥
+not-le : (v : Float) (a c : ℕ) → 0 < a → HasValue v false a c → (x : Float) → (x ≡ nan) ⊎ (negative x ≡ true)
+    → T (le v x) → ⊥
 not-le nan a c A h x k t = h
 not-le (inf t) a c A h x k u = h
 not-le (fin true p d) a c A h x k t = absurd (mathlib.Core.Bool.true≢false (h .0))
 not-le (fin false p d) a c A h x (inl e) t = unfold le lt eq in subst (λ (z : Float). T (le (fin false p d) z)) e t
 not-le (fin false p d) a c A h nan (inr e) t = unfold le lt eq in t
-not-le (fin false p d) a c A h (inf s) (inr e) t = unfold le lt eq in subst (λ (s : Bool). T (le (fin false p d) (inf s))) e t
+not-le (fin false p d) a c A h (inf s) (inr e) t =
+    unfold le lt eq in subst (λ (s : Bool). T (le (fin false p d) (inf s))) e t
 not-le (fin false p d) a c A h (fin s m g) (inr e) t =
     let l = le-fin false p d true m g .0 (subst (λ (s : Bool). T (le (fin false p d) (fin s m g))) e t) in
     let P : 0 < p * up d * c = subst (λ (z : ℕ). 0 < z) (sym (h .1)) (mul-pos A (down-pos d)) in
@@ -231,13 +246,15 @@ module _ (w : ℕ) (x : Float) (F : T (fits binary32 x)) (n : ℕ) (is : n ≡ t
           → toUnsigned w (nextWhole binary32 true (fin false m e)) ≡ cond b (n + 1) n
       past m e F lo hi true k =
           let l = lt-value (round binary32 false n 1) n 1 m e (lit< tt) whole .0 (subst T (sym k) tt) in
-          whole-cast w (nextWhole binary32 true (fin false m e)) (outward true m e) (nextWhole-value binary32 false m e F true)
+          whole-cast w (nextWhole binary32 true (fin false m e)) (outward true m e)
+          (nextWhole-value binary32 false m e F true)
           ∙ omega (arith, over-past m e n lo (omega arith) hi)
       past m e F lo hi false k =
           let l : m * up e < suc (n * down e) =
           lt-of-not-le (λ (a : suc (n * down e) ≤ m * up e).
           subst T k (lt-value (round binary32 false n 1) n 1 m e (lit< tt) whole .1 (omega arith))) in
-          whole-cast w (nextWhole binary32 true (fin false m e)) (outward true m e) (nextWhole-value binary32 false m e F true)
+          whole-cast w (nextWhole binary32 true (fin false m e)) (outward true m e)
+          (nextWhole-value binary32 false m e F true)
           ∙ omega (arith, over-at m e n lo (omega arith))
 
       go : (x : Float) → T (fits binary32 x) → n ≡ toUnsigned w x
@@ -247,12 +264,14 @@ module _ (w : ℕ) (x : Float) (F : T (fits binary32 x)) (n : ℕ) (is : n ≡ t
       go (inf false) F is = absurd (omega (arith, pow-pos w))
       go (fin true m e) F is =
           rw (not-lt (round binary32 false n 1) n 1 whole (fin true m e) (inr refl))
-          (cast-negative w (nextWhole binary32 false (fin true m e)) (outward false m e) (nextWhole-value binary32 true m e F false) ∙ sym is)
+          (cast-negative w (nextWhole binary32 false (fin true m e)) (outward false m e)
+          (nextWhole-value binary32 true m e F false) ∙ sym is)
       go (fin false m e) F is =
           let (lo, hi) = whole-part w m e n is short in
           past m e F lo hi (lt (round binary32 false n 1) (fin false m e)) refl
 
-  pub cut-round : 2 * n + 1 < 2 ^ 24 → toUnsigned w (roundAway binary32 x) ≡ cond (le (ofInt binary32 (pos n) ⊕ half) x) (n + 1) n
+  pub cut-round : 2 * n + 1 < 2 ^ 24
+      → toUnsigned w (roundAway binary32 x) ≡ cond (le (ofInt binary32 (pos n) ⊕ half) x) (n + 1) n
   unfolding roundAway toUnsigned
   cut-round few = go x F is
     where
@@ -270,7 +289,8 @@ module _ (w : ℕ) (x : Float) (F : T (fits binary32 x)) (n : ℕ) (is : n ≡ t
           ∙ omega (arith, half-past m e n lo l hi)
       past m e F lo hi false k =
           let l : m * up e * 2 < (2 * n + 1) * down e =
-          lt-of-not-le (λ (a : (2 * n + 1) * down e ≤ m * up e * 2). subst T k (le-value v (2 * n + 1) 2 m e (lit< tt) value .1 a)) in
+          lt-of-not-le (λ (a : (2 * n + 1) * down e ≤ m * up e * 2). subst T k
+          (le-value v (2 * n + 1) 2 m e (lit< tt) value .1 a)) in
           whole-cast w (roundAway binary32 (fin false m e)) (halfUp m e) (roundAway-value binary32 false m e F)
           ∙ omega (arith, half-short m e n lo l)
 
@@ -278,7 +298,8 @@ module _ (w : ℕ) (x : Float) (F : T (fits binary32 x)) (n : ℕ) (is : n ≡ t
       below x k true t = absurd (not-le v (2 * n + 1) 2 (omega arith) value x k (subst T (sym t) tt))
       below x k false t = refl
 
-      go : (x : Float) → T (fits binary32 x) → n ≡ toUnsigned w x → toUnsigned w (roundAway binary32 x) ≡ cond (le v x) (n + 1) n
+      go : (x : Float) → T (fits binary32 x) → n ≡ toUnsigned w x
+          → toUnsigned w (roundAway binary32 x) ≡ cond (le v x) (n + 1) n
       go nan F is = sym (below nan (inl refl) (le v nan) refl ∙ is)
       go (inf true) F is = sym (below (inf true) (inr refl) (le v (inf true)) refl ∙ is)
       go (inf false) F is = absurd (omega (arith, pow-pos w))

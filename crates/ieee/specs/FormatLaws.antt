@@ -1,6 +1,6 @@
--- Floats of the format: what a word stands for, and what the functions of Choose and Sqrt give, the format holds (those of Whole stand in WholeLaws,
--- narrow's in NarrowLaws, the operators' in lib.Ieee.Fits). The format holds a number with its sign in one way, so a value of it is its own rounding.
--- Assumes nothing.
+-- Floats of the format: what a word stands for, and what the functions of Choose and Sqrt give, the format holds (those
+-- of Whole stand in WholeLaws, narrow's in NarrowLaws, the operators' in lib.Ieee.Fits). The format holds a number with
+-- its sign in one way, so a value of it is its own rounding. Assumes nothing.
 use Prim.Native.Nat.{ℕ, zero, suc, _*_, _^_}
 use mathlib.Core.Path.{_≡_, refl}
 use mathlib.Core.Bool.{Bool, true, false, cond}
@@ -31,7 +31,8 @@ pub fmax-fits : (f : Format) (x y : Float) → T (fits f x) → T (fits f y) →
 unfolding fmax
 fmax-fits f x y p q = cond-fits f (isNan x) y (cond (lt x y) y x) q (cond-fits f (lt x y) y x q p)
 
-pub clamp-fits : (f : Format) (x lo hi : Float) → T (fits f x) → T (fits f lo) → T (fits f hi) → T (fits f (clamp x lo hi))
+pub clamp-fits : (f : Format) (x lo hi : Float) → T (fits f x) → T (fits f lo) → T (fits f hi)
+    → T (fits f (clamp x lo hi))
 unfolding clamp
 clamp-fits f x lo hi p q r =
     let y = cond (lt x lo) lo x in
@@ -63,7 +64,9 @@ self-value f s m e H =
     let (i, is) = held-shift f m e H in
     round-exact f s (m * up e) (down e) m i (down-pos e) (H .digits) (held-units f m e (m * 2 ^ i) H is) is
 
-pub round-self : (f : Format) (s : Bool) (m : ℕ) (e : ℤ) → T (fits f (fin s m e)) → round f s (m * up e) (down e) ≡ fin s m e
+pub round-self : (f : Format) (s : Bool) (m : ℕ) (e : ℤ) → T (fits f (fin s m e))
+    → round f s (m * up e) (down e) ≡ fin s m e
 round-self f s m e F =
-    same-value f (round f s (m * up e) (down e)) (fin s m e) s (m * up e) (down e) (down-pos e) (round-fits f s (m * up e) (down e)) F
+    same-value f (round f s (m * up e) (down e)) (fin s m e) s (m * up e) (down e) (down-pos e)
+    (round-fits f s (m * up e) (down e)) F
     (self-value f s m e (held f s m e F)) (refl, refl)

@@ -1,4 +1,5 @@
--- How sums, differences, products and quotients keep the order of floats, over the format but for the last lemma. Assumes nothing.
+-- How sums, differences, products and quotients keep the order of floats, over the format but for the last lemma.
+-- Assumes nothing.
 use Prim.Native.Nat.{ℕ, _+_, _*_, _≤_, _<_, zero-le}
 use mathlib.Core.Path.{_≡_, refl, sym, _∙_, ap, subst}
 use mathlib.Core.Bool.{Bool, true, false, not, _&&_, _||_, cond}
@@ -15,7 +16,8 @@ use lib.Ieee.Positive.{num, den, den-pos, positive}
 use borrow.Author.Tests.{le-ltb, ne-eqb}
 use Rattle.ieee.specs.Choose.{fabs}
 use Rattle.ieee.specs.FormatLaws.{fabs-fits, round-self}
-use Rattle.ieee.specs.OrderLaws.{finite-below, gain, le-refl, le-right, le-sizes, le-top, le→nonneg, loss, lt-of-lt-of-le}
+use Rattle.ieee.specs.OrderLaws.{finite-below, gain, le-refl, le-right, le-sizes, le-top, le→nonneg, loss}
+use Rattle.ieee.specs.OrderLaws.{lt-of-lt-of-le}
 use Rattle.ieee.specs.OrderLaws.{lt→le, nonneg, nonneg→le, nonneg-known, nonneg-up, or-right}
 use Rattle.ieee.specs.RoundOrder.{Rounds, rounds, le-rounds}
 use Rattle.ieee.specs.SumOrder.{sum-rounds, sum-mono, sub-known, difference-mono, difference-nonneg}
@@ -23,17 +25,22 @@ use Rattle.ieee.specs.SumOrder.{sum-rounds, sum-mono, sub-known, differe
 -- ---- each operation on values that are finite and not below zero
 
 -- such a value's size counts as a gain, whatever its sign
-own : (s : Bool) (m : ℕ) (e : ℤ) (k : ℕ) → T (nonneg (fin s m e)) → (gain s (m * up e * k) ≡ m * up e * k) × (loss s (m * up e * k) ≡ 0)
-own true m e k h = let z : m * up e * k ≡ 0 = ap (λ (z : ℕ). z * up e * k) (eqb→eq m 0 h) ∙ ap (λ (z : ℕ). z * k) (zero-mul (up e)) ∙ zero-mul k in (sym z, z)
+own : (s : Bool) (m : ℕ) (e : ℤ) (k : ℕ) → T (nonneg (fin s m e))
+    → (gain s (m * up e * k) ≡ m * up e * k) × (loss s (m * up e * k) ≡ 0)
+own true m e k h =
+    let z : m * up e * k ≡ 0 = ap (λ (z : ℕ). z * up e * k) (eqb→eq m 0 h) ∙ ap (λ (z : ℕ). z * k) (zero-mul (up e))
+    ∙ zero-mul k in (sym z, z)
 own false m e k h = (refl, refl)
 
-cross : (x y : Float) → T (nonneg x) → T (nonneg y) → T (finite x) → T (finite y) → T (le x y) → num x * den y ≤ num y * den x
+cross : (x y : Float) → T (nonneg x) → T (nonneg y) → T (finite x) → T (finite y) → T (le x y)
+    → num x * den y ≤ num y * den x
 unfolding le
 cross nan y p q a b h = absurd a
 cross (inf s) y p q a b h = absurd a
 cross (fin s m e) nan p q a b h = absurd b
 cross (fin s m e) (inf t) p q a b h = absurd b
-cross (fin s m e) (fin t n d) p q a b h = omega (arith, le-sizes s (m * up e * down d) t (n * up d * down e) .0 h, own s m e (down d) p, own t n d (down e) q)
+cross (fin s m e) (fin t n d) p q a b h =
+    omega (arith, le-sizes s (m * up e * down d) t (n * up d * down e) .0 h, own s m e (down d) p, own t n d (down e) q)
 
 add-rounds : (f : Format) (x y : Float) → T (nonneg x) → T (nonneg y) → T (finite x) → T (finite y)
     → Rounds f (add f x y) (num x * den y + num y * den x) (den x * den y)
@@ -54,14 +61,16 @@ add-rounds f (fin s m e) (fin t n d) p q a b =
 zero-size : (m : ℕ) (e : ℤ) (k : ℕ) → T (eqb m 0) → m * up e * k ≡ 0
 zero-size m e k h = ap (λ (z : ℕ). z * up e * k) (eqb→eq m 0 h) ∙ ap (λ (z : ℕ). z * k) (zero-mul (up e)) ∙ zero-mul k
 
-mul-rounds : (f : Format) (x y : Float) → T (nonneg x) → T (nonneg y) → T (finite x) → T (finite y) → Rounds f (mul f x y) (num x * num y) (den x * den y)
+mul-rounds : (f : Format) (x y : Float) → T (nonneg x) → T (nonneg y) → T (finite x) → T (finite y)
+    → Rounds f (mul f x y) (num x * num y) (den x * den y)
 unfolding mul
 mul-rounds f nan y p q a b = absurd a
 mul-rounds f (inf s) y p q a b = absurd a
 mul-rounds f (fin s m e) nan p q a b = absurd b
 mul-rounds f (fin s m e) (inf t) p q a b = absurd b
 mul-rounds f (fin s m e) (fin t n d) p q a b =
-    rounds f (unlike s t) (m * up e * (n * up d)) (down e * down d) (m * up e * (n * up d)) (mul-pos (down-pos e) (down-pos d)) refl (none s t p q)
+    rounds f (unlike s t) (m * up e * (n * up d)) (down e * down d) (m * up e * (n * up d))
+    (mul-pos (down-pos e) (down-pos d)) refl (none s t p q)
   where
     none : (s t : Bool) → T (nonneg (fin s m e)) → T (nonneg (fin t n d)) → T (unlike s t) → m * up e * (n * up d) ≡ 0
     none true true p q u = absurd u
@@ -69,7 +78,8 @@ mul-rounds f (fin s m e) (fin t n d) p q a b =
     none false true p q u = mul-comm (m * up e) (n * up d) ∙ zero-size n d (m * up e) q
     none false false p q u = absurd u
 
-div-rounds : (f : Format) (x y : Float) → T (nonneg x) → T (finite x) → T (positive y) → Rounds f (div f x y) (num x * den y) (num y * den x)
+div-rounds : (f : Format) (x y : Float) → T (nonneg x) → T (finite x) → T (positive y)
+    → Rounds f (div f x y) (num x * den y) (num y * den x)
 unfolding div
 div-rounds f nan y p a q = absurd a
 div-rounds f (inf s) y p a q = absurd a
@@ -78,7 +88,8 @@ div-rounds f (fin s m e) (inf t) p a q = absurd q
 div-rounds f (fin s m e) (fin true n d) p a q = absurd q
 div-rounds f (fin s m e) (fin false n d) p a q =
     rw (ne-eqb n 0 (λ (z : n ≡ 0). omega (arith, ltb→lt 0 n q)))
-    (rounds f (unlike s false) (m * up e * down d) (n * up d * down e) (m * up e * down d) (mul-pos (mul-pos (ltb→lt 0 n q) (up-pos d)) (down-pos e)) refl
+    (rounds f (unlike s false) (m * up e * down d) (n * up d * down e) (m * up e * down d)
+    (mul-pos (mul-pos (ltb→lt 0 n q) (up-pos d)) (down-pos e)) refl
     (none s p))
   where
     none : (s : Bool) → T (nonneg (fin s m e)) → T (unlike s false) → m * up e * down d ≡ 0
@@ -100,7 +111,8 @@ unfolding lt
 positive→lt nan h = h
 positive→lt (inf s) h = absurd h
 positive→lt (fin true m e) h = h
-positive→lt (fin false m e) h = lt→ltb (0 * 1 * down e) (m * up e * 1) (omega (arith, mul-pos (ltb→lt 0 m h) (up-pos e)))
+positive→lt (fin false m e) h =
+    lt→ltb (0 * 1 * down e) (m * up e * 1) (omega (arith, mul-pos (ltb→lt 0 m h) (up-pos e)))
 
 positive-nonneg : (x : Float) → T (positive x) → T (nonneg x)
 positive-nonneg x h = le→nonneg x (lt→le (fin false 0 (pos 0)) x (positive→lt x h))
@@ -146,7 +158,8 @@ mul-nonneg f (fin false m e) (inf false) p q = inf-or-nan (eqb m 0) false tt
 mul-nonneg f (fin s m e) (fin t n d) p q = inr (mul-rounds f (fin s m e) (fin t n d) p q tt tt .0)
 
 -- An infinity over an infinity is a NaN. The divisor is above zero: over -0 a value above zero is minus infinity.
-pub div-nonneg : (f : Format) (x y : Float) → T (nonneg x) → T (lt (fin false 0 (pos 0)) y) → (div f x y ≡ nan) ⊎ T (nonneg (div f x y))
+pub div-nonneg : (f : Format) (x y : Float) → T (nonneg x) → T (lt (fin false 0 (pos 0)) y)
+    → (div f x y ≡ nan) ⊎ T (nonneg (div f x y))
 unfolding div lt
 div-nonneg f nan y p q = absurd p
 div-nonneg f (inf true) y p q = absurd p
@@ -156,7 +169,8 @@ div-nonneg f (inf false) (fin true n d) p q = absurd q
 div-nonneg f (inf false) (fin false n d) p q = inr tt
 div-nonneg f (fin s m e) nan p q = absurd q
 div-nonneg f (fin s m e) (inf t) p q = inr (or-right (not (unlike s t)) (eqb 0 0) tt)
-div-nonneg f (fin s m e) (fin t n d) p q = inr (div-rounds f (fin s m e) (fin t n d) p tt (lt→positive (fin t n d) tt q) .0)
+div-nonneg f (fin s m e) (fin t n d) p q =
+    inr (div-rounds f (fin s m e) (fin t n d) p tt (lt→positive (fin t n d) tt q) .0)
 
 -- ---- the operations keep the order
 
@@ -172,18 +186,23 @@ module _ (f : Format) (u v w z : Float) (p : T (nonneg u)) (q : T (nonneg w)) (h
       let c = finite-below u v p h a in
       let d = finite-below w z q k b in
       le-rounds f (mul f u w) (mul f v z) (num u * num w) (den u * den w) (num v * num z) (den v * den z)
-      (mul-pos (den-pos u) (den-pos w)) (mul-pos (den-pos v) (den-pos z)) (mul-rounds f u w p q c d) (mul-rounds f v z nonneg-v nonneg-z a b)
+      (mul-pos (den-pos u) (den-pos w)) (mul-pos (den-pos v) (den-pos z)) (mul-rounds f u w p q c d)
+      (mul-rounds f v z nonneg-v nonneg-z a b)
       (omega (arith, mul-le-mul (cross u v p nonneg-v c a h) (cross w z q nonneg-z d b k)))
 
 -- what is at most a result of finite operands is at most the result, where any other is infinite
-under : (x y r z : Float) → T (not (isNan z)) → (T (not (finite x && finite y)) → r ≡ inf false) → (T (finite x) → T (finite y) → T (le z r)) → T (le z r)
-under x y r z n top h = go (finite x && finite y) top (λ (t : T (finite x && finite y)). h (and-l (finite x) (finite y) t) (and-r (finite x) (finite y) t))
+under : (x y r z : Float) → T (not (isNan z)) → (T (not (finite x && finite y)) → r ≡ inf false)
+    → (T (finite x) → T (finite y) → T (le z r)) → T (le z r)
+under x y r z n top h =
+    go (finite x && finite y) top (λ (t : T (finite x && finite y)). h (and-l (finite x) (finite y) t)
+    (and-r (finite x) (finite y) t))
   where
     go : (b : Bool) → (T (not b) → r ≡ inf false) → (T b → T (le z r)) → T (le z r)
     go true top h = h tt
     go false top h = subst (λ (v : Float). T (le z v)) (sym (top tt)) (le-top z n)
 
-add-top : (f : Format) (x y : Float) → T (nonneg x) → T (nonneg y) → T (not (finite x && finite y)) → add f x y ≡ inf false
+add-top : (f : Format) (x y : Float) → T (nonneg x) → T (nonneg y) → T (not (finite x && finite y))
+    → add f x y ≡ inf false
 unfolding add
 add-top f nan y p q h = absurd p
 add-top f (inf true) y p q h = absurd p
@@ -197,7 +216,8 @@ add-top f (fin s m e) (inf false) p q h = refl
 add-top f (fin s m e) (fin t n d) p q h = absurd h
 
 -- u + w grows with both, infinities included
-pub add-mono : (f : Format) (u v w z : Float) → T (nonneg u) → T (nonneg w) → T (le u v) → T (le w z) → T (le (add f u w) (add f v z))
+pub add-mono : (f : Format) (u v w z : Float) → T (nonneg u) → T (nonneg w) → T (le u v) → T (le w z)
+    → T (le (add f u w) (add f v z))
 add-mono f u v w z p q h k =
     sum-mono f u v w z (nonneg-known (add f u w) (add-nonneg f u w p q))
     (nonneg-known (add f v z) (add-nonneg f v z (nonneg-up u v p h) (nonneg-up w z q k))) h k
@@ -208,7 +228,8 @@ top-or-nan true t h k = absurd k
 top-or-nan false true h k = absurd h
 top-or-nan false false h k = refl
 
-mul-top : (f : Format) (x y : Float) → T (nonneg x) → T (nonneg y) → T (not (isNan (mul f x y))) → T (not (finite x && finite y)) → mul f x y ≡ inf false
+mul-top : (f : Format) (x y : Float) → T (nonneg x) → T (nonneg y) → T (not (isNan (mul f x y)))
+    → T (not (finite x && finite y)) → mul f x y ≡ inf false
 unfolding mul
 mul-top f nan y p q k h = absurd p
 mul-top f (inf true) y p q k h = absurd p
@@ -227,18 +248,22 @@ mul-top f (fin s m e) (fin t n d) p q k h = absurd h
 pub mul-mono : (f : Format) (u v w z : Float) → T (nonneg u) → T (nonneg w) → T (le u v) → T (le w z)
     → T (not (isNan (mul f u w))) → T (not (isNan (mul f v z))) → T (le (mul f u w) (mul f v z))
 mul-mono f u v w z p q h k i j =
-    under v z (mul f v z) (mul f u w) i (mul-top f v z (nonneg-up u v p h) (nonneg-up w z q k) j) (mul-finite f u v w z p q h k)
+    under v z (mul f v z) (mul f u w) i (mul-top f v z (nonneg-up u v p h) (nonneg-up w z q k) j)
+    (mul-finite f u v w z p q h k)
 
 -- u / s grows with u
-pub div-mono : (f : Format) (u v s : Float) → T (nonneg u) → T (finite v) → T (finite s) → T (lt (fin false 0 (pos 0)) s) → T (le u v)
+pub div-mono : (f : Format) (u v s : Float) → T (nonneg u) → T (finite v) → T (finite s)
+    → T (lt (fin false 0 (pos 0)) s) → T (le u v)
     → T (le (div f u s) (div f v s))
 div-mono f u v s p a b l h =
     let c = finite-below u v p h a in
     let q = nonneg-up u v p h in
     let g : T (positive s) = lt→positive s b l in
     let S : 0 < num s = num-above s g in
-    let x : num u * den v * (num s * den s) ≤ num v * den u * (num s * den s) = mul-le-mul-right (num s * den s) (cross u v p q c a h) in
-    le-rounds f (div f u s) (div f v s) (num u * den s) (num s * den u) (num v * den s) (num s * den v) (mul-pos S (den-pos u)) (mul-pos S (den-pos v))
+    let x : num u * den v * (num s * den s) ≤ num v * den u * (num s * den s) =
+    mul-le-mul-right (num s * den s) (cross u v p q c a h) in
+    le-rounds f (div f u s) (div f v s) (num u * den s) (num s * den u) (num v * den s) (num s * den v)
+    (mul-pos S (den-pos u)) (mul-pos S (den-pos v))
     (div-rounds f u s p c g) (div-rounds f v s q a g) (omega arith)
   where
     num-above : (x : Float) → T (positive x) → 0 < num x
@@ -248,13 +273,15 @@ div-mono f u v s p a b l h =
     num-above (fin false m e) h = mul-pos (ltb→lt 0 m h) (up-pos e)
 
 -- u - s grows with u, and as s falls, for values not below zero whose differences are not either
-pub sub-mono : (f : Format) (u v s : Float) → T (nonneg s) → T (finite v) → T (le s u) → T (le u v) → T (le (sub f u s) (sub f v s))
+pub sub-mono : (f : Format) (u v s : Float) → T (nonneg s) → T (finite v) → T (le s u) → T (le u v)
+    → T (le (sub f u s) (sub f v s))
 sub-mono f u v s p a l h =
     let b = finite-below u v (nonneg-up s u p l) h a in
     let c = finite-below s u p l b in
     difference-mono f u s v s (sub-known f u s b c) (sub-known f v s a c) h (le-refl s (nonneg-known s p))
 
-pub sub-anti : (f : Format) (x s t : Float) → T (nonneg s) → T (finite x) → T (le s t) → T (le t x) → T (le (sub f x t) (sub f x s))
+pub sub-anti : (f : Format) (x s t : Float) → T (nonneg s) → T (finite x) → T (le s t) → T (le t x)
+    → T (le (sub f x t) (sub f x s))
 sub-anti f x s t p a h l =
     let b = finite-below t x (nonneg-up s t p h) l a in
     let c = finite-below s t p h b in
@@ -269,14 +296,17 @@ own-rounds f nan F p c = absurd c
 own-rounds f (inf s) F p c = absurd c
 own-rounds f (fin s m e) F p c = (p, sym (round-self f false m e (fabs-fits f (fin s m e) F)))
 
-le-rounded : (f : Format) (x y : Float) (a b : ℕ) → T (fits f x) → T (nonneg x) → T (finite x) → 0 < b → Rounds f y a b → num x * b ≤ a * den x → T (le x y)
+le-rounded : (f : Format) (x y : Float) (a b : ℕ) → T (fits f x) → T (nonneg x) → T (finite x) → 0 < b → Rounds f y a b
+    → num x * b ≤ a * den x → T (le x y)
 le-rounded f x y a b F p c B r h = le-rounds f x y (num x) (den x) a b (den-pos x) B (own-rounds f x F p c) r h
 
 term-le : (f : Format) (x y z : Float) → T (fits f z) → T (nonneg z) → T (nonneg x) → T (nonneg y)
-    → (T (finite x) → T (finite y) → T (finite z) × (num z * (den x * den y) ≤ (num x * den y + num y * den x) * den z)) → T (le z (add f x y))
+    → (T (finite x) → T (finite y) → T (finite z) × (num z * (den x * den y) ≤ (num x * den y + num y * den x) * den z))
+    → T (le z (add f x y))
 term-le f x y z F r p q h =
     under x y (add f x y) z (nonneg-known z r) (add-top f x y p q) (λ (a : T (finite x)) (b : T (finite y)).
-    le-rounded f z (add f x y) (num x * den y + num y * den x) (den x * den y) F r (h a b .0) (mul-pos (den-pos x) (den-pos y)) (add-rounds f x y p q a b)
+    le-rounded f z (add f x y) (num x * den y + num y * den x) (den x * den y) F r (h a b .0)
+    (mul-pos (den-pos x) (den-pos y)) (add-rounds f x y p q a b)
     (h a b .1))
 
 pub add-left-le : (f : Format) (x y : Float) → T (fits f x) → T (nonneg x) → T (nonneg y) → T (le x (add f x y))
@@ -286,8 +316,11 @@ pub add-right-le : (f : Format) (x y : Float) → T (fits f y) → T (nonneg x) 
 add-right-le f x y F p q = term-le f x y y F q p q (λ (a : T (finite x)) (b : T (finite y)). (b, omega arith))
 
 -- a value of the format above zero, and one not below zero: their sum is above zero, and may be infinite
-pub add-positive : (f : Format) (x y : Float) → T (fits f x) → T (lt (fin false 0 (pos 0)) x) → T (nonneg y) → T (lt (fin false 0 (pos 0)) (add f x y))
-add-positive f x y F h q = lt-of-lt-of-le (fin false 0 (pos 0)) x (add f x y) h (add-left-le f x y F (le→nonneg x (lt→le (fin false 0 (pos 0)) x h)) q)
+pub add-positive : (f : Format) (x y : Float) → T (fits f x) → T (lt (fin false 0 (pos 0)) x) → T (nonneg y)
+    → T (lt (fin false 0 (pos 0)) (add f x y))
+add-positive f x y F h q =
+    lt-of-lt-of-le (fin false 0 (pos 0)) x (add f x y) h
+    (add-left-le f x y F (le→nonneg x (lt→le (fin false 0 (pos 0)) x h)) q)
 
 -- ---- a difference is at most what is taken from
 
@@ -310,7 +343,8 @@ sub-zero f (fin s m e) F =
 
 pub sub-le : (f : Format) (u s : Float) → T (fits f u) → T (finite u) → T (nonneg s) → T (le s u) → T (le (sub f u s) u)
 sub-le f u s F a p l =
-    subst (λ (z : Float). T (le (sub f u s) z)) (sub-zero f u F) (sub-anti f u (fin false 0 (pos 0)) s tt a (nonneg→le s p) l)
+    subst (λ (z : Float). T (le (sub f u s) z)) (sub-zero f u F)
+    (sub-anti f u (fin false 0 (pos 0)) s tt a (nonneg→le s p) l)
 
 -- ---- 1 - s for an s up to 1 - 2 ^ -23
 
@@ -320,4 +354,5 @@ unfolding ofBits
 below-one s p h =
     let c = ofBits binary32 0x3f7f_fffe in
     let o = ofBits binary32 0x3f80_0000 in
-    lt-of-lt-of-le (fin false 0 (pos 0)) (sub binary32 o c) (sub binary32 o s) (unfold lt sub in tt) (sub-anti binary32 o s c p tt h (unfold le in tt))
+    lt-of-lt-of-le (fin false 0 (pos 0)) (sub binary32 o c) (sub binary32 o s) (unfold lt sub in tt)
+    (sub-anti binary32 o s c p tt h (unfold le in tt))

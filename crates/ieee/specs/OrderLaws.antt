@@ -1,10 +1,11 @@
--- The order of floats: `le` and `lt` compare by value, so -0 equals +0, and a NaN is in no order. `nonneg` is "not below zero" by value, so -0 counts.
--- Assumes nothing.
+-- The order of floats: `le` and `lt` compare by value, so -0 equals +0, and a NaN is in no order. `nonneg` is "not
+-- below zero" by value, so -0 counts. Assumes nothing.
 use Prim.Native.Nat.{ℕ, _+_, _*_, _≤_, _<_, zero-le}
 use mathlib.Core.Path.{_≡_, refl, sym, ap}
 use mathlib.Core.Bool.{Bool, true, false, not, _&&_, _||_, cond}
 use mathlib.Core.Logic.{_⊎_, inl, inr, _↔_}
-use native.Mathlib.Nat.{le-of-lt, le-of-eq, mul-pos, eq-or-lt-of-le, eq-zero-or-pos, lt-of-not-le, zero-mul, le-of-mul-le-mul-right, mul-le-mul-right}
+use native.Mathlib.Nat.{le-of-lt, le-of-eq, mul-pos, eq-or-lt-of-le, eq-zero-or-pos, lt-of-not-le, zero-mul}
+use native.Mathlib.Nat.{le-of-mul-le-mul-right, mul-le-mul-right}
 use native.Mathlib.Decide.{decLe}
 use native.Mathlib.Omega.{arith}
 use lib.Dec.{T, ltb, eqb, eqb→eq, ltb→lt, lt→ltb, T-not, not-T}
@@ -41,18 +42,24 @@ le-test a b r h k = (
 
 zeros : (a b : ℕ) → T (eqb a b && eqb a 0) ↔ (a + b ≤ 0)
 zeros a b = (
-  λ t. let e : a ≡ b = eqb→eq a b (and-l (eqb a b) (eqb a 0) t) in let z : a ≡ 0 = eqb→eq a 0 (and-r (eqb a b) (eqb a 0) t) in omega arith,
+  λ t. let e : a ≡ b = eqb→eq a b (and-l (eqb a b) (eqb a 0) t) in let z : a ≡ 0 = eqb→eq a 0
+      (and-r (eqb a b) (eqb a 0) t) in omega arith,
   λ l. let e : a ≡ b = omega arith in let z : a ≡ 0 = omega arith in and-i (eqb a b) (eqb a 0) (eq→eqb e) (eq→eqb z),
 )
 
-pub le-sizes : (s : Bool) (a : ℕ) (t : Bool) (b : ℕ) → T (below s a t b || level s a t b) ↔ (gain s a + loss t b ≤ gain t b + loss s a)
+pub le-sizes : (s : Bool) (a : ℕ) (t : Bool) (b : ℕ)
+    → T (below s a t b || level s a t b) ↔ (gain s a + loss t b ≤ gain t b + loss s a)
 le-sizes false a false b =
-    let i = le-test a b (eqb a b && true) (λ t. le-of-eq (eqb→eq a b (and-l (eqb a b) true t))) (λ e. and-i (eqb a b) true (eq→eqb e) tt) in
+    let i =
+    le-test a b (eqb a b && true) (λ t. le-of-eq (eqb→eq a b (and-l (eqb a b) true t)))
+    (λ e. and-i (eqb a b) true (eq→eqb e) tt) in
     (λ t. let l = i .0 t in omega arith, λ l. i .1 (omega arith))
 le-sizes false a true b = (λ t. let l = zeros a b .0 t in omega arith, λ l. zeros a b .1 (omega arith))
 le-sizes true a false b = (λ t. omega arith, λ l. le-test 0 (a + b) (eqb a b && eqb a 0) (λ t. zero-le) (λ e. zeros a b .1 (omega arith)) .1 zero-le)
 le-sizes true a true b =
-    let i = le-test b a (eqb a b && true) (λ t. le-of-eq (sym (eqb→eq a b (and-l (eqb a b) true t)))) (λ e. and-i (eqb a b) true (eq→eqb (sym e)) tt) in
+    let i =
+    le-test b a (eqb a b && true) (λ t. le-of-eq (sym (eqb→eq a b (and-l (eqb a b) true t))))
+    (λ e. and-i (eqb a b) true (eq→eqb (sym e)) tt) in
     (λ t. let l = i .0 t in omega arith, λ l. i .1 (omega arith))
 
 lt-sizes : (s : Bool) (a : ℕ) (t : Bool) (b : ℕ) → T (below s a t b) ↔ (gain s a + loss t b < gain t b + loss s a)
@@ -62,7 +69,8 @@ lt-sizes true a false b = (λ t. omega (arith, ltb→lt 0 (a + b) t), λ l. lt�
 lt-sizes true a true b = (λ t. omega (arith, ltb→lt b a t), λ l. lt→ltb b a (omega arith))
 
 -- three values gain - loss over a denominator
-chain : (px nx dx py ny dy pz nz dz : ℕ) → 0 < dy → px * dy + ny * dx ≤ py * dx + nx * dy → py * dz + nz * dy ≤ pz * dy + ny * dz
+chain : (px nx dx py ny dy pz nz dz : ℕ) → 0 < dy → px * dy + ny * dx ≤ py * dx + nx * dy
+    → py * dz + nz * dy ≤ pz * dy + ny * dz
     → px * dz + nz * dx ≤ pz * dx + nx * dz
 chain px nx dx py ny dy pz nz dz D h k =
     let a : (px * dy + ny * dx) * dz ≤ (py * dx + nx * dy) * dz = mul-le-mul-right dz h in
@@ -77,25 +85,31 @@ pub loss-mul : (s : Bool) (a k : ℕ) → loss s (a * k) ≡ loss s a * k
 loss-mul true a k = refl
 loss-mul false a k = sym (zero-mul k)
 
+sides : (s : Bool) (a k : ℕ) (t : Bool) (b j : ℕ) → gain s (a * k) + loss t (b * j) ≡ gain s a * k + loss t b * j
+sides s a k t b j = rw (gain-mul s a k, loss-mul t b j)
+
 module _ (s : Bool) (m : ℕ) (e : ℤ) (t : Bool) (n : ℕ) (d : ℤ) where
-  pub le-fin : T (le (fin s m e) (fin t n d)) ↔
-      (gain s (m * up e) * down d + loss t (n * up d) * down e ≤ gain t (n * up d) * down e + loss s (m * up e) * down d)
+  abbrev over : ℕ
+  over = gain s (m * up e) * down d + loss t (n * up d) * down e
+
+  abbrev under : ℕ
+  under = gain t (n * up d) * down e + loss s (m * up e) * down d
+
+  pub le-fin : T (le (fin s m e) (fin t n d)) ↔ (over ≤ under)
   unfolding le
   le-fin =
-      let i = le-sizes s (m * up e * down d) t (n * up d * down e) in (
-        λ h. rw (← gain-mul s (m * up e) (down d), ← loss-mul t (n * up d) (down e), ← gain-mul t (n * up d) (down e), ← loss-mul s (m * up e) (down d))
-            (i .0 h),
-        λ h. i .1 (rw (gain-mul s (m * up e) (down d), loss-mul t (n * up d) (down e), gain-mul t (n * up d) (down e), loss-mul s (m * up e) (down d)) h),
-      )
+      let i = le-sizes s (m * up e * down d) t (n * up d * down e) in
+      let l = sides s (m * up e) (down d) t (n * up d) (down e) in
+      let r = sides t (n * up d) (down e) s (m * up e) (down d) in
+      (λ h. rw (← l, ← r) (i .0 h), λ h. i .1 (rw (l, r) h))
 
-  lt-fin : T (lt (fin s m e) (fin t n d)) ↔ (gain s (m * up e) * down d + loss t (n * up d) * down e < gain t (n * up d) * down e + loss s (m * up e) * down d)
+  lt-fin : T (lt (fin s m e) (fin t n d)) ↔ (over < under)
   unfolding lt
   lt-fin =
-      let i = lt-sizes s (m * up e * down d) t (n * up d * down e) in (
-        λ h. rw (← gain-mul s (m * up e) (down d), ← loss-mul t (n * up d) (down e), ← gain-mul t (n * up d) (down e), ← loss-mul s (m * up e) (down d))
-            (i .0 h),
-        λ h. i .1 (rw (gain-mul s (m * up e) (down d), loss-mul t (n * up d) (down e), gain-mul t (n * up d) (down e), loss-mul s (m * up e) (down d)) h),
-      )
+      let i = lt-sizes s (m * up e * down d) t (n * up d * down e) in
+      let l = sides s (m * up e) (down d) t (n * up d) (down e) in
+      let r = sides t (n * up d) (down e) s (m * up e) (down d) in
+      (λ h. rw (← l, ← r) (i .0 h), λ h. i .1 (rw (l, r) h))
 
 -- ---- a total order on the values that are not NaN
 
@@ -162,7 +176,8 @@ le-trans (fin s m e) (fin t n d) (inf true) h k = absurd k
 le-trans (fin s m e) (fin t n d) (inf false) h k = tt
 le-trans (fin s m e) (fin t n d) (fin u o b) h k =
     le-fin s m e u o b .1
-    (chain (gain s (m * up e)) (loss s (m * up e)) (down e) (gain t (n * up d)) (loss t (n * up d)) (down d) (gain u (o * up b)) (loss u (o * up b)) (down b)
+    (chain (gain s (m * up e)) (loss s (m * up e)) (down e) (gain t (n * up d)) (loss t (n * up d)) (down d)
+    (gain u (o * up b)) (loss u (o * up b)) (down b)
     (down-pos d)
     (le-fin s m e t n d .0 h) (le-fin t n d u o b .0 k))
 
@@ -181,7 +196,8 @@ lt-or-le (fin s m e) nan h k = absurd k
 lt-or-le (fin s m e) (inf true) h k = inr tt
 lt-or-le (fin s m e) (inf false) h k = inl tt
 lt-or-le (fin s m e) (fin t n d) h k =
-    go (decLe (gain t (n * up d) * down e + loss s (m * up e) * down d) (gain s (m * up e) * down d + loss t (n * up d) * down e))
+    go (decLe (gain t (n * up d) * down e + loss s (m * up e) * down d)
+    (gain s (m * up e) * down d + loss t (n * up d) * down e))
   where
     go : Dec (gain t (n * up d) * down e + loss s (m * up e) * down d ≤ gain s (m * up e) * down d + loss t (n * up d) * down e)
         → T (lt (fin s m e) (fin t n d)) ⊎ T (le (fin t n d) (fin s m e))
@@ -221,11 +237,13 @@ le-of-not-lt x y h k n = elim (lt-or-le y x k h) [ inl l ↦ absurd (T-not (lt y
 
 pub lt-of-lt-of-le : (x y z : Float) → T (lt x y) → T (le y z) → T (lt x z)
 lt-of-lt-of-le x y z h k =
-    elim (lt-or-le x z (le-left x y (lt→le x y h)) (le-right y z k)) [ inl l ↦ l | inr l ↦ absurd (not-le-of-lt x y h (le-trans y z x k l)) ]
+    elim (lt-or-le x z (le-left x y (lt→le x y h))
+    (le-right y z k)) [ inl l ↦ l | inr l ↦ absurd (not-le-of-lt x y h (le-trans y z x k l)) ]
 
 pub lt-of-le-of-lt : (x y z : Float) → T (le x y) → T (lt y z) → T (lt x z)
 lt-of-le-of-lt x y z h k =
-    elim (lt-or-le x z (le-left x y h) (le-right y z (lt→le y z k))) [ inl l ↦ l | inr l ↦ absurd (not-le-of-lt y z k (le-trans z x y l h)) ]
+    elim (lt-or-le x z (le-left x y h)
+    (le-right y z (lt→le y z k))) [ inl l ↦ l | inr l ↦ absurd (not-le-of-lt y z k (le-trans z x y l h)) ]
 
 -- ---- not below zero
 

@@ -62,14 +62,17 @@ value-zero : (x : Float) (s : Bool) (c : ℕ) → 0 < c → HasValue x s 0 c →
 value-zero nan s c C h = absurd h
 value-zero (inf t) s c C h = absurd h
 value-zero (fin t m e) s c C h =
-    let z : m ≡ 0 = elim (eq-zero-or-pos m) [ inl z ↦ z | inr p ↦ absurd (omega (arith, mul-pos (mul-pos p (up-pos e)) C, h .1)) ] in
+    let z : m ≡ 0 =
+    elim (eq-zero-or-pos m) [ inl z ↦ z | inr p ↦ absurd (omega (arith, mul-pos (mul-pos p (up-pos e)) C, h .1)) ] in
     or-right (not t) (eqb m 0) (eq→eqb z)
 
 pub round-nonneg : (f : Format) (s : Bool) (n d : ℕ) → 0 < d → (T s → n ≡ 0) → T (nonneg (round f s n d))
 round-nonneg f true n d D h =
     subst (λ (z : ℕ). T (nonneg (round f true z d))) (sym (h tt))
-    (value-zero (round f true 0 d) true d D (round-exact f true 0 d 0 0 D (pow-pos (prec f)) (pow-pos (low f + suc (emax f))) (simp zero-mul)))
-round-nonneg f false n d D h = subst (λ (z : Float). T (nonneg z)) (abs-round f false n d) (abs-nonneg (round f false n d) known)
+    (value-zero (round f true 0 d) true d D
+    (round-exact f true 0 d 0 0 D (pow-pos (prec f)) (pow-pos (low f + suc (emax f))) (simp zero-mul)))
+round-nonneg f false n d D h =
+    subst (λ (z : Float). T (nonneg z)) (abs-round f false n d) (abs-nonneg (round f false n d) known)
   where
     known : T (not (isNan (round f false n d)))
     known = le-left (round f false n d) (round f false n d) (round-mono f n d n d D D (omega arith))
@@ -91,9 +94,11 @@ abs-le (fin true m e) h =
     (le-fin true m e false m e .1 (omega arith), le-fin false m e true m e .1 (omega (arith, ap (λ (k : ℕ). k * down e) z)))
 abs-le (fin false m e) h = (le-refl (fin false m e) (unfold isNan in tt), le-refl (fin false m e) (unfold isNan in tt))
 
-pub le-rounds : (f : Format) (x y : Float) (a b c d : ℕ) → 0 < b → 0 < d → Rounds f x a b → Rounds f y c d → a * d ≤ c * b → T (le x y)
+pub le-rounds : (f : Format) (x y : Float) (a b c d : ℕ) → 0 < b → 0 < d → Rounds f x a b → Rounds f y c d
+    → a * d ≤ c * b → T (le x y)
 le-rounds f x y a b c d B D p q h =
     le-trans x (fabs x) y (abs-le x (p .0) .0)
     (le-trans (fabs x) (fabs y) y
-    (subst (λ (z : Float). T (le z (fabs y))) (sym (p .1)) (subst (λ (z : Float). T (le (round f false a b) z)) (sym (q .1)) (round-mono f a b c d B D h)))
+    (subst (λ (z : Float). T (le z (fabs y))) (sym (p .1))
+    (subst (λ (z : Float). T (le (round f false a b) z)) (sym (q .1)) (round-mono f a b c d B D h)))
     (abs-le y (q .0) .1))

@@ -1,12 +1,14 @@
--- Sums and differences of values of either sign, over the format. A sum grows with both terms, infinities included, where
--- neither sum is a NaN (`sum-mono`), and a difference grows as its first value grows and its second falls
--- (`difference-mono`). So the difference of a value and one at most it is not below zero (`difference-nonneg`), and of two
--- values of the format that differ it is above zero, since both are whole numbers of units (`difference-above`).
+-- Sums and differences of values of either sign, over the format. A sum grows with both terms, infinities included,
+-- where neither sum is a NaN (`sum-mono`), and a difference grows as its first value grows and its second falls
+-- (`difference-mono`). So the difference of a value and one at most it is not below zero (`difference-nonneg`), and of
+-- two values of the format that differ it is above zero, since both are whole numbers of units (`difference-above`).
 -- Assumes nothing.
 use Prim.Native.Nat.{ℕ, suc, _+_, _*_, _^_, _-_, _≤_, _<_}
 use mathlib.Core.Path.{_≡_, refl, ap, sym, subst}
 use mathlib.Core.Bool.{Bool, true, false, not, cond}
-use native.Mathlib.Nat.{add-le-add, le-trans as le-then, le-of-eq, mul-comm, lt-of-mul-lt-mul-right, mul-pos, lt-of-not-le, mul-le-mul-right, mul-lt-mul-of-pos-right, le-of-lt}
+use mathlib.Core.Logic.{_⊎_, inl, inr}
+use native.Mathlib.Nat.{add-le-add, le-trans as le-then, le-of-eq, mul-comm, lt-of-mul-lt-mul-right, mul-pos}
+use native.Mathlib.Nat.{lt-of-not-le, mul-le-mul-right, mul-lt-mul-of-pos-right, le-of-lt}
 use native.Mathlib.Decide.{decLe}
 use native.Mathlib.Omega.{arith}
 use borrow.Author.Tests.{lt-ltb, le-ltb}
@@ -26,18 +28,21 @@ use Rattle.ieee.specs.RoundOrder.{Rounds, rounds, le-rounds, neg-round}
 -- ---- a sum of finite values: the gains less the losses, rounded
 
 -- where it is not below zero
-pub sum-rounds : (f : Format) (s : Bool) (a : ℕ) (t : Bool) (b c : ℕ) → 0 < c → loss s a + loss t b ≤ gain s a + gain t b
+pub sum-rounds : (f : Format) (s : Bool) (a : ℕ) (t : Bool) (b c : ℕ) → 0 < c
+    → loss s a + loss t b ≤ gain s a + gain t b
     → Rounds f (sum f s a t b c) (gain s a + gain t b - (loss s a + loss t b)) c
 unfolding sum
 sum-rounds f false a false b c C h = rounds f false (a + b) c (a + b - (0 + 0)) C (omega arith) (λ t. absurd t)
 sum-rounds f false a true b c C h = go (ltb a b) (ltb→lt a b)
   where
-    go : (p : Bool) → (T p → a < b) → Rounds f (cond p (round f true (b - a) c) (round f false (a - b) c)) (a + 0 - (0 + b)) c
+    go : (p : Bool) → (T p → a < b)
+        → Rounds f (cond p (round f true (b - a) c) (round f false (a - b) c)) (a + 0 - (0 + b)) c
     go true k = absurd (omega (arith, k tt))
     go false k = rounds f false (a - b) c (a + 0 - (0 + b)) C (omega arith) (λ t. absurd t)
 sum-rounds f true a false b c C h = go (ltb a b) (nltb→le a b)
   where
-    go : (p : Bool) → (T (not p) → b ≤ a) → Rounds f (cond p (round f false (b - a) c) (round f (ltb b a) (a - b) c)) (0 + b - (a + 0)) c
+    go : (p : Bool) → (T (not p) → b ≤ a)
+        → Rounds f (cond p (round f false (b - a) c) (round f (ltb b a) (a - b) c)) (0 + b - (a + 0)) c
     go true k = rounds f false (b - a) c (0 + b - (a + 0)) C (omega arith) (λ t. absurd t)
     go false k = rounds f (ltb b a) (a - b) c (0 + b - (a + 0)) C (omega (arith, k tt)) (λ t. omega (arith, k tt))
 sum-rounds f true a true b c C h = rounds f true (a + b) c (0 + 0 - (a + b)) C (omega arith) (λ t. omega arith)
@@ -106,7 +111,9 @@ le-signed f x y p n c q m d C D X Y h = go (decLe n p) (decLe m q)
   where
     -- a difference times a number, where it is not cut at 0
     apart : (a b k : ℕ) → b ≤ a → (a - b) * k + b * k ≡ a * k
-    apart a b k l = let back : a - b + b ≡ a = omega arith in let r : (a - b + b) * k ≡ a * k = ap (λ (z : ℕ). z * k) back in omega arith
+    apart a b k l =
+        let back : a - b + b ≡ a = omega arith in let r : (a - b + b) * k ≡ a * k = ap
+        (λ (z : ℕ). z * k) back in omega arith
 
     go : Dec (n ≤ p) → Dec (m ≤ q) → T (le x y)
     go (yes k) (yes l) =
@@ -148,19 +155,23 @@ module _ (f : Format) (s : Bool) (m : ℕ) (e : ℤ) (t : Bool) (n : ℕ) (d : �
 
 -- ---- a sum grows with both terms
 
-sum-finite : (f : Format) (s : Bool) (m : ℕ) (e : ℤ) (s′ : Bool) (m′ : ℕ) (e′ : ℤ) (t : Bool) (n : ℕ) (d : ℤ) (t′ : Bool) (n′ : ℕ) (d′ : ℤ)
+sum-finite : (f : Format) (s : Bool) (m : ℕ) (e : ℤ) (s′ : Bool) (m′ : ℕ) (e′ : ℤ) (t : Bool) (n : ℕ) (d : ℤ)
+    (t′ : Bool) (n′ : ℕ) (d′ : ℤ)
     → T (le (fin s m e) (fin s′ m′ e′)) → T (le (fin t n d) (fin t′ n′ d′))
     → T (le (add f (fin s m e) (fin t n d)) (add f (fin s′ m′ e′) (fin t′ n′ d′)))
 sum-finite f s m e s′ m′ e′ t n d t′ n′ d′ h k =
     le-signed f (add f (fin s m e) (fin t n d)) (add f (fin s′ m′ e′) (fin t′ n′ d′))
-    (gains f s m e t n d) (losses f s m e t n d) (down e * down d) (gains f s′ m′ e′ t′ n′ d′) (losses f s′ m′ e′ t′ n′ d′) (down e′ * down d′)
-    (mul-pos (down-pos e) (down-pos d)) (mul-pos (down-pos e′) (down-pos d′)) (add-signed f s m e t n d) (add-signed f s′ m′ e′ t′ n′ d′)
+    (gains f s m e t n d) (losses f s m e t n d) (down e * down d) (gains f s′ m′ e′ t′ n′ d′)
+    (losses f s′ m′ e′ t′ n′ d′) (down e′ * down d′)
+    (mul-pos (down-pos e) (down-pos d)) (mul-pos (down-pos e′) (down-pos d′)) (add-signed f s m e t n d)
+    (add-signed f s′ m′ e′ t′ n′ d′)
     (both (gain s (m * up e)) (loss s (m * up e)) (down e) (gain s′ (m′ * up e′)) (loss s′ (m′ * up e′)) (down e′)
     (gain t (n * up d)) (loss t (n * up d)) (down d) (gain t′ (n′ * up d′)) (loss t′ (n′ * up d′)) (down d′)
     (le-fin s m e s′ m′ e′ .0 h) (le-fin t n d t′ n′ d′ .0 k))
   where
     both : (g l c g′ l′ c′ p n d p′ n′ d′ : ℕ) → g * c′ + l′ * c ≤ g′ * c + l * c′ → p * d′ + n′ * d ≤ p′ * d + n * d′
-        → (g * d + p * c) * (c′ * d′) + (l′ * d′ + n′ * c′) * (c * d) ≤ (g′ * d′ + p′ * c′) * (c * d) + (l * d + n * c) * (c′ * d′)
+        → (g * d + p * c) * (c′ * d′) + (l′ * d′ + n′ * c′) * (c * d) ≤ (g′ * d′ + p′ * c′) * (c * d) +
+        (l * d + n * c) * (c′ * d′)
     both g l c g′ l′ c′ p n d p′ n′ d′ h k =
         let x : (g * c′ + l′ * c) * (d * d′) ≤ (g′ * c + l * c′) * (d * d′) = mul-le-mul-right (d * d′) h in
         let y : (p * d′ + n′ * d) * (c * c′) ≤ (p′ * d + n * d′) * (c * c′) = mul-le-mul-right (c * c′) k in
@@ -174,24 +185,21 @@ sum-finite f s m e s′ m′ e′ t n d t′ n′ d′ h k =
             ≡ (g * c′ + l * c) * (d * d′) + (p * d′ + n * d) * (c * c′)
         fewer g p l n c d c′ d′ = omega arith
 
--- a sum with an infinity that is no NaN
-add-inf-left : (f : Format) (s : Bool) (z : Float) → T (not (isNan (add f (inf s) z))) → add f (inf s) z ≡ inf s
-unfolding add isNan
-add-inf-left f s nan h = absurd h
-add-inf-left f true (inf true) h = refl
-add-inf-left f true (inf false) h = absurd h
-add-inf-left f false (inf true) h = absurd h
-add-inf-left f false (inf false) h = refl
-add-inf-left f s (fin t n d) h = refl
+-- a sum with an infinity is a NaN or that infinity, on either side
+add-inf : (f : Format) (s : Bool) (z : Float)
+    → ((add f (inf s) z ≡ nan) ⊎ (add f (inf s) z ≡ inf s)) × ((add f z (inf s) ≡ nan) ⊎ (add f z (inf s) ≡ inf s))
+unfolding add
+add-inf f s nan = (inl refl, inl refl)
+add-inf f true (inf true) = (inr refl, inr refl)
+add-inf f true (inf false) = (inl refl, inl refl)
+add-inf f false (inf true) = (inl refl, inl refl)
+add-inf f false (inf false) = (inr refl, inr refl)
+add-inf f s (fin t n d) = (inr refl, inr refl)
 
-add-inf-right : (f : Format) (s : Bool) (z : Float) → T (not (isNan (add f z (inf s)))) → add f z (inf s) ≡ inf s
-unfolding add isNan
-add-inf-right f s nan h = absurd h
-add-inf-right f true (inf true) h = refl
-add-inf-right f true (inf false) h = absurd h
-add-inf-right f false (inf true) h = absurd h
-add-inf-right f false (inf false) h = refl
-add-inf-right f s (fin t n d) h = refl
+other : {x y : Float} → (x ≡ nan) ⊎ (x ≡ y) → T (not (isNan x)) → x ≡ y
+unfolding isNan
+other (inl e) known = absurd (rw e at known)
+other (inr e) known = e
 
 is-top : (x : Float) → T (le (inf false) x) → x ≡ inf false
 unfolding le
@@ -201,29 +209,31 @@ is-top (inf false) h = refl
 is-top (fin t n d) h = absurd h
 
 -- A NaN is in no order, so that both premises on NaN are needed; with finite terms they hold (`add-known`).
-pub sum-mono : (f : Format) (u v w z : Float) → T (not (isNan (add f u w))) → T (not (isNan (add f v z))) → T (le u v) → T (le w z)
+pub sum-mono : (f : Format) (u v w z : Float) → T (not (isNan (add f u w))) → T (not (isNan (add f v z))) → T (le u v)
+    → T (le w z)
     → T (le (add f u w) (add f v z))
 sum-mono f nan v w z p q h k = absurd (unfold le in h)
-sum-mono f (inf true) v w z p q h k = rw (add-inf-left f true w p) (le-bottom (add f v z) q)
+sum-mono f (inf true) v w z p q h k = rw (other (add-inf f true w .0) p) (le-bottom (add f v z) q)
 sum-mono f (inf false) v w z p q h k =
     let top = is-top v h in
     let known : T (not (isNan (add f (inf false) z))) = subst (λ (x : Float). T (not (isNan (add f x z)))) top q in
-    rw (top, add-inf-left f false z known) (le-top (add f (inf false) w) p)
+    rw (top, other (add-inf f false z .0) known) (le-top (add f (inf false) w) p)
 sum-mono f (fin s m e) v nan z p q h k = absurd (unfold le in k)
-sum-mono f (fin s m e) v (inf true) z p q h k = rw (add-inf-right f true (fin s m e) p) (le-bottom (add f v z) q)
+sum-mono f (fin s m e) v (inf true) z p q h k = rw (other (add-inf f true (fin s m e) .1) p) (le-bottom (add f v z) q)
 sum-mono f (fin s m e) v (inf false) z p q h k =
     let top = is-top z k in
     let known : T (not (isNan (add f v (inf false)))) = subst (λ (x : Float). T (not (isNan (add f v x)))) top q in
-    rw (top, add-inf-right f false v known) (le-top (add f (fin s m e) (inf false)) p)
+    rw (top, other (add-inf f false v .1) known) (le-top (add f (fin s m e) (inf false)) p)
 sum-mono f (fin s m e) nan (fin t n d) z p q h k = absurd (unfold le in h)
 sum-mono f (fin s m e) (inf true) (fin t n d) z p q h k = absurd (unfold le in h)
 sum-mono f (fin s m e) (inf false) (fin t n d) z p q h k =
-    rw (add-inf-left f false z q) (le-top (add f (fin s m e) (fin t n d)) p)
+    rw (other (add-inf f false z .0) q) (le-top (add f (fin s m e) (fin t n d)) p)
 sum-mono f (fin s m e) (fin s′ m′ e′) (fin t n d) nan p q h k = absurd (unfold le in k)
 sum-mono f (fin s m e) (fin s′ m′ e′) (fin t n d) (inf true) p q h k = absurd (unfold le in k)
 sum-mono f (fin s m e) (fin s′ m′ e′) (fin t n d) (inf false) p q h k =
-    rw (add-inf-right f false (fin s′ m′ e′) q) (le-top (add f (fin s m e) (fin t n d)) p)
-sum-mono f (fin s m e) (fin s′ m′ e′) (fin t n d) (fin t′ n′ d′) p q h k = sum-finite f s m e s′ m′ e′ t n d t′ n′ d′ h k
+    rw (other (add-inf f false (fin s′ m′ e′) .1) q) (le-top (add f (fin s m e) (fin t n d)) p)
+sum-mono f (fin s m e) (fin s′ m′ e′) (fin t n d) (fin t′ n′ d′) p q h k =
+    sum-finite f s m e s′ m′ e′ t n d t′ n′ d′ h k
 
 -- a sum of finite terms is no NaN
 pub add-known : (f : Format) (x y : Float) → T (finite x) → T (finite y) → T (not (isNan (add f x y)))
@@ -233,7 +243,8 @@ add-known f (fin s m e) nan a b = absurd b
 add-known f (fin s m e) (inf t) a b = absurd b
 add-known f (fin s m e) (fin t n d) a b =
     le-right (add f (fin s m e) (fin t n d)) (add f (fin s m e) (fin t n d))
-    (sum-finite f s m e s m e t n d t n d (le-refl (fin s m e) (unfold isNan in tt)) (le-refl (fin t n d) (unfold isNan in tt)))
+    (sum-finite f s m e s m e t n d t n d (le-refl (fin s m e) (unfold isNan in tt))
+    (le-refl (fin t n d) (unfold isNan in tt)))
 
 -- ---- a difference grows as its first value grows and its second falls
 
@@ -254,7 +265,8 @@ module _ (f : Format) where
   unfolding sub
   sub-known x y a b = add-known f x (neg y) a (finite-neg y b)
 
-  pub difference-mono : (u s v t : Float) → T (not (isNan (sub f u s))) → T (not (isNan (sub f v t))) → T (le u v) → T (le t s)
+  pub difference-mono : (u s v t : Float) → T (not (isNan (sub f u s))) → T (not (isNan (sub f v t))) → T (le u v)
+      → T (le t s)
       → T (le (sub f u s) (sub f v t))
   unfolding sub
   difference-mono u s v t p q h k = sum-mono f u v (neg s) (neg t) p q h (le-neg t s k)
@@ -325,21 +337,26 @@ module _ (f : Format) (m : ℕ) (e : ℤ) (n : ℕ) (d : ℤ) (H : Held f m e) (
       let more : n * up d * 2 ^ low f * down e ≡ n * 2 ^ j * down d * down e = ap (λ (z : ℕ). z * down e) is in
       (n * 2 ^ j, omega arith)
 
-  sub-above : (s t : Bool) → T (lt (fin t n d) (fin s m e)) → T (lt (fin false 0 (pos 0)) (sub f (fin s m e) (fin t n d)))
+  sub-above : (s t : Bool) → T (lt (fin t n d) (fin s m e))
+      → T (lt (fin false 0 (pos 0)) (sub f (fin s m e) (fin t n d)))
   unfolding lt sub add neg sum
   sub-above true false h = absurd h
   sub-above false true h =
       let (u, a) = units-a in
       let (v, b) = units-b in
-      units-apart (A + B) 0 (A + B) (u + v) 0 (omega arith) (omega arith) (omega arith) (omega (arith, ltb→lt 0 (B + A) h))
+      units-apart (A + B) 0 (A + B) (u + v) 0 (omega arith) (omega arith) (omega arith)
+      (omega (arith, ltb→lt 0 (B + A) h))
   sub-above false false h =
       let l = ltb→lt B A h in
-      rw (le-ltb A B (omega arith)) (units-apart A B (A - B) (units-a .0) (units-b .0) (omega arith) (units-a .1) (units-b .1) (omega arith))
+      rw (le-ltb A B (omega arith)) (units-apart A B (A - B) (units-a .0) (units-b .0) (omega arith) (units-a .1)
+      (units-b .1) (omega arith))
   sub-above true true h =
       let l = ltb→lt A B h in
-      rw (lt-ltb A B l) (units-apart B A (B - A) (units-b .0) (units-a .0) (omega arith) (units-b .1) (units-a .1) (omega arith))
+      rw (lt-ltb A B l) (units-apart B A (B - A) (units-b .0) (units-a .0) (omega arith) (units-b .1) (units-a .1)
+      (omega arith))
 
-pub difference-above : (f : Format) (lo hi : Float) → T (fits f lo) → T (fits f hi) → T (finite lo) → T (finite hi) → T (lt lo hi)
+pub difference-above : (f : Format) (lo hi : Float) → T (fits f lo) → T (fits f hi) → T (finite lo) → T (finite hi)
+    → T (lt lo hi)
     → T (lt (fin false 0 (pos 0)) (sub f hi lo))
 difference-above f nan hi F G a b h = absurd a
 difference-above f (inf s) hi F G a b h = absurd a

@@ -1,10 +1,12 @@
--- floor, ceil and round of Whole.antt give the whole numbers that their words say. The magnitude m * 2 ^ e of a value is the fraction m * up e / down e,
--- and the whole number that stands for it is a value of the format, so that rounding it changes nothing. Over the format. Assumes nothing.
+-- floor, ceil and round of Whole.antt give the whole numbers that their words say. The magnitude m * 2 ^ e of a value
+-- is the fraction m * up e / down e, and the whole number that stands for it is a value of the format, so that rounding
+-- it changes nothing. Over the format. Assumes nothing.
 use Prim.Native.Nat.{ℕ, suc, _+_, _*_, _/_, _%_, _^_, _≤_, _<_}
 use mathlib.Core.Path.{_≡_, subst}
 use mathlib.Core.Bool.{Bool, true, false, cond}
 use mathlib.Core.Logic.{_⊎_, inl, inr}
-use native.Mathlib.Nat.{le-of-mul-le-mul-right, lt-of-mul-lt-mul-right, le-trans, le-of-lt, le-of-suc-le-suc, lt-of-not-le, mul-le-mul-left, mul-le-mul-right, mul-pos, eq-zero-or-pos}
+use native.Mathlib.Nat.{le-of-mul-le-mul-right, lt-of-mul-lt-mul-right, le-trans, le-of-lt, le-of-suc-le-suc}
+use native.Mathlib.Nat.{lt-of-not-le, mul-le-mul-left, mul-le-mul-right, mul-pos, eq-zero-or-pos}
 use native.Mathlib.Nat.{div-add-mod', mod-lt}
 use native.Mathlib.Omega.{arith}
 use lib.IntN.{ℤ, pos, negsuc}
@@ -49,7 +51,9 @@ module _ (m : ℕ) (e : ℤ) where
   outward-over = go (eq-zero-or-pos (m * up e % down e))
     where
       go : (m * up e % down e ≡ 0) ⊎ (0 < m * up e % down e) → Over m e (outward true m e)
-      go (inl z) = rw (eq-eqb (m * up e % down e) 0 z) (record { at-least = omega (arith, parts); least = omega (arith, parts, rest) })
+      go (inl z) =
+          rw (eq-eqb (m * up e % down e) 0 z)
+          (record { at-least = omega (arith, parts); least = omega (arith, parts, rest) })
       go (inr p) =
           rw (ne-eqb (m * up e % down e) 0 (λ (z : m * up e % down e ≡ 0). omega arith))
           (record { at-least = omega (arith, parts, rest); least = omega (arith, parts) })
@@ -72,14 +76,16 @@ outward-small true m e n h =
 
 -- ---- less than one away from a value of the format a whole number is one itself
 
-near-value : (f : Format) (s : Bool) (m : ℕ) (e : ℤ) (n : ℕ) → Held f m e → n * down e < m * up e + down e → m * up e < n * down e + down e
+near-value : (f : Format) (s : Bool) (m : ℕ) (e : ℤ) (n : ℕ) → Held f m e → n * down e < m * up e + down e
+    → m * up e < n * down e + down e
     → HasValue (round f s n 1) s n 1
 near-value f s m (pos k) n H a b =
     let same : m * 2 ^ k ≡ n = omega arith in
     let (i, is) = held-shift f m (pos k) H in
     subst (λ (z : ℕ). HasValue (round f s z 1) s z 1) same
     (round-exact f s (m * 2 ^ k) 1 m i (lit≤ tt) (H .digits) (held-units f m (pos k) (m * 2 ^ i) H is) is)
-near-value f s m (negsuc k) n H a b = round-whole f s n (le-trans (le-of-suc-le-suc (lt-of-not-le few)) (le-of-lt (H .digits)))
+near-value f s m (negsuc k) n H a b =
+    round-whole f s n (le-trans (le-of-suc-le-suc (lt-of-not-le few)) (le-of-lt (H .digits)))
   where
     few : suc m ≤ n → ⊥
     few g =
@@ -92,12 +98,18 @@ near-value f s m (negsuc k) n H a b = round-whole f s n (le-trans (le-of-suc-le-
 module _ (f : Format) (s : Bool) (m : ℕ) (e : ℤ) (F : T (fits f (fin s m e))) where
   pub nextWhole-value : (away : Bool) → HasValue (nextWhole f away (fin s m e)) s (outward away m e) 1
   unfolding nextWhole
-  nextWhole-value false = let u = outward-under m e in near-value f s m e (outward false m e) (held f s m e F) (omega (arith, down-pos e)) (omega arith)
-  nextWhole-value true = let o = outward-over m e in near-value f s m e (outward true m e) (held f s m e F) (omega arith) (omega (arith, down-pos e))
+  nextWhole-value false =
+      let u = outward-under m e in near-value f s m e (outward false m e) (held f s m e F) (omega (arith, down-pos e))
+      (omega arith)
+  nextWhole-value true =
+      let o = outward-over m e in near-value f s m e (outward true m e) (held f s m e F) (omega arith)
+      (omega (arith, down-pos e))
 
   pub roundAway-value : HasValue (roundAway f (fin s m e)) s (halfUp m e) 1
   unfolding roundAway
-  roundAway-value = let h = halfUp-nearest m e in near-value f s m e (halfUp m e) (held f s m e F) (omega (arith, down-pos e)) (omega (arith, down-pos e))
+  roundAway-value =
+      let h = halfUp-nearest m e in near-value f s m e (halfUp m e) (held f s m e F) (omega (arith, down-pos e))
+      (omega (arith, down-pos e))
 
 -- ---- by their words
 
@@ -109,20 +121,25 @@ pub record WholeNumber (P : ℕ → Type 0) (s : Bool) (r : Float) : Type 0 wher
 
 next : (f : Format) (s : Bool) (m : ℕ) (e : ℤ) (away : Bool) → T (fits f (fin s m e))
     → WholeNumber (cond away (Over m e) (Under m e)) s (nextWhole f away (fin s m e))
-next f s m e true F = record { magnitude = outward true m e; value = nextWhole-value f s m e F true; law = outward-over m e }
-next f s m e false F = record { magnitude = outward false m e; value = nextWhole-value f s m e F false; law = outward-under m e }
+next f s m e true F =
+    record { magnitude = outward true m e; value = nextWhole-value f s m e F true; law = outward-over m e }
+next f s m e false F =
+    record { magnitude = outward false m e; value = nextWhole-value f s m e F false; law = outward-under m e }
 
 -- floor is the greatest whole number at most the value: below zero that is the least magnitude at least its own
-pub floor-value : (f : Format) (s : Bool) (m : ℕ) (e : ℤ) → T (fits f (fin s m e)) → WholeNumber (cond s (Over m e) (Under m e)) s (floor f (fin s m e))
+pub floor-value : (f : Format) (s : Bool) (m : ℕ) (e : ℤ) → T (fits f (fin s m e))
+    → WholeNumber (cond s (Over m e) (Under m e)) s (floor f (fin s m e))
 unfolding floor
 floor-value f s m e F = next f s m e s F
 
 -- ceil is the least whole number at least the value: below zero that is the greatest magnitude at most its own
-pub ceil-value : (f : Format) (s : Bool) (m : ℕ) (e : ℤ) → T (fits f (fin s m e)) → WholeNumber (cond s (Under m e) (Over m e)) s (ceil f (fin s m e))
+pub ceil-value : (f : Format) (s : Bool) (m : ℕ) (e : ℤ) → T (fits f (fin s m e))
+    → WholeNumber (cond s (Under m e) (Over m e)) s (ceil f (fin s m e))
 unfolding ceil
 ceil-value f true m e F = next f true m e false F
 ceil-value f false m e F = next f false m e true F
 
 -- round is the whole number nearest to the value, and at a half the one away from zero
-pub round-value : (f : Format) (s : Bool) (m : ℕ) (e : ℤ) → T (fits f (fin s m e)) → WholeNumber (Nearest m e) s (roundAway f (fin s m e))
+pub round-value : (f : Format) (s : Bool) (m : ℕ) (e : ℤ) → T (fits f (fin s m e))
+    → WholeNumber (Nearest m e) s (roundAway f (fin s m e))
 round-value f s m e F = record { magnitude = halfUp m e; value = roundAway-value f s m e F; law = halfUp-nearest m e }

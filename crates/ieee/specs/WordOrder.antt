@@ -1,5 +1,5 @@
--- Words in order have values in order, from 0 up to the infinity's word: within one exponent the digits grow, and from one
--- to the next the values double. Over the format. Assumes nothing.
+-- Words in order have values in order, from 0 up to the infinity's word: within one exponent the digits grow, and from
+-- one to the next the values double. Over the format. Assumes nothing.
 use Prim.Native.Nat.{ℕ, suc, _+_, _-_, _*_, _/_, _%_, _^_, _≤_, _<_}
 use mathlib.Core.Path.{_≡_, sym, _∙_, ap, subst}
 use mathlib.Core.Bool.{false, true≢false}
@@ -50,7 +50,8 @@ magnitude-mono f a b h = go (decLe (suc (a / hid f) * hid f) b)
 -- up to the infinity's word
 pub bits-mono : (f : Format) (w v : ℕ) → w ≤ v → v < ones f * hid f → T (le (ofBits f w) (ofBits f v))
 bits-mono f w v h l =
-    le-of-values (ofBits f w) (ofBits f v) (magnitude f w) (2 ^ low f) (magnitude f v) (2 ^ low f) (pow-pos (low f)) (pow-pos (low f))
+    le-of-values (ofBits f w) (ofBits f v) (magnitude f w) (2 ^ low f) (magnitude f v) (2 ^ low f) (pow-pos (low f))
+    (pow-pos (low f))
     (decode-plain f w (lt-of-le-of-lt h l)) (decode-plain f v l) (mul-le-mul-right (2 ^ low f) (magnitude-mono f w v h))
 
 -- a finite value without a sign has a word below the infinity's
@@ -63,7 +64,8 @@ finite-word f m e F = lt-of-not-le (λ (h : ones f * hid f ≤ toBits f (fin fal
     go : (ones f * hid f ≡ toBits f (fin false m e)) ⊎ (ones f * hid f < toBits f (fin false m e)) → ⊥
     go (inl q) =
         let l : toBits f (fin false m e) < top f = no-sign f (toBits f (fin false m e)) (le-of-eq (sym q)) in
-        subst (λ (x : Float). T (finite x)) (sym back ∙ inf-bits f (toBits f (fin false m e)) (mod-eq-of-lt l ∙ sym q)) tt
+        subst (λ (x : Float). T (finite x))
+        (sym back ∙ inf-bits f (toBits f (fin false m e)) (mod-eq-of-lt l ∙ sym q)) tt
     go (inr l) =
         elim (past-infinity f (toBits f (fin false m e)) l) [
           | inl q ↦ subst (λ (x : Float). T (finite x)) (sym back ∙ q) tt

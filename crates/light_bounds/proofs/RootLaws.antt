@@ -1,5 +1,5 @@
--- The root and the order: a value below the root of x has a square that is at most x. So where x is below the square of a value, its root is at most that
--- value; and the root of what is at most 1 is at most 1. Assumes nothing.
+-- The root and the order: a value below the root of x has a square that is at most x. So where x is below the square of
+-- a value, its root is at most that value; and the root of what is at most 1 is at most 1. Assumes nothing.
 use mathlib.Core.Path.{_≡_, refl, sym, _∙_, ap, subst}
 use mathlib.Core.Bool.{Bool, true, false, not, cond, _||_}
 use mathlib.Core.Logic.{_⊎_}
@@ -38,12 +38,14 @@ dot-fits v w = add-fits binary32 (v .x ⊗ w .x ⊕ v .y ⊗ w .y) (v .z ⊗ w .
 -- ---- the distance
 
 -- where the squared diagonal is below the squared distance's square, the distance stays as it is
-pub far : (r : LightBounds) (delta : Vec3) → lt (dot (diagonal (r .bounds)) (diagonal (r .bounds))) (dot delta delta ⊗ dot delta delta) ≡ true
+pub far : (r : LightBounds) (delta : Vec3)
+    → lt (dot (diagonal (r .bounds)) (diagonal (r .bounds))) (dot delta delta ⊗ dot delta delta) ≡ true
     → distance2 r delta ≡ dot delta delta
 unfolding distance2 vecLength
 far r delta l =
     let d = diagonal (r .bounds) in
-    above-half-root (dot d d) (dot delta delta) (dot-fits d d) (dot-fits delta delta) (dot-nonneg delta) (subst (λ (b : Bool). T b) (sym l) tt)
+    above-half-root (dot d d) (dot delta delta) (dot-fits d d) (dot-fits delta delta) (dot-nonneg delta)
+    (subst (λ (b : Bool). T b) (sym l) tt)
 
 -- ---- the box's cosine
 
@@ -59,23 +61,30 @@ module _ (b : Bounds3) (p : Vec3) where
   rest = fmax (onef ⊖ radius2 ⊘ distance) zerof
 
   rest-fits : T (fits binary32 rest)
-  rest-fits = fmax-fits binary32 (onef ⊖ radius2 ⊘ distance) zerof (sub-fits binary32 onef (radius2 ⊘ distance)) (ofBits-fits binary32 0)
+  rest-fits =
+      fmax-fits binary32 (onef ⊖ radius2 ⊘ distance) zerof (sub-fits binary32 onef (radius2 ⊘ distance))
+      (ofBits-fits binary32 0)
 
   box-fits : T (fits binary32 (boundSubtendedDirections b p))
   unfolding boundSubtendedDirections safeSqrt
-  box-fits = cond-fits binary32 (lt distance radius2 || eq distance zerof) minusOne (sqrt binary32 rest) (ofBits-fits binary32 0xbf80_0000) (sqrt-fits binary32 rest rest-fits)
+  box-fits =
+      cond-fits binary32 (lt distance radius2 || eq distance zerof) minusOne (sqrt binary32 rest)
+      (ofBits-fits binary32 0xbf80_0000) (sqrt-fits binary32 rest rest-fits)
 
   box-le : T (le (boundSubtendedDirections b p) onef)
   unfolding boundSubtendedDirections safeSqrt
   box-le = go (lt distance radius2 || eq distance zerof) refl
     where
-      go : (t : Bool) → (lt distance radius2 || eq distance zerof) ≡ t → T (le (cond t minusOne (sqrt binary32 rest)) onef)
+      go : (t : Bool) → (lt distance radius2 || eq distance zerof) ≡ t
+          → T (le (cond t minusOne (sqrt binary32 rest)) onef)
       go true e = unfold le ofBits in tt
       go false e =
           let no : T (lt distance radius2 || eq distance zerof) → ⊥ = λ k. subst (λ (x : Bool). T x) e k in
           unit-root rest rest-fits (unfold ofBits in fmax-nonneg (onef ⊖ radius2 ⊘ distance))
-          (rest-le (radius2 ⊘ distance) (share-any radius2 distance (square-nonneg (half ⊗ vecLength (diagonal b))) (dot-nonneg (minus (centroid b) p))
-          (λ k. no (or-left (lt distance radius2) (eq distance zerof) k)) (λ k. no (or-right (lt distance radius2) (eq distance zerof) k))))
+          (rest-le (radius2 ⊘ distance) (share-any radius2 distance (square-nonneg (half ⊗ vecLength (diagonal b)))
+          (dot-nonneg (minus (centroid b) p))
+          (λ k. no (or-left (lt distance radius2) (eq distance zerof) k))
+          (λ k. no (or-right (lt distance radius2) (eq distance zerof) k))))
 
 -- ---- inside the cone
 
@@ -91,12 +100,17 @@ no-angle c F l = go (lt c onef) refl
     go : (b : Bool) → lt c onef ≡ b → cond b onef (onef ⊗ c ⊕ zerof ⊗ sine c) ≡ onef
     go true e = refl
     go false e =
-        let back : T (le onef c) = le-of-not-lt onef c (unfold isNan ofBits in tt) (le-left c onef l) (subst (λ (b : Bool). T (not b)) (sym e) tt) in
-        let one : c ≡ onef = whole-unique binary32 c onef false 1 F (ofBits-fits binary32 0x3f80_0000) (one-value c l back) (unfold ofBits in (refl, refl)) in
+        let back : T (le onef c) =
+        le-of-not-lt onef c (unfold isNan ofBits in tt) (le-left c onef l)
+        (subst (λ (b : Bool). T (not b)) (sym e) tt) in
+        let one : c ≡ onef =
+        whole-unique binary32 c onef false 1 F (ofBits-fits binary32 0x3f80_0000) (one-value c l back)
+        (unfold ofBits in (refl, refl)) in
         ap (λ (x : Float). onef ⊗ x ⊕ zerof ⊗ sine x) one ∙ at-one
 
 -- inside the cone the smallest angle is none, so its cosine is 1 and the box's is not needed
-pub inside : (r : LightBounds) (wi p : Vec3) → lt (r .«cos_theta_o») (cosW r wi) ≡ true → cosP r wi (boundSubtendedDirections (r .bounds) p) ≡ onef
+pub inside : (r : LightBounds) (wi p : Vec3) → lt (r .«cos_theta_o») (cosW r wi) ≡ true
+    → cosP r wi (boundSubtendedDirections (r .bounds) p) ≡ onef
 unfolding cosP
 inside r wi p h =
     let w = cosW r wi in

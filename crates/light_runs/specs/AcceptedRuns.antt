@@ -1,5 +1,5 @@
--- The runs of u over an accepted build: the fields of demand 3 about draws (`unbroken`, `leaf-order`, `upward`), and from which u to which a lamp is drawn
--- (`from-one-to-another`). Assumes nothing.
+-- The runs of u over an accepted build: the fields of demand 3 about draws (`unbroken`, `leaf-order`, `upward`), and
+-- from which u to which a lamp is drawn (`from-one-to-another`). Assumes nothing.
 use Prim.Native.Nat.{ℕ, _≤_, _<_}
 use mathlib.Core.Path.{_≡_, refl, ap, sym, subst, _∙_}
 use mathlib.Core.Bool.{Bool, false, not}
@@ -31,14 +31,10 @@ use Rattle.tree_laws.specs.TreeWords.{placeOf}
 use Rattle.words.specs.Lists.{reversed, lastOf}
 use Rattle.light_runs.specs.DownLaws.{weighed-not-below}
 use Rattle.light_runs.specs.FromTo.{from-to}
-use Rattle.light_runs.specs.RunLaws.{walk-last, walk-between}
+use Rattle.light_runs.specs.RunLaws.{cap, walk-last, walk-between}
 use Rattle.light_runs.specs.WeightedTree.{walk, weighed}
 
 -- ---- u capped at the root
-
-most-known : T (not (isNan most))
-unfolding isNan ofBits
-most-known = tt
 
 capped : (u : Float) → FromZeroToOne u → T (nonneg (fmin u most))
 unfolding ofBits
@@ -59,7 +55,8 @@ module _ (ws : List ℕ) (b : LightBVH) (parts : Parts ws b) where
       → (nameEnters b q h ≡ reversed (drawEnters b q u)) × (c : Float) × (pmf (nodes b) (table b) q h ≡ given c)
   upward q u unit h d = go (b .tree) refl
     where
-      go : (o : Option Tree) → b .tree ≡ o → (nameEnters b q h ≡ reversed (drawEnters b q u)) × (c : Float) × (pmf (nodes b) (table b) q h ≡ given c)
+      go : (o : Option Tree) → b .tree ≡ o
+          → (nameEnters b q h ≡ reversed (drawEnters b q u)) × (c : Float) × (pmf (nodes b) (table b) q h ≡ given c)
       go none is = absurd (draw-nothing ws b parts q u unit is h d)
       go (some t) is =
           let name = name-walk ws b parts t is q u unit h d in
@@ -67,10 +64,12 @@ module _ (ws : List ℕ) (b : LightBVH) (parts : Parts ws b) where
 
   module _ (t : Tree) (is : b .tree ≡ some t) (q : Query) where
     -- the same places are entered by all u that draw the lamp
-    same-places : (u w : Float) → FromZeroToOne u → FromZeroToOne w → (h : ℕ) → Draws b q u h → Draws b q w h → drawEnters b q u ≡ drawEnters b q w
+    same-places : (u w : Float) → FromZeroToOne u → FromZeroToOne w → (h : ℕ) → Draws b q u h → Draws b q w h
+        → drawEnters b q u ≡ drawEnters b q w
     same-places u w first last h d f =
         sym (reversed-twice (drawEnters b q u))
-        ∙ ap (λ (xs : List ℕ). reversed xs) (sym (ap (λ (w : Walked Float). w .places) (name-walk ws b parts t is q u first h d .named))
+        ∙ ap (λ (xs : List ℕ). reversed xs)
+        (sym (ap (λ (w : Walked Float). w .places) (name-walk ws b parts t is q u first h d .named))
         ∙ ap (λ (w : Walked Float). w .places) (name-walk ws b parts t is q w last h f .named))
         ∙ reversed-twice (drawEnters b q w)
 
@@ -82,12 +81,15 @@ module _ (ws : List ℕ) (b : LightBVH) (parts : Parts ws b) where
         ap (λ (x : Walked Draw). x .places) (sym (at u (uv .first))) ∙ same-places u w (uv .first) (vw .second) h d f
         ∙ ap (λ (x : Walked Draw). x .places) (at w (vw .second)) in
         let alike =
-        walk-between 0 (weighed q t) onef (fmin u most) (fmin v most) (fmin w most) (weighed-not-below q t) (capped u (uv .first))
-        (fmin-mono u v most most-known (uv .order)) (fmin-mono v w most most-known (vw .order)) (fmin-cap w most most-known) enters in
+        walk-between 0 (weighed q t) onef (fmin u most) (fmin v most) (fmin w most) (weighed-not-below q t)
+        (capped u (uv .first))
+        (fmin-mono u v most (cap .known) (uv .order)) (fmin-mono v w most (cap .known) (vw .order))
+        (fmin-cap w most (cap .known)) enters in
         (d .0, ap (λ (x : Walked Draw). x .outcome) (at v (uv .second) ∙ alike ∙ sym (at u (uv .first))) ∙ d .1)
 
     -- the place where the draw ends is the lamp's
-    ends-at : (u : Float) → FromZeroToOne u → (h : ℕ) → Draws b q u h → lastOf (walk 0 (weighed q t) onef (fmin u most) .places) ≡ placeOf b h
+    ends-at : (u : Float) → FromZeroToOne u → (h : ℕ) → Draws b q u h
+        → lastOf (walk 0 (weighed q t) onef (fmin u most) .places) ≡ placeOf b h
     ends-at u unit h d =
         let name = name-walk ws b parts t is q u unit h d in
         ap (λ (w : Walked Draw). lastOf (w .places)) (sym (draw-walk ws b parts q u unit t is))
@@ -97,26 +99,30 @@ module _ (ws : List ℕ) (b : LightBVH) (parts : Parts ws b) where
     in-order u w uw h i d f =
         rw (← ends-at u (uw .first) h d, ← ends-at w (uw .second) i f)
         (walk-last 0 (weighed q t) onef onef (fmin u most) (fmin w most) (weighed-not-below q t) (capped u (uw .first))
-        (fmin-mono u w most most-known (uw .order)) (fmin-cap w most most-known))
+        (fmin-mono u w most (cap .known) (uw .order)) (fmin-cap w most (cap .known)))
 
     -- two lamps at one place are one
     apart : (u w : Float) → InOrder u w → (h i : ℕ) → Draws b q u h → Draws b q w i → placeOf b h ≡ placeOf b i → h ≡ i
     apart u w uw h i d f e =
         let at = name-walk ws b parts t is q u (uw .first) h d in
         let other = name-walk ws b parts t is q w (uw .second) i f in
-        given-label (nodeAt (nodesWritten b) (placeOf b h)) h (at .above) i (other .above) (at .node-is) (rw e (other .node-is))
+        given-label (nodeAt (nodesWritten b) (placeOf b h)) h (at .above) i (other .above) (at .node-is)
+        (rw e (other .node-is))
       where
-        given-label : (x : Answer LightBVHNode) (h p i r : ℕ) → x ≡ given (leafNode h p) → x ≡ given (leafNode i r) → h ≡ i
+        given-label : (x : Answer LightBVHNode) (h p i r : ℕ) → x ≡ given (leafNode h p) → x ≡ given (leafNode i r)
+            → h ≡ i
         given-label x h p i r e f = ap labelled (given-injective {a = leafNode h p} {b = leafNode i r} (sym e ∙ f))
 
-  pub unbroken : (q : Query) (u v w : Float) → InOrder u v → InOrder v w → (h : ℕ) → Draws b q u h → Draws b q w h → Draws b q v h
+  pub unbroken : (q : Query) (u v w : Float) → InOrder u v → InOrder v w → (h : ℕ) → Draws b q u h → Draws b q w h
+      → Draws b q v h
   unbroken q u v w uv vw h d f = go (b .tree) refl
     where
       go : (o : Option Tree) → b .tree ≡ o → Draws b q v h
       go none is = absurd (draw-nothing ws b parts q u (uv .first) is h d)
       go (some t) is = between t is q u v w uv vw h d f
 
-  pub leaf-order : (q : Query) (u w : Float) → InOrder u w → (h i : ℕ) → Draws b q u h → Draws b q w i → (h ≡ i → ⊥) → placeOf b h < placeOf b i
+  pub leaf-order : (q : Query) (u w : Float) → InOrder u w → (h i : ℕ) → Draws b q u h → Draws b q w i → (h ≡ i → ⊥)
+      → placeOf b h < placeOf b i
   leaf-order q u w uw h i d f other = go (b .tree) refl
     where
       go : (o : Option Tree) → b .tree ≡ o → placeOf b h < placeOf b i
@@ -159,8 +165,10 @@ module _ (ws : List ℕ) (b : LightBVH) (parts : Parts ws b) where
         )
       ]
     where
-      gapless : (u v w : Float) → InOrder u v → InOrder v w → T (is-lamp h (sample (nodes b) q u)) → T (is-lamp h (sample (nodes b) q w))
+      gapless : (u v w : Float) → InOrder u v → InOrder v w → T (is-lamp h (sample (nodes b) q u))
+          → T (is-lamp h (sample (nodes b) q w))
           → T (is-lamp h (sample (nodes b) q v))
       gapless u v w uv vw d f =
-          let (c, e) = unbroken q u v w uv vw h (lamp-drawn h (sample (nodes b) q u) d) (lamp-drawn h (sample (nodes b) q w) f) in
+          let (c, e) =
+          unbroken q u v w uv vw h (lamp-drawn h (sample (nodes b) q u) d) (lamp-drawn h (sample (nodes b) q w) f) in
           drawn-lamp h (sample (nodes b) q v) c e

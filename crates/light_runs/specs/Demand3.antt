@@ -27,14 +27,17 @@ use Rattle.light_runs.specs.DemandWords.{FromZeroToOne, InOrder, nodes, 
 use Rattle.tree_laws.specs.TreeWords.{placeOf, poweredBelow, reached, placesFrom, HoldsChildren}
 use Rattle.words.specs.Lists.{reversed}
 use Rattle.light_runs.specs.WholeTray.{tray-is, draw-same, name-same, dark-tray}
-use Rattle.tree_laws.specs.NodeLaws.{k-counted, node-words, places, powered-leaf, leaf-powered, table-words, other-lamps, boxes}
+use Rattle.tree_laws.specs.NodeLaws.{k-counted, node-words, places, powered-leaf, leaf-powered, table-words}
+use Rattle.tree_laws.specs.NodeLaws.{other-lamps, boxes}
 
 -- of a block's words and what build makes of them
 pub record Demand3 (ws : List ℕ) (b : LightBVH) : Type 0 where
   -- for one point and one normal, of any bits: each lamp has one unbroken run of u values
-  pub unbroken : (q : Query) (u v w : Float) → InOrder u v → InOrder v w → (h : ℕ) → Draws b q u h → Draws b q w h → Draws b q v h
+  pub unbroken : (q : Query) (u v w : Float) → InOrder u v → InOrder v w → (h : ℕ) → Draws b q u h → Draws b q w h
+      → Draws b q v h
   -- the runs are in leaf order, by place
-  pub leaf-order : (q : Query) (u w : Float) → InOrder u w → (h i : ℕ) → Draws b q u h → Draws b q w i → (h ≡ i → ⊥) → placeOf b h < placeOf b i
+  pub leaf-order : (q : Query) (u w : Float) → InOrder u w → (h i : ℕ) → Draws b q u h → Draws b q w i → (h ≡ i → ⊥)
+      → placeOf b h < placeOf b i
   -- a lamp's upward walk meets exactly the draw's nodes, in reverse, and its chance is given
   pub upward : (q : Query) (u : Float) → FromZeroToOne u → (h : ℕ) → Draws b q u h
       → (nameEnters b q h ≡ reversed (drawEnters b q u)) × (c : Float) × (pmf (nodes b) (table b) q h ≡ given c)
@@ -49,7 +52,8 @@ pub record Demand3 (ws : List ℕ) (b : LightBVH) : Type 0 where
   pub powered-leaf : (h : ℕ) → h < b .rows → T (isPowered ws h)
       → (p : ℕ) × (placeOf b h < 2 * b .k - 1) × (nodeAt (nodesWritten b) (placeOf b h) ≡ given (leaf h p))
   -- each leaf is a powered lamp, and stands at that place, so once
-  pub leaf-powered : (i h p : ℕ) → nodeAt (nodesWritten b) i ≡ given (leaf h p) → (h < b .rows) × T (isPowered ws h) × (placeOf b h ≡ i)
+  pub leaf-powered : (i h p : ℕ) → nodeAt (nodesWritten b) i ≡ given (leaf h p)
+      → (h < b .rows) × T (isPowered ws h) × (placeOf b h ≡ i)
   -- the handle table has a word a lamp, ffffffff for every other one
   pub table-words : length (tableWritten b) ≡ b .rows
   pub other-lamps : (h : ℕ) → (T (isPowered ws h) → ⊥) → placeOf b h ≡ invalidIndex
@@ -77,7 +81,8 @@ module _ (lights : ℕ) (ws : List ℕ) (nodesLent tableLent workLent : ℕ) (b 
         boxes = boxes ws b parts;
       }
 
-  -- For one point and one normal, no u draws the lamp, or there is a first u that does and a last one, and all between them do.
+  -- For one point and one normal, no u draws the lamp, or there is a first u that does and a last one, and all between
+  -- them do.
   pub u-from-to : (q : Query) (h : ℕ)
       → ((u : Float) → FromZeroToOne u → Draws b q u h → ⊥)
       ⊎ ((first : Float) × (last : Float) × FromZeroToOne first × FromZeroToOne last

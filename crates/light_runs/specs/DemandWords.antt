@@ -1,5 +1,5 @@
--- The words in which demand 3 is said, as document 01's last paragraph of the Agreement explains them; those of the nodes
--- and the table alone stand in tree_laws TreeWords. Definitions only. Assumes nothing.
+-- The words in which demand 3 is said, as document 01's last paragraph of the Agreement explains them; those of the
+-- nodes and the table alone stand in tree_laws TreeWords. Definitions only. Assumes nothing.
 use Prim.Native.Nat.{ℕ}
 use mathlib.Core.Path.{_≡_}
 use mathlib.Core.List.{List}

@@ -1,5 +1,5 @@
--- A draw from the words of a standing tree is the walk over the tree with the query's weights (`descend-walk`), whose weights are not NaN and not below zero
--- (`weighed-not-below`). Assumes nothing.
+-- A draw from the words of a standing tree is the walk over the tree with the query's weights (`descend-walk`), whose
+-- weights are not NaN and not below zero (`weighed-not-below`). Assumes nothing.
 use Prim.Native.Nat.{ℕ, zero, suc, _+_, _≤_}
 use mathlib.Core.Path.{_≡_, refl, ap}
 use mathlib.Core.List.{List}
@@ -35,7 +35,8 @@ pub weighed-not-below : (q : Query) (t : Tree) → WeightsNotBelow (weighed q t)
 unfolding weighed
 weighed-not-below q (leaf h b) = tt
 weighed-not-below q (fork b l r) = (
-  gives-then (weigh-nonneg (bounds l) q) (λ x nx. gives-then (weigh-nonneg (bounds r) q) (λ y ny. gives {P = NotBelow} {a = (x, y)} (nx, ny))),
+  gives-then (weigh-nonneg (bounds l) q)
+      (λ x nx. gives-then (weigh-nonneg (bounds r) q) (λ y ny. gives {P = NotBelow} {a = (x, y)} (nx, ny))),
   weighed-not-below q l,
   weighed-not-below q r,
 )
@@ -56,12 +57,14 @@ pub weights-standing : (ws : List ℕ) (q : Query) (at p : ℕ) (b : LightBounds
     → weights ws (byQuery q) at (rightPlace at l)
     ≡ (weigh (bounds l) q then λ (x : Float). weigh (bounds r) q then λ (y : Float). given (x, y))
 unfolding weights
-weights-standing ws q at p b l r s = rw (weigh-at ws q (at + 1) at l (s .1), weigh-at ws q (rightPlace at l) at r (s .2))
+weights-standing ws q at p b l r s =
+    rw (weigh-at ws q (at + 1) at l (s .1), weigh-at ws q (rightPlace at l) at r (s .2))
 
 -- ---- the draw
 
 -- by what the branches do
-taken-same : (f g f′ g′ : Float → Float → Walked Draw) (c : Float) (a : Answer Turn) → ((c v : Float) → f c v ≡ f′ c v) → ((c v : Float) → g c v ≡ g′ c v)
+taken-same : (f g f′ g′ : Float → Float → Walked Draw) (c : Float) (a : Answer Turn) → ((c v : Float) → f c v ≡ f′ c v)
+    → ((c v : Float) → g c v ≡ g′ c v)
     → taken f g c a ≡ taken f′ g′ c a
 unfolding taken
 taken-same f g f′ g′ c (refused n) to-left to-right = refl

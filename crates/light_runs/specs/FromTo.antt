@@ -1,5 +1,6 @@
--- A property of the u from 0 to 1 that has no gap holds from one float to another, or of none (`from-to`). The u are the values of the words 0 to 3f800000, in
--- their order, and -0, which compares as 0; so the two floats are the values of the least and the greatest such word. Assumes nothing.
+-- A property of the u from 0 to 1 that has no gap holds from one float to another, or of none (`from-to`). The u are
+-- the values of the words 0 to 3f800000, in their order, and -0, which compares as 0; so the two floats are the values
+-- of the least and the greatest such word. Assumes nothing.
 use Prim.Native.Nat.{ℕ, zero, suc, _*_, _≤_, _<_, zero-le}
 use mathlib.Core.Path.{_≡_, refl, sym, subst}
 use mathlib.Core.Bool.{Bool, true, false}
@@ -170,11 +171,16 @@ module _ (P : Float → Bool) (no-gap : (u v w : Float) → InOrder u v → InOr
         λ (u : Float) (F : FromZeroToOne u). (
           λ (p : T (P u)).
               let o = word-of u F in
-              let b = r .between (o .word) (o .word-le) (equals u (single (o .word)) F (word-in (o .word) (o .word-le)) (o .above) (o .below) p) in (
-                le-trans a (single (o .word)) u (bits-mono binary32 (r .first) (o .word) (b .0) (below-infinity (o .word) (o .word-le))) (o .below),
-                le-trans u (single (o .word)) z (o .above) (bits-mono binary32 (o .word) (r .last) (b .1) (below-infinity (r .last) (r .last-le))),
+              let b =
+              r .between (o .word) (o .word-le)
+              (equals u (single (o .word)) F (word-in (o .word) (o .word-le)) (o .above) (o .below) p) in (
+                le-trans a (single (o .word)) u
+                    (bits-mono binary32 (r .first) (o .word) (b .0) (below-infinity (o .word) (o .word-le))) (o .below),
+                le-trans u (single (o .word)) z (o .above)
+                    (bits-mono binary32 (o .word) (r .last) (b .1) (below-infinity (r .last) (r .last-le))),
               ),
-          λ (h : T (le a u) × T (le u z)). no-gap a u z (in-order a u A F (h .0)) (in-order u z F Z (h .1)) (r .first-has) (r .last-has),
+          λ (h : T (le a u) × T (le u z)). no-gap a u z (in-order a u A F (h .0)) (in-order u z F Z (h .1))
+              (r .first-has) (r .last-has),
         ),
       )
 

@@ -1,5 +1,6 @@
--- A tree of leaves and forks with a pair of weights at each fork, or a refusal to weigh; and a draw from it, by `fork` of light_sampler. What is proved of it
--- holds of any weights; `weighed` has those that a query gives. Definitions only. Assumes nothing.
+-- A tree of leaves and forks with a pair of weights at each fork, or a refusal to weigh; and a draw from it, by `fork`
+-- of light_sampler. What is proved of it holds of any weights; `weighed` has those that a query gives. Definitions
+-- only. Assumes nothing.
 use Prim.Native.Nat.{ℕ, _+_, _*_}
 use mathlib.Core.Option.{some}
 use lib.Dec.{T}
@@ -47,4 +48,5 @@ WeightsNotBelow (fork w l r) = Gives NotBelow w × WeightsNotBelow l × WeightsN
 unfoldable pub weighed : Query → Tree → Weighted
 weighed q (treeLeaf h b) = leaf h
 weighed q (treeFork b l r) =
-    fork (weigh (bounds l) q then λ (x : Float). weigh (bounds r) q then λ (y : Float). given (x, y)) (weighed q l) (weighed q r)
+    fork (weigh (bounds l) q then λ (x : Float). weigh (bounds r) q then λ (y : Float). given (x, y)) (weighed q l)
+    (weighed q r)

@@ -16,7 +16,8 @@ use Rattle.words.specs.Heads.{kindOf}
 use Rattle.words.specs.LittleEndian.{bytesOf, bytesOfWord, setWord, wordsOf}
 use Rattle.words.specs.Tray.{tray}
 use Rattle.words.specs.TrayLaws.{tray-full, tray-early}
-use Rattle.words.proofs.AnswerLaws.{Early, Late, then-given, only-given, only-refused, only-cond, only-then, only-number, not-both, given-injective}
+use Rattle.words.proofs.AnswerLaws.{Early, Late, then-given, only-given, only-refused, only-cond, only-then}
+use Rattle.words.proofs.AnswerLaws.{only-number, not-both, given-injective}
 use Rattle.words.proofs.LittleEndianLaws.{length-bytesOf, bytesOf-append}
 use Rattle.words.proofs.FillLaws.{filled-within}
 use Rattle.words.proofs.Reserves.{tray-zeroed}
@@ -32,9 +33,11 @@ use Rattle.light_bounds.specs.declared.vecmath.Vec3.{Vec3}
 use Rattle.light_bounds.proofs.LateLaws.{late-validate, late-box}
 use Rattle.light_rows.specs.Nodes.{LightBVHNode, leaf, interior, invalidIndex, parent, nodePlace, boundsPlace, nodeAt, nodeOf, boundsAt, nodeCount}
 use Rattle.light_rows.specs.Nodes.{nodeBytes, maxNodes}
-use Rattle.packed_bvh.specs.Packed.{indexMax, payload, payloadWord, compactWords, payloadCheck, parentCheck, leftCheck, packNode, packNodes, header}
+use Rattle.packed_bvh.specs.Packed.{indexMax, payload, payloadWord, compactWords, payloadCheck, parentCheck}
+use Rattle.packed_bvh.specs.Packed.{leftCheck, packNode, packNodes, header}
 use Rattle.packed_bvh.specs.Packed.{headerWords, packedNodeWords, packedPlace, packedReserve}
-use Rattle.packed_bvh.specs.Packed.{packCheck, agreed, packedTree, packLightBvh, packedBytes, bytesReserve, wordsPacked}
+use Rattle.packed_bvh.specs.Packed.{packCheck, agreed, packedTree, packLightBvh, packedBytes, bytesReserve}
+use Rattle.packed_bvh.specs.Packed.{wordsPacked}
 use Rattle.packed_bvh.specs.PackedParts.{placing, packBounds, packPlaced}
 
 -- ---- words behind words
@@ -48,7 +51,8 @@ unfolding bytesOf
 words-none d p = record { is = refl }
 
 -- one word more, v, of which it is known that it is w
-pub words-one : {d : List ℕ} {p : ℕ} {ws l m : List ℕ} {v w q : ℕ} → Words d p ws l → m ≡ setWord l q v → v ≡ w → q ≡ p + length ws
+pub words-one : {d : List ℕ} {p : ℕ} {ws l m : List ℕ} {v w q : ℕ} → Words d p ws l → m ≡ setWord l q v → v ≡ w
+    → q ≡ p + length ws
     → 4 * (q + 1) ≤ length d → Words d p (ws ++ w ∷ []) m
 unfolding setWord bytesOf
 words-one {d} {p} {ws} {l} {m} {v} {w} {q} h e is place room =
@@ -83,7 +87,8 @@ node-placed count all ws i n e = rw e (record-of (boundsAt ws i))
         given (compactWords all b d (payloadWord n) (parent n)))
         ≡ (x then λ (d : Vec3). placing count i n then λ (w : ℕ × ℕ). given (compactWords all b d (w .0) (w .1)))
     unit b (given d) =
-        own-checks (payloadCheck n) (parentCheck count n) (leftCheck i n) (payloadWord n) (parent n) (λ (w p : ℕ). compactWords all b d w p)
+        own-checks (payloadCheck n) (parentCheck count n) (leftCheck i n) (payloadWord n) (parent n)
+        (λ (w p : ℕ). compactWords all b d w p)
     unit b (refused k) = refl
 
     valid : (b : LightBounds) (x : Answer (Unit {0}))
@@ -95,12 +100,14 @@ node-placed count all ws i n e = rw e (record-of (boundsAt ws i))
 
     record-of : (x : Answer LightBounds)
         → (x then λ (b : LightBounds). validate b then λ _. normalizeByDivision (b .direction) then λ (d : Vec3).
-        payloadCheck n then λ _. parentCheck count n then λ _. leftCheck i n then λ _. given (compactWords all b d (payloadWord n) (parent n)))
+        payloadCheck n then λ _. parentCheck count n then λ _. leftCheck i n then λ _. given
+        (compactWords all b d (payloadWord n) (parent n)))
         ≡ (x then λ (b : LightBounds). validate b then λ _. packBounds all b (placing count i n))
     record-of (given b) = valid b (validate b)
     record-of (refused k) = refl
 
-pub node-refused : (count : ℕ) (all : Bounds3) (ws : List ℕ) (i k : ℕ) → nodeAt ws i ≡ refused k → packNode count all ws i ≡ refused k
+pub node-refused : (count : ℕ) (all : Bounds3) (ws : List ℕ) (i k : ℕ) → nodeAt ws i ≡ refused k
+    → packNode count all ws i ≡ refused k
 unfolding packNode _then_
 node-refused count all ws i k e = rw e
 
@@ -117,7 +124,8 @@ late-node ws i =
 late-bounds : (ws : List ℕ) (i : ℕ) → Late (boundsAt ws i)
 unfolding boundsAt recordAt
 late-bounds ws i =
-    only-cond (leb (boundsPlace i + recordWords) (length ws) && sideKnown (getD ws (sidePlace (boundsPlace i)) 0)) only-given (only-refused (omega arith))
+    only-cond (leb (boundsPlace i + recordWords) (length ws) && sideKnown
+    (getD ws (sidePlace (boundsPlace i)) 0)) only-given (only-refused (omega arith))
 
 late-by-division : (v : Vec3) → Late (normalizeByDivision v)
 unfolding normalizeByDivision
@@ -129,7 +137,8 @@ late-payload n = only-cond (ltb indexMax (payload n)) (only-refused (omega arith
 
 late-parent : (count : ℕ) (n : LightBVHNode) → Late (parentCheck count n)
 unfolding parentCheck
-late-parent count n = only-cond (eqb (parent n) invalidIndex || ltb (parent n) count) only-given (only-refused (omega arith))
+late-parent count n =
+    only-cond (eqb (parent n) invalidIndex || ltb (parent n) count) only-given (only-refused (omega arith))
 
 late-left : (i : ℕ) (n : LightBVHNode) → Late (leftCheck i n)
 unfolding leftCheck
@@ -139,8 +148,10 @@ late-left i (interior l r p) = only-cond (eqb l (i + 1)) only-given (only-refuse
 pub late-pack : (count : ℕ) (all : Bounds3) (ws : List ℕ) (i : ℕ) → Late (packNode count all ws i)
 unfolding packNode
 late-pack count all ws i =
-    only-then (late-node ws i) (λ n. only-then (late-bounds ws i) (λ b. only-then (late-validate b) (λ _. only-then (late-by-division (b .direction))
-    (λ d. only-then (late-payload n) (λ _. only-then (late-parent count n) (λ _. only-then (late-left i n) (λ _. only-given)))))))
+    only-then (late-node ws i) (λ n. only-then (late-bounds ws i)
+    (λ b. only-then (late-validate b) (λ _. only-then (late-by-division (b .direction))
+    (λ d. only-then (late-payload n)
+    (λ _. only-then (late-parent count n) (λ _. only-then (late-left i n) (λ _. only-given)))))))
 
 -- ---- how many nodes
 
@@ -179,11 +190,13 @@ module _ (all : Bounds3) (ws : List ℕ) (n : ℕ) where
   unfolding packNodes
   packing-none d = record { nodes = []; is = refl; size = refl; words = words-none d headerWords .is }
 
-  pub packing-one : {i : ℕ} {d l m : List ℕ} (row : List ℕ) → Packing i d l → packNode n all ws i ≡ given row → length row ≡ packedNodeWords
+  pub packing-one : {i : ℕ} {d l m : List ℕ} (row : List ℕ) → Packing i d l → packNode n all ws i ≡ given row
+      → length row ≡ packedNodeWords
       → m ≡ sets l (4 * packedPlace i) (bytesOf row) → Packing (i + 1) d m
   unfolding packNodes _then_
   packing-one {i} {d} {l} {m} row p e eight put =
-      let at : 4 * headerWords + length (bytesOf (p .nodes)) ≡ 4 * packedPlace i = omega (arith, length-bytesOf (p .nodes), p .size) in
+      let at : 4 * headerWords + length (bytesOf (p .nodes)) ≡ 4 * packedPlace i =
+      omega (arith, length-bytesOf (p .nodes), p .size) in
       record {
         nodes = p .nodes ++ row;
         is = rw (add-one i, p .is, e);
@@ -191,7 +204,8 @@ module _ (all : Bounds3) (ws : List ℕ) (n : ℕ) where
         words =
             put ∙ ap (λ (z : List ℕ). sets z (4 * packedPlace i) (bytesOf row)) (p .words)
             ∙ ap (λ (k : ℕ). sets (sets d (4 * headerWords) (bytesOf (p .nodes))) k (bytesOf row)) (sym at)
-            ∙ sym (ap (sets d (4 * headerWords)) (bytesOf-append (p .nodes) row) ∙ sets-append d (4 * headerWords) (bytesOf (p .nodes)) (bytesOf row));
+            ∙ sym (ap (sets d (4 * headerWords)) (bytesOf-append (p .nodes) row) ∙ sets-append d (4 * headerWords)
+            (bytesOf (p .nodes)) (bytesOf row));
       }
 
   stays : (j m k : ℕ) → packNodes n all ws m ≡ refused k → packNodes n all ws (j + m) ≡ refused k
@@ -199,20 +213,26 @@ module _ (all : Bounds3) (ws : List ℕ) (n : ℕ) where
   stays zero m k e = let z : 0 + m ≡ m = omega arith in rw z e
   stays (suc j) m k e = let z : suc j + m ≡ suc (j + m) = omega arith in rw (z, stays j m k e)
 
-  refused-at : (i k : ℕ) (nodes : List ℕ) → packNodes n all ws i ≡ given nodes → packNode n all ws i ≡ refused k → packNodes n all ws (suc i) ≡ refused k
+  refused-at : (i k : ℕ) (nodes : List ℕ) → packNodes n all ws i ≡ given nodes → packNode n all ws i ≡ refused k
+      → packNodes n all ws (suc i) ≡ refused k
   unfolding packNodes _then_
   refused-at i k nodes e h = rw (e, h)
 
-  pub packing-refused : {i : ℕ} {d l : List ℕ} (k : ℕ) → Packing i d l → i < n → packNode n all ws i ≡ refused k → packedTree ws n (some all) ≡ refused k
+  pub packing-refused : {i : ℕ} {d l : List ℕ} (k : ℕ) → Packing i d l → i < n → packNode n all ws i ≡ refused k
+      → packedTree ws n (some all) ≡ refused k
   unfolding packedTree _then_
   packing-refused {i} k p h e =
       let to : n - suc i + suc i ≡ n = omega arith in
-      let whole : packNodes n all ws n ≡ refused k = rw to at (stays (n - suc i) (suc i) k (refused-at i k (p .nodes) (p .is) e)) in
+      let whole : packNodes n all ws n ≡ refused k =
+      rw to at (stays (n - suc i) (suc i) k (refused-at i k (p .nodes) (p .is) e)) in
       rw whole
 
-  pub packing-all : {i : ℕ} {d l : List ℕ} (p : Packing i d l) → i ≡ n → packedTree ws n (some all) ≡ given (some (header all ++ p .nodes))
+  pub packing-all : {i : ℕ} {d l : List ℕ} (p : Packing i d l) → i ≡ n
+      → packedTree ws n (some all) ≡ given (some (header all ++ p .nodes))
   unfolding packedTree _then_
-  packing-all {i} p e = let whole : packNodes n all ws n ≡ given (p .nodes) = subst (λ (k : ℕ). packNodes n all ws k ≡ given (p .nodes)) e (p .is) in rw whole
+  packing-all {i} p e =
+      let whole : packNodes n all ws n ≡ given (p .nodes) = subst (λ (k : ℕ). packNodes n all ws k ≡ given (p .nodes)) e
+      (p .is) in rw whole
 
   pub packing-length : {i : ℕ} {d l : List ℕ} → Packing i d l → length l ≡ length d
   packing-length {i} {d} p = ap length (p .words) ∙ length-sets d (4 * headerWords) (bytesOf (p .nodes))
@@ -226,11 +246,13 @@ module _ (all : Bounds3) (ws : List ℕ) (n : ℕ) where
     size = packing-length p ∙ ap length head ∙ length-sets before 0 (bytesOf (header all))
 
     -- a node is refused, and the reserve zeroed
-    pub outcome-refused : {m : List ℕ} (k : ℕ) → i < n → packNode n all ws i ≡ refused k → m ≡ filled l 0 (4 * packedReserve n) 0
+    pub outcome-refused : {m : List ℕ} (k : ℕ) → i < n → packNode n all ws i ≡ refused k
+        → m ≡ filled l 0 (4 * packedReserve n) 0
         → (refused k ≡ wordsPacked (packedTree ws n (some all)))
         × (m ≡ tray packedBytes (4 * packedReserve n) (packedTree ws n (some all)) before)
     outcome-refused {m} k h e zeroed =
-        let nodes-size : length (bytesOf (p .nodes)) ≡ 4 * (packedNodeWords * i) = rw (← p .size) (length-bytesOf (p .nodes)) in
+        let nodes-size : length (bytesOf (p .nodes)) ≡ 4 * (packedNodeWords * i) =
+        rw (← p .size) (length-bytesOf (p .nodes)) in
         let head-size : length (bytesOf (header all)) ≡ 4 * headerWords = length-bytesOf (header all) in
         let behind : drop (4 * packedReserve n) l ≡ drop (4 * packedReserve n) before =
         ap (drop (4 * packedReserve n)) (p .words)
@@ -239,7 +261,8 @@ module _ (all : Bounds3) (ws : List ℕ) (n : ℕ) where
         ∙ drop-sets (4 * packedReserve n) (bytesOf (header all)) before 0 (omega (arith, head-size, reserve)) in
         rw (packing-refused k p h e) (
           refl,
-          zeroed ∙ tray-zeroed packedBytes (4 * packedReserve n) before l k (omega (arith, size)) behind (only-number (late-pack n all ws i) e),
+          zeroed ∙ tray-zeroed packedBytes (4 * packedReserve n) before l k (omega (arith, size)) behind
+              (only-number (late-pack n all ws i) e),
         )
 
     -- every node is packed
@@ -247,15 +270,19 @@ module _ (all : Bounds3) (ws : List ℕ) (n : ℕ) where
         → (given (some (packedReserve n)) ≡ wordsPacked (packedTree ws n (some all)))
         × (l ≡ tray packedBytes (4 * packedReserve n) (packedTree ws n (some all)) before)
     outcome-given e =
-        let count : length (header all ++ p .nodes) ≡ packedReserve n = length-append (header all) (p .nodes) ∙ omega (arith, p .size, reserve) in
-        let bytes : length (bytesOf (header all ++ p .nodes)) ≡ 4 * packedReserve n = rw (← count) (length-bytesOf (header all ++ p .nodes)) in
-        let head-size : 0 + length (bytesOf (header all)) ≡ 4 * headerWords = omega (arith, length-bytesOf (header all)) in
+        let count : length (header all ++ p .nodes) ≡ packedReserve n =
+        length-append (header all) (p .nodes) ∙ omega (arith, p .size, reserve) in
+        let bytes : length (bytesOf (header all ++ p .nodes)) ≡ 4 * packedReserve n =
+        rw (← count) (length-bytesOf (header all ++ p .nodes)) in
+        let head-size : 0 + length (bytesOf (header all)) ≡ 4 * headerWords =
+        omega (arith, length-bytesOf (header all)) in
         let at : 0 + length (bytesOf (header all ++ p .nodes)) ≡ 4 * packedReserve n = omega (arith, bytes) in
         let whole : l ≡ sets before 0 (bytesOf (header all ++ p .nodes)) =
         p .words
         ∙ ap (λ (z : List ℕ). sets z 32 (bytesOf (p .nodes))) head
         ∙ ap (λ (k : ℕ). sets (sets before 0 (bytesOf (header all))) k (bytesOf (p .nodes))) (sym head-size)
-        ∙ sym (ap (sets before 0) (bytesOf-append (header all) (p .nodes)) ∙ sets-append before 0 (bytesOf (header all)) (bytesOf (p .nodes))) in
+        ∙ sym (ap (sets before 0) (bytesOf-append (header all) (p .nodes)) ∙ sets-append before 0 (bytesOf (header all))
+        (bytesOf (p .nodes))) in
         rw (packing-all p e) (
           ap (λ (k : ℕ). given (some k)) (sym count),
           whole ∙ sets-eq (bytesOf (header all ++ p .nodes)) before 0 (omega (arith, at))
@@ -274,12 +301,14 @@ early-count bytes =
 early-check : (nodes : List ℕ) (room : ℕ) → Early (packCheck nodes room)
 unfolding packCheck
 early-check nodes room =
-    only-then (early-count nodes) (λ n. only-cond (ltb room (4 * packedReserve n)) (only-refused (omega arith)) only-given)
+    only-then (early-count nodes) (λ n. only-cond (ltb room (4 * packedReserve n))
+    (only-refused (omega arith)) only-given)
 
 late-agreed : (n k : ℕ) (all : Option Bounds3) → Late (agreed n k all)
 unfolding agreed
 late-agreed n k none = only-cond (eqb n 0 && eqb k 0) only-given (only-refused (omega arith))
-late-agreed n k (some all) = only-cond (eqb n 0 || eqb k 0) (only-refused (omega arith)) (only-then (late-box all) (λ _. only-given))
+late-agreed n k (some all) =
+    only-cond (eqb n 0 || eqb k 0) (only-refused (omega arith)) (only-then (late-box all) (λ _. only-given))
 
 module _ (n k : ℕ) where
   pub agreed-empty : (all : Bounds3) → n ≡ 0 → agreed n k (some all) ≡ refused 12
@@ -316,11 +345,14 @@ pub check-known : (nodes before : List ℕ) (n : ℕ) → packCheck nodes (lengt
     → (n ≤ maxNodes) × (4 * packedReserve n ≤ length before) × (bytesReserve nodes ≡ 4 * packedReserve n)
 unfolding packCheck _then_
 check-known nodes before n h =
-    let (m, counted, passed) = then-given (nodeCount nodes) (λ (m : ℕ). cond (ltb (length before) (4 * packedReserve m)) (refused 3) (given m)) n h in
+    let (m, counted, passed) =
+    then-given (nodeCount nodes) (λ (m : ℕ). cond (ltb (length before) (4 * packedReserve m)) (refused 3)
+    (given m)) n h in
     let (few, is) = count-known nodes m counted in
     go m few is (ltb (length before) (4 * packedReserve m)) refl passed
   where
-    go : (m : ℕ) → m ≤ maxNodes → length nodes / nodeBytes ≡ m → (b : Bool) → ltb (length before) (4 * packedReserve m) ≡ b
+    go : (m : ℕ) → m ≤ maxNodes → length nodes / nodeBytes ≡ m → (b : Bool)
+        → ltb (length before) (4 * packedReserve m) ≡ b
         → cond b (refused 3) (given m) ≡ given n
         → (n ≤ maxNodes) × (4 * packedReserve n ≤ length before) × (bytesReserve nodes ≡ 4 * packedReserve n)
     go m few is true e g = absurd (not-both g refl)
@@ -353,7 +385,8 @@ module _ (nodes : List ℕ) (k : ℕ) (all : Option Bounds3) (before : List ℕ)
         let is : packLightBvh nodes k all (length before) ≡ refused j = rw (h, e) in
         rw (is, reserve) (
           refusal,
-          zeroed ∙ tray-zeroed packedBytes (4 * packedReserve n) before before j room refl (only-number (late-agreed n k all) e),
+          zeroed ∙ tray-zeroed packedBytes (4 * packedReserve n) before before j room refl
+              (only-number (late-agreed n k all) e),
         )
 
     pub outcome-agreed : {a : Answer (Option ℕ)} {after : List ℕ} (box : Option Bounds3) → agreed n k all ≡ given box

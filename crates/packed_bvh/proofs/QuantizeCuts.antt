@@ -24,7 +24,8 @@ module _ (value lo hi : Float) (extent : eq lo hi ≡ false) where
   pub cut-small : toU32 (stepsOf value lo hi) ≤ 65535
   cut-small = rw down-cut (quantize-small false value lo hi)
 
-  pub up-cut : (n : ℕ) → n ≡ toU32 (stepsOf value lo hi) → cond (lt (ofInt binary32 (pos n)) (stepsOf value lo hi)) (n + 1) n ≡ quantizeBounds true value lo hi
+  pub up-cut : (n : ℕ) → n ≡ toU32 (stepsOf value lo hi)
+      → cond (lt (ofInt binary32 (pos n)) (stepsOf value lo hi)) (n + 1) n ≡ quantizeBounds true value lo hi
   unfolding quantizeBounds toU32
   up-cut n is =
       let small : n ≤ 65535 = rw is cut-small in
@@ -52,7 +53,8 @@ module _ (c : Float) (n : ℕ) (is : n ≡ toU32 ((c ⊕ onef) ⊗ half ⊗ last
       go step l true e = refl
       go step l false e = omega (arith, ltb-false 65535 step e)
 
-  pub axis-cut : n < 65535 → cond (le (ofInt binary32 (pos n) ⊕ half) ((c ⊕ onef) ⊗ half ⊗ lastStep)) (n + 1) n ≡ quantizeAxis c
+  pub axis-cut : n < 65535
+      → cond (le (ofInt binary32 (pos n) ⊕ half) ((c ⊕ onef) ⊗ half ⊗ lastStep)) (n + 1) n ≡ quantizeAxis c
   unfolding quantizeAxis toU32
   axis-cut h =
       let x = (c ⊕ onef) ⊗ half ⊗ lastStep in

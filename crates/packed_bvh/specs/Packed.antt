@@ -31,16 +31,16 @@ headerWords = 8
 abbrev pub packedNodeWords : ℕ
 packedNodeWords = 8
 
+-- the place of a node's words, behind the header
+abbrev pub packedPlace : ℕ → ℕ
+packedPlace i = headerWords + packedNodeWords * i
+
 -- `LIGHT_BVH_INDEX_MAX`, and the bit above it, which a leaf's payload has
 abbrev pub indexMax : ℕ
 indexMax = 0x7fff_ffff
 
 abbrev pub leafBit : ℕ
 leafBit = 0x8000_0000
-
--- the place of a node's words, behind the header
-abbrev pub packedPlace : ℕ → ℕ
-packedPlace i = headerWords + packedNodeWords * i
 
 -- ---- a node's words
 
@@ -50,7 +50,8 @@ paired low high = low + 0x1_0000 * high
 
 -- both cosines and the side: 15, 15 and 1 bits
 abbrev pub coneWord : LightBounds → ℕ
-coneWord b = quantizeCos (b .«cos_theta_o») + 0x8000 * quantizeCos (b .«cos_theta_e») + cond (b .side .«two_sided») 0x4000_0000 0
+coneWord b =
+    quantizeCos (b .«cos_theta_o») + 0x8000 * quantizeCos (b .«cos_theta_e») + cond (b .side .«two_sided») 0x4000_0000 0
 
 -- the handle of a leaf, the right child of an interior node; and as a word, with bit 31 at a leaf
 abbrev pub payload : LightBVHNode → ℕ
@@ -71,7 +72,8 @@ compactWords all b d payload parent =
     paired (quantizeBounds false (min .x) (lo .x) (hi .x)) (quantizeBounds false (min .y) (lo .y) (hi .y)) ∷
     paired (quantizeBounds false (min .z) (lo .z) (hi .z)) (quantizeBounds true (max .x) (lo .x) (hi .x)) ∷
     paired (quantizeBounds true (max .y) (lo .y) (hi .y)) (quantizeBounds true (max .z) (lo .z) (hi .z)) ∷
-    paired (encodeOctahedral d .0) (encodeOctahedral d .1) ∷ toBits binary32 (b .phi) ∷ coneWord b ∷ payload ∷ parent ∷ []
+    paired (encodeOctahedral d .0) (encodeOctahedral d .1) ∷ toBits binary32
+    (b .phi) ∷ coneWord b ∷ payload ∷ parent ∷ []
 
 -- ---- a node's checks, behind its record's
 
@@ -91,14 +93,17 @@ leftCheck i (interior l r p) = cond (eqb l (i + 1)) (given tt) (refused 12)
 -- kind, side, the record's check, its direction's length, then these
 unfoldable pub packNode : ℕ → Bounds3 → List ℕ → ℕ → Answer (List ℕ)
 packNode count all ws i =
-    nodeAt ws i then λ (n : LightBVHNode). boundsAt ws i then λ (b : LightBounds). validate b then λ _. normalizeByDivision (b .direction) then λ (d : Vec3).
-    payloadCheck n then λ _. parentCheck count n then λ _. leftCheck i n then λ _. given (compactWords all b d (payloadWord n) (parent n))
+    nodeAt ws i then λ (n : LightBVHNode). boundsAt ws i then λ (b : LightBounds). validate b
+    then λ _. normalizeByDivision (b .direction) then λ (d : Vec3).
+    payloadCheck n then λ _. parentCheck count n then λ _. leftCheck i n then λ _. given
+    (compactWords all b d (payloadWord n) (parent n))
 
 -- the first n nodes, in order
 unfoldable pub packNodes : ℕ → Bounds3 → List ℕ → ℕ → Answer (List ℕ)
 packNodes count all ws zero = given []
 packNodes count all ws (suc n) =
-    packNodes count all ws n then λ (before : List ℕ). packNode count all ws n then λ (node : List ℕ). given (before ++ node)
+    packNodes count all ws n then λ (before : List ℕ). packNode count all ws n then λ (node : List ℕ). given
+    (before ++ node)
 
 -- ---- the tree
 
@@ -115,7 +120,8 @@ packedReserve (suc n) = packedPlace (suc n)
 unfoldable pub packCheck : List ℕ → ℕ → Answer ℕ
 packCheck nodes room = nodeCount nodes then λ (n : ℕ). cond (ltb room (4 * packedReserve n)) (refused 3) (given n)
 
--- without a box there are no nodes and no lamps, and nothing is packed; with one there are both: else 12. The box's own check
+-- without a box there are no nodes and no lamps, and nothing is packed; with one there are both: else 12. The box's own
+-- check
 unfoldable pub agreed : ℕ → ℕ → Option Bounds3 → Answer (Option Bounds3)
 agreed n k none = cond (eqb n 0 && eqb k 0) (given none) (refused 12)
 agreed n k (some all) = cond (eqb n 0 || eqb k 0) (refused 12) (boxCheck all then λ _. given (some all))

@@ -22,7 +22,8 @@ compactList c =
 
 -- the payload's word and the parent of a node that passes its own checks
 unfoldable pub placing : ℕ → ℕ → LightBVHNode → Answer (ℕ × ℕ)
-placing count i n = payloadCheck n then λ _. parentCheck count n then λ _. leftCheck i n then λ _. given (payloadWord n, parent n)
+placing count i n =
+    payloadCheck n then λ _. parentCheck count n then λ _. leftCheck i n then λ _. given (payloadWord n, parent n)
 
 abbrev pub placed : Placed → Answer (ℕ × ℕ)
 placed (Placed·Words w p) = given (w, p)
@@ -31,7 +32,8 @@ placed (Placed·Refused r) = refused (number r)
 -- the words of the node at a place, its own checks behind its record's
 unfoldable pub packBounds : Bounds3 → LightBounds → Answer (ℕ × ℕ) → Answer (List ℕ)
 packBounds all b place =
-    normalizeByDivision (b .direction) then λ (d : Vec3). place then λ (w : ℕ × ℕ). given (compactWords all b d (w .0) (w .1))
+    normalizeByDivision (b .direction) then λ (d : Vec3). place then λ (w : ℕ × ℕ). given
+    (compactWords all b d (w .0) (w .1))
 
 unfoldable pub packPlaced : Bounds3 → List ℕ → ℕ → Answer (ℕ × ℕ) → Answer (List ℕ)
 packPlaced all ws i place = boundsAt ws i then λ (b : LightBounds). validate b then λ _. packBounds all b place

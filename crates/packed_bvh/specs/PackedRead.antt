@@ -13,7 +13,8 @@ use Rattle.light_rows.specs.Nodes.{LightBVHNode, leaf, interior}
 use Rattle.packed_bvh.specs.Packed.{leafBit, packedPlace}
 use Rattle.packed_bvh.specs.Quantize.{lastStep, quantizeBounds}
 
--- the node at place i that two packed words stand for: a leaf where bit 31 of the payload is set; a left child is the next node
+-- the node at place i that two packed words stand for: a leaf where bit 31 of the payload is set; a left child is the
+-- next node
 unfoldable pub readNode : ℕ → ℕ → ℕ → LightBVHNode
 readNode i payload p = cond (leb leafBit payload) (leaf (payload - leafBit) p) (interior (i + 1) payload p)
 

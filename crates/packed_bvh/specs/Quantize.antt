@@ -1,5 +1,6 @@
--- Numbers packed into sixteen and fifteen bits, as `webgpu/light_bvh.rs` packs them: coordinates within the overall box, cosines, directions; and a packed
--- direction read back as document 01 reads it. Definitions only. Assumes nothing.
+-- Numbers packed into sixteen and fifteen bits, as `webgpu/light_bvh.rs` packs them: coordinates within the overall
+-- box, cosines, directions; and a packed direction read back as document 01 reads it. Definitions only. Assumes
+-- nothing.
 use Prim.Native.Nat.{ℕ}
 use mathlib.Core.Bool.{Bool, cond}
 use lib.Dec.{ltb}
@@ -27,7 +28,8 @@ stepsOf value min max = clamp ((value ⊖ min) ⊘ (max ⊖ min)) zerof onef ⊗
 -- `quantize_bounds`: up or down to a whole step, 0 on an axis without extent
 unfoldable pub quantizeBounds : Bool → Float → Float → Float → ℕ
 quantizeBounds up value min max =
-    cond (eq min max) 0 (toU32 (cond up (ceil binary32 (stepsOf value min max)) (floor binary32 (stepsOf value min max))))
+    cond (eq min max) 0 (toU32 (cond up (ceil binary32 (stepsOf value min max))
+    (floor binary32 (stepsOf value min max))))
 
 -- ---- cosines
 
@@ -50,7 +52,8 @@ octahedral v = folded (divided v (fabs (v .x) ⊕ fabs (v .y) ⊕ fabs (v .z)))
 
 -- to the nearest of 65535 steps from -1 to 1
 unfoldable pub quantizeAxis : Float → ℕ
-quantizeAxis c = let step = toU32 (roundAway binary32 ((c ⊕ onef) ⊗ half ⊗ lastStep)) in cond (ltb 65535 step) 65535 step
+quantizeAxis c =
+    let step = toU32 (roundAway binary32 ((c ⊕ onef) ⊗ half ⊗ lastStep)) in cond (ltb 65535 step) 65535 step
 
 -- `encode_octahedral`: two steps
 unfoldable pub encodeOctahedral : Vec3 → ℕ × ℕ

@@ -1,5 +1,5 @@
--- The quantised numbers are no larger than their last step. A value that is a NaN or at most a whole number n has a whole number of at most n next to it, and
--- a cast of a NaN is 0. Assumes nothing.
+-- The quantised numbers are no larger than their last step. A value that is a NaN or at most a whole number n has a
+-- whole number of at most n next to it, and a cast of a NaN is 0. Assumes nothing.
 use Prim.Native.Nat.{ℕ, _≤_, zero-le}
 use mathlib.Core.Path.{_≡_, refl, sym, _∙_, ap, subst}
 use mathlib.Core.Bool.{Bool, true, false, cond, not, _&&_, _||_}
@@ -46,10 +46,12 @@ clamped (fin s m e) = go (lt (fin s m e) zerof) refl
     up-to false k h =
         (le→nonneg (fin s m e) h, le-of-not-lt (fin s m e) onef (unfold isNan in tt) (unfold isNan in tt) (rw k tt))
 
-    go : (b : Bool) → lt (fin s m e) zerof ≡ b → (clamp (fin s m e) zerof onef ≡ nan) ⊎ Portion (clamp (fin s m e) zerof onef)
+    go : (b : Bool) → lt (fin s m e) zerof ≡ b
+        → (clamp (fin s m e) zerof onef ≡ nan) ⊎ Portion (clamp (fin s m e) zerof onef)
     go true k = rw k (inr (tt, unfold le eq in tt))
     go false k =
-        rw k (inr (up-to (lt onef (fin s m e)) refl (le-of-not-lt zerof (fin s m e) (unfold isNan in tt) (unfold isNan in tt) (rw k tt))))
+        rw k (inr (up-to (lt onef (fin s m e)) refl
+        (le-of-not-lt zerof (fin s m e) (unfold isNan in tt) (unfold isNan in tt) (rw k tt))))
 
 -- times the last step it is at most that
 all-steps : onef ⊗ lastStep ≡ fin false 65535 (pos 0)
@@ -63,7 +65,8 @@ portion-steps x (p, h) =
       | inl e ↦ inl e
       | inr q ↦ inr
           (subst (λ (z : Float). T (le (x ⊗ lastStep) z)) all-steps
-          (mul-mono binary32 x onef lastStep lastStep p tt h (unfold le eq in tt) (nonneg-known (x ⊗ lastStep) q) (unfold isNan mul in tt)))
+          (mul-mono binary32 x onef lastStep lastStep p tt h (unfold le eq in tt) (nonneg-known (x ⊗ lastStep) q)
+          (unfold isNan mul in tt)))
     ]
 
 nan-steps : nan ⊗ lastStep ≡ nan
@@ -87,11 +90,16 @@ pub quantize-small : (up : Bool) (value lo hi : Float) → quantizeBounds up val
 unfolding quantizeBounds toU32 floor ceil
 quantize-small up value lo hi = go (eq lo hi) up
   where
-    go : (b up : Bool) → cond b 0 (toU32 (cond up (ceil binary32 (stepsOf value lo hi)) (floor binary32 (stepsOf value lo hi)))) ≤ 65535
+    go : (b up : Bool)
+        → cond b 0
+        (toU32 (cond up (ceil binary32 (stepsOf value lo hi)) (floor binary32 (stepsOf value lo hi)))) ≤ 65535
     go true up = zero-le
     go false true =
-        next-small 32 65535 (not (negative (stepsOf value lo hi))) (stepsOf value lo hi) (steps-fit value lo hi) (steps-under value lo hi)
-    go false false = next-small 32 65535 (negative (stepsOf value lo hi)) (stepsOf value lo hi) (steps-fit value lo hi) (steps-under value lo hi)
+        next-small 32 65535 (not (negative (stepsOf value lo hi))) (stepsOf value lo hi) (steps-fit value lo hi)
+        (steps-under value lo hi)
+    go false false =
+        next-small 32 65535 (negative (stepsOf value lo hi)) (stepsOf value lo hi) (steps-fit value lo hi)
+        (steps-under value lo hi)
 
 -- ---- directions
 
@@ -156,7 +164,8 @@ cos-steps x (p, h) =
       | inl e ↦ inl e
       | inr q ↦ inr
           (subst (λ (z : Float). T (le (lastCosStep ⊗ x) z)) all-cos-steps
-          (mul-mono binary32 lastCosStep lastCosStep x onef tt p (unfold le eq in tt) h (nonneg-known (lastCosStep ⊗ x) q) (unfold isNan mul in tt)))
+          (mul-mono binary32 lastCosStep lastCosStep x onef tt p (unfold le eq in tt) h
+          (nonneg-known (lastCosStep ⊗ x) q) (unfold isNan mul in tt)))
     ]
 
 pub cos-small : (c : Float) → isCosine c ≡ true → quantizeCos c ≤ 32767
@@ -166,17 +175,22 @@ cos-small c h =
     let x = (c ⊕ onef) ⊘ twof in
     let s = lastCosStep ⊗ x in
     next-small 16 32767 (negative s) s (mul-fits binary32 lastCosStep x)
-    (cos-steps x (halved (c ⊕ onef) (raised c (and-l (le minusOne c) (le c onef) t) (and-r (le minusOne c) (le c onef) t))))
+    (cos-steps x (halved (c ⊕ onef)
+    (raised c (and-l (le minusOne c) (le c onef) t) (and-r (le minusOne c) (le c onef) t))))
 
 -- a record that passes its check has cosines, so that its cone word keeps fifteen bits for each
-pub valid-cosines : (b : LightBounds) → validate b ≡ given tt → (isCosine (b .«cos_theta_o») ≡ true) × (isCosine (b .«cos_theta_e») ≡ true)
+pub valid-cosines : (b : LightBounds) → validate b ≡ given tt
+    → (isCosine (b .«cos_theta_o») ≡ true) × (isCosine (b .«cos_theta_e») ≡ true)
 unfolding validate coneCheck rangeCheck
 valid-cosines b h =
     let (u, box, cone) = then-given (boxCheck (b .bounds)) (λ _. coneCheck b) tt h in
-    go (finiteCone b) (eq (dot (b .direction) (b .direction)) zerof) (lt (b .phi) zerof) (isCosine (b .«cos_theta_o»)) (isCosine (b .«cos_theta_e»)) cone
+    go (finiteCone b) (eq (dot (b .direction) (b .direction)) zerof) (lt (b .phi) zerof) (isCosine (b .«cos_theta_o»))
+    (isCosine (b .«cos_theta_e»)) cone
   where
     go : (finite still below o e : Bool)
-        → _≡_ {A = Answer (Unit {0})} (cond finite (cond still (refused 7) (cond (below || not (o && e)) (refused 8) (given tt))) (refused 5)) (given tt)
+        → _≡_ {A = Answer (Unit {0})}
+        (cond finite (cond still (refused 7) (cond (below || not (o && e)) (refused 8) (given tt))) (refused 5))
+        (given tt)
         → (o ≡ true) × (e ≡ true)
     go false still below o e g = absurd (not-both g refl)
     go true true below o e g = absurd (not-both g refl)
@@ -185,7 +199,8 @@ valid-cosines b h =
     go true false false true false g = absurd (not-both g refl)
     go true false false true true g = (refl, refl)
 
-pub valid-cos-small : (b : LightBounds) → validate b ≡ given tt → (quantizeCos (b .«cos_theta_o») ≤ 32767) × (quantizeCos (b .«cos_theta_e») ≤ 32767)
+pub valid-cos-small : (b : LightBounds) → validate b ≡ given tt
+    → (quantizeCos (b .«cos_theta_o») ≤ 32767) × (quantizeCos (b .«cos_theta_e») ≤ 32767)
 valid-cos-small b h =
     let (o, e) = valid-cosines b h in
     (cos-small (b .«cos_theta_o») o, cos-small (b .«cos_theta_e») e)

@@ -14,8 +14,10 @@ ghost use Rattle.words.specs.Tray.{tray};
 ghost use Rattle.light_bounds.specs.Bounds.{allBoundsOf};
 ghost use Rattle.light_rows.specs.Nodes.{leaf, interior, invalidIndex};
 ghost use Rattle.packed_bvh.specs.Packed.{headerWords, packedNodeWords};
-ghost use Rattle.packed_bvh.specs.Packed.{paired, coneWord, compactWords, packNode, header, packedReserve, packCheck};
-ghost use Rattle.packed_bvh.specs.Packed.{packedTree, packLightBvh, packedBytes, bytesReserve, wordsPacked, packed};
+ghost use Rattle.packed_bvh.specs.Packed.{paired, coneWord, compactWords, packNode, header, packedReserve};
+ghost use Rattle.packed_bvh.specs.Packed.{packCheck};
+ghost use Rattle.packed_bvh.specs.Packed.{packedTree, packLightBvh, packedBytes, bytesReserve, wordsPacked};
+ghost use Rattle.packed_bvh.specs.Packed.{packed};
 ghost use Rattle.packed_bvh.specs.PackedParts.{compactList, placing, placed, packBounds, packPlaced, nodePacked};
 use super::quantize::octahedral;
 use super::quantize::quantize_axis;
@@ -42,13 +44,16 @@ use words::floats::word_of_f32;
 use words::little_endian::set_word;
 use words::refusals::Refusal;
 
-// The words of the header and of a node.
+// The words of the header.
 const HEADER_WORDS: usize = 8;
 
+// The words of a node.
 const NODE_WORDS: usize = 8;
-// The greatest payload, and the bit above it, which a leaf's has.
+
+// The greatest payload.
 const INDEX_MAX: u32 = 0x7fff_ffff;
 
+// The bit above it, which a leaf's payload has.
 const LEAF_BIT: u32 = 0x8000_0000;
 
 // How many words were packed, that there was no tree, or why not.
@@ -278,7 +283,8 @@ fn pack_nodes(nodes: &[u8], all: Bounds3, n: usize, out: &mut [u8]) -> Packed
     requires { ⌜ 0 < n ⌝ }
     requires { ⌜ 4 * packedReserve n ≤ length (now out) ⌝ }
     ensures { λ r. ⌜ packed r ≡ wordsPacked (packedTree (wordsOf (now (nodes .entry))) n (some all)) ⌝ }
-    ensures { λ _. ⌜ now (out .exit) ≡ tray packedBytes (4 * packedReserve n) (packedTree (wordsOf (now (nodes .entry))) n (some all)) (now (out .entry)) ⌝ }
+    ensures { λ _. ⌜ now (out .exit) ≡ tray packedBytes (4 * packedReserve n)
+        (packedTree (wordsOf (now (nodes .entry))) n (some all)) (now (out .entry)) ⌝ }
 {
     write_header(out, all);
     let mut i: usize = 0;
@@ -326,14 +332,16 @@ fn refuse(out: &mut [u8], n: usize, why: Refusal) -> Packed
 }
 
 // Packs the node words with k, the number of powered lamps, and their box: the header and the nodes are written as
-// bytes, little-endian, and no word without nodes. Refusals 2, 1, 3 leave the lent bytes as they are; 12 where box, nodes
-// and k do not agree, 5 and 6 of the box, then node by node 12 of its kind and its side, 5 to 8 of its record, 7 of its
-// direction's length, 13 of a payload over INDEX_MAX, 12 of its parent and its left child: these zero the reserve. No
-// tree gives none.
+// bytes, little-endian, and no word without nodes. Refusals 2, 1, 3 leave the lent bytes as they are; 12 where box,
+// nodes and k do not agree, 5 and 6 of the box, then node by node 12 of its kind and its side, 5 to 8 of its record, 7
+// of its direction's length, 13 of a payload over INDEX_MAX, 12 of its parent and its left child: these zero the
+// reserve. No tree gives none.
 pub fn pack_light_bvh(nodes: &[u8], k: usize, all_bounds: AllBounds, out: &mut [u8]) -> Packed
-    ensures { λ r. ⌜ packed r ≡ wordsPacked (packLightBvh (now (nodes .entry)) k (allBoundsOf «all_bounds») (length (now (out .entry)))) ⌝ }
+    ensures { λ r. ⌜ packed r
+        ≡ wordsPacked (packLightBvh (now (nodes .entry)) k (allBoundsOf «all_bounds») (length (now (out .entry)))) ⌝ }
     ensures { λ _. ⌜ now (out .exit) ≡ tray packedBytes (bytesReserve (now (nodes .entry)))
-        (packLightBvh (now (nodes .entry)) k (allBoundsOf «all_bounds») (length (now (out .entry)))) (now (out .entry)) ⌝ }
+        (packLightBvh (now (nodes .entry)) k (allBoundsOf «all_bounds») (length (now (out .entry))))
+        (now (out .entry)) ⌝ }
 {
     match check_pack(nodes, out.len()) {
         Counted::Count(n) => match all_bounds {

@@ -1,7 +1,8 @@
 // Numbers packed into sixteen and fifteen bits (specs/Quantize.antt).
 ghost use mathlib.Core.Bool.{true, false};
 ghost use mathlib.Core.Path.{_≡_};
-ghost use Rattle.packed_bvh.specs.Quantize.{stepsOf, quantizeBounds, quantizeCos, sign as signOf, folded, octahedral as octahedralOf, quantizeAxis};
+ghost use Rattle.packed_bvh.specs.Quantize.{stepsOf, quantizeBounds, quantizeCos, sign as signOf, folded};
+ghost use Rattle.packed_bvh.specs.Quantize.{octahedral as octahedralOf, quantizeAxis};
 use floats::choose::abs;
 use floats::choose::clamp;
 use floats::choose::is_sign_negative;

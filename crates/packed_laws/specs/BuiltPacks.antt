@@ -1,6 +1,6 @@
--- An accepted build packs, with its own k and box. Its nodes pass every check of their places, so none is refused by 12 or 13 (`built-agrees`); its boxes are
--- proper, so what can be refused is the room, by 3, and a record, by 5, 7 or 8 (`built-refusals`). Without powered lamps nothing is packed (`nothing-packs`).
--- Assumes nothing.
+-- An accepted build packs, with its own k and box. Its nodes pass every check of their places, so none is refused by 12
+-- or 13 (`built-agrees`); its boxes are proper, so what can be refused is the room, by 3, and a record, by 5, 7 or 8
+-- (`built-refusals`). Without powered lamps nothing is packed (`nothing-packs`). Assumes nothing.
 use Prim.Native.Nat.{ℕ, zero, suc, _+_, _-_, _*_, _≤_, _<_}
 use mathlib.Core.Path.{_≡_, refl, sym, subst, _∙_}
 use mathlib.Core.Bool.{Bool, true, false, cond, not, _||_}
@@ -14,7 +14,8 @@ use lib.Ieee.{lt, eq}
 use Rattle.ieee.specs.Single.{zerof}
 use Rattle.words.specs.Answers.{Answer, given, refused, _then_}
 use Rattle.words.specs.LittleEndian.{bytesOf}
-use Rattle.words.proofs.AnswerLaws.{Only, only-given, only-refused, only-cond, only-then, only-number, refused-injective}
+use Rattle.words.proofs.AnswerLaws.{Only, only-given, only-refused, only-cond, only-then, only-number}
+use Rattle.words.proofs.AnswerLaws.{refused-injective}
 use Rattle.light_bounds.specs.LightBounds.{validate, coneCheck, finiteCone, rangeCheck, areCosines}
 use Rattle.light_bounds.specs.Vecmath.{normalizeByDivision, dividing, dot, vecLength}
 use Rattle.light_bounds.specs.declared.bounds.Bounds3.{Bounds3}
@@ -51,7 +52,8 @@ found P x y e h = subst (λ (z : LightBVHNode × LightBounds). P (z .0)) (Option
 linked-root : (p q i end : ℕ) (n : LightBVHNode) → p < end → Linked p i end n → Linked q i end n
 linked-root p q i end n low (next, up) = (next, inr (⊎-elim (λ e. rw e low) (λ l. l) up))
 
-linked : (at p : ℕ) (t : Tree) (i end : ℕ) (x : LightBVHNode × LightBounds) → nodeIn at p t i ≡ some x → at + (2 * leaves t - 1) ≤ end
+linked : (at p : ℕ) (t : Tree) (i end : ℕ) (x : LightBVHNode × LightBounds) → nodeIn at p t i ≡ some x
+    → at + (2 * leaves t - 1) ≤ end
     → Linked p i end (x .0)
 unfolding leaves
 linked at p (leaf h b) i end x e low =
@@ -80,7 +82,8 @@ of-validate r p =
     rw (proper-check (r .bounds) p)
     (only-cond (finiteCone r)
     (only-cond (eq (dot (r .direction) (r .direction)) zerof) (only-refused (inr (inl refl)))
-    (only-cond (lt (r .phi) zerof || not (areCosines (r .«cos_theta_o») (r .«cos_theta_e»))) (only-refused (inr (inr refl))) only-given))
+    (only-cond (lt (r .phi) zerof || not (areCosines (r .«cos_theta_o») (r .«cos_theta_e»)))
+    (only-refused (inr (inr refl))) only-given))
     (only-refused (inl refl)))
 
 of-direction : (v : Vec3) → Only OfRecord (normalizeByDivision v)
@@ -93,7 +96,8 @@ payload-passes : (n : LightBVHNode) → payload n ≤ indexMax → payloadCheck 
 unfolding payloadCheck
 payload-passes n l = rw (le-ltb indexMax (payload n) l)
 
-parent-passes : (count : ℕ) (n : LightBVHNode) → (parent n ≡ invalidIndex) ⊎ (parent n < count) → parentCheck count n ≡ given tt
+parent-passes : (count : ℕ) (n : LightBVHNode) → (parent n ≡ invalidIndex) ⊎ (parent n < count)
+    → parentCheck count n ≡ given tt
 unfolding parentCheck
 parent-passes count n (inl e) = rw (eq-eqb (parent n) invalidIndex e)
 parent-passes count n (inr l) = rw (lt-ltb (parent n) count l) (go (eqb (parent n) invalidIndex))
@@ -108,23 +112,27 @@ left-passes i end (leafNode h p) next = refl
 left-passes i end (interior l r p) next = rw (eq-eqb l (i + 1) (next .0))
 
 -- it is packed, or its record is refused
-node-packs : (count : ℕ) (all : Bounds3) (ws : List ℕ) (i : ℕ) (x : LightBVHNode × LightBounds) → Reads ws i x → Linked invalidIndex i count (x .0)
+node-packs : (count : ℕ) (all : Bounds3) (ws : List ℕ) (i : ℕ) (x : LightBVHNode × LightBounds) → Reads ws i x
+    → Linked invalidIndex i count (x .0)
     → payload (x .0) ≤ indexMax → Proper (x .1 .bounds) → Only OfRecord (packNode count all ws i)
 unfolding packNode _then_
 node-packs count all ws i x (node, record-is) (next, up) small proper =
     rw (node, record-is, payload-passes (x .0) small, parent-passes count (x .0) up, left-passes i count (x .0) next)
     (only-then (of-validate (x .1) proper) (λ _. only-then (of-direction (x .1 .direction)) (λ _. only-given)))
 
-nodes-pack : (count : ℕ) (all : Bounds3) (ws : List ℕ) (n : ℕ) → ((i : ℕ) → i < n → Only OfRecord (packNode count all ws i))
+nodes-pack : (count : ℕ) (all : Bounds3) (ws : List ℕ) (n : ℕ)
+    → ((i : ℕ) → i < n → Only OfRecord (packNode count all ws i))
     → Only OfRecord (packNodes count all ws n)
 unfolding packNodes
 nodes-pack count all ws zero each = only-given
 nodes-pack count all ws (suc n) each =
-    only-then (nodes-pack count all ws n (λ i l. each i (omega arith))) (λ _. only-then (each n (omega arith)) (λ _. only-given))
+    only-then (nodes-pack count all ws n (λ i l. each i (omega arith)))
+    (λ _. only-then (each n (omega arith)) (λ _. only-given))
 
 -- ---- of a build that was accepted
 
-module _ (lights : ℕ) (ws : List ℕ) (nodes table work : ℕ) (b : LightBVH) (accepted : buildLightBvh lights ws nodes table work ≡ given b) where
+module _ (lights : ℕ) (ws : List ℕ) (nodes table work : ℕ) (b : LightBVH)
+    (accepted : buildLightBvh lights ws nodes table work ≡ given b) where
   parts : Parts ws b
   parts = accepted-parts lights ws nodes table work b accepted
 
@@ -151,7 +159,8 @@ module _ (lights : ℕ) (ws : List ℕ) (nodes table work : ℕ) (b : LightBVH) 
           narrow (leafNode h p) e next = omega (arith, parts .few, leaf-powered ws b parts i h p e .0)
           narrow (interior l r p) e next = omega (arith, few, next .1)
 
-      tree-packs : Only OfRecord (agreed count (b .k) (some all) then λ (box : Option Bounds3). packedTree (nodesWritten b) count box)
+      tree-packs : Only OfRecord
+          (agreed count (b .k) (some all) then λ (box : Option Bounds3). packedTree (nodesWritten b) count box)
       unfolding packedTree _then_
       tree-packs =
           rw (agreed-valid count (b .k) all (λ e. omega (arith, lamps)) (λ e. omega (arith, lamps))
@@ -168,16 +177,19 @@ module _ (lights : ℕ) (ws : List ℕ) (nodes table work : ℕ) (b : LightBVH) 
       let dark = accepted-none ws b parts is in
       rw (sym box ∙ no-box dark, agreed-nothing count (b .k) (omega arith) dark) only-given
   behind (some t) is none box =
-      absurd (bounds-there ws (b .rows) (omega (arith, parts .powered, lamps t is)) (sym (accepted-box lights ws nodes table work b accepted) ∙ box))
+      absurd (bounds-there ws (b .rows) (omega (arith, parts .powered, lamps t is))
+      (sym (accepted-box lights ws nodes table work b accepted) ∙ box))
   behind (some t) is (some all) box = tree-packs t is all box
 
   module _ (room : ℕ) where
-    checked : packCheck (bytesOf (nodesWritten b)) room ≡ cond (ltb room (4 * packedReserve count)) (refused 3) (given count)
+    checked : packCheck (bytesOf (nodesWritten b)) room
+        ≡ cond (ltb room (4 * packedReserve count)) (refused 3) (given count)
     unfolding packCheck _then_
     checked = rw (nodes-counted ws b parts)
 
     -- by the room, or by a record
-    pub built-refusals : (n : ℕ) → packLightBvh (bytesOf (nodesWritten b)) (b .k) (b .all-bounds) room ≡ refused n → (n ≡ 3) ⊎ OfRecord n
+    pub built-refusals : (n : ℕ) → packLightBvh (bytesOf (nodesWritten b)) (b .k) (b .all-bounds) room ≡ refused n
+        → (n ≡ 3) ⊎ OfRecord n
     unfolding packLightBvh _then_
     built-refusals n e = go (ltb room (4 * packedReserve count)) (rw (checked, nodes-words ws b parts) at e)
       where
@@ -187,7 +199,8 @@ module _ (lights : ℕ) (ws : List ℕ) (nodes table work : ℕ) (b : LightBVH) 
         go false e = inr (only-number (behind (b .tree) refl (b .all-bounds) refl) e)
 
     -- the nodes agree with k, with the box and with their own places
-    pub built-agrees : (n : ℕ) → packLightBvh (bytesOf (nodesWritten b)) (b .k) (b .all-bounds) room ≡ refused n → (n ≡ 12 → ⊥) × (n ≡ 13 → ⊥)
+    pub built-agrees : (n : ℕ) → packLightBvh (bytesOf (nodesWritten b)) (b .k) (b .all-bounds) room ≡ refused n
+        → (n ≡ 12 → ⊥) × (n ≡ 13 → ⊥)
     built-agrees n e = go (built-refusals n e)
       where
         go : (n ≡ 3) ⊎ OfRecord n → (n ≡ 12 → ⊥) × (n ≡ 13 → ⊥)

@@ -1,6 +1,6 @@
--- The overall box of an accepted build is proper, finite with its minimum at most its maximum, and so is the box of every node, which it holds
--- (`overall-proper`, `node-within`). Boxes that pass their checks are proper (`check-proper`, `proper-check`), and so is the union of two, which holds both.
--- Assumes nothing.
+-- The overall box of an accepted build is proper, finite with its minimum at most its maximum, and so is the box of
+-- every node, which it holds (`overall-proper`, `node-within`). Boxes that pass their checks are proper
+-- (`check-proper`, `proper-check`), and so is the union of two, which holds both. Assumes nothing.
 use Prim.Native.Nat.{ℕ, zero, suc, _+_, _-_, _*_, _/_, _<_}
 use mathlib.Core.Path.{_≡_, refl, ap, sym, subst, _∙_}
 use mathlib.Core.Bool.{Bool, true, false, cond, not, _&&_, _||_}
@@ -30,7 +30,8 @@ use Rattle.light_rows.specs.Nodes.{LightBVHNode, leaf as leafNode, interior, in
 use Rattle.light_rows.specs.Tree.{Tree, leaf, fork, bounds, rightPlace}
 use Rattle.light_rows.specs.TreeLaws.{boundsAt-past}
 use Rattle.light_split.specs.Lights.{lightOf}
-use Rattle.light_bvh.specs.Build.{isPowered, boundedHandles, grown, allBounds, validated, LightBVH, treeOf, builtBvh, buildCheck, buildLightBvh, nodesWritten}
+use Rattle.light_bvh.specs.Build.{isPowered, boundedHandles, grown, allBounds, validated, LightBVH, treeOf, builtBvh}
+use Rattle.light_bvh.specs.Build.{buildCheck, buildLightBvh, nodesWritten}
 use Rattle.light_bvh.specs.Subtree.{buildSubtree}
 use Rattle.light_bvh.proofs.RowsLaws.{all-halves, bounds-there}
 use Rattle.words.proofs.ListLaws.{All, all-map, all-append, none-all}
@@ -103,12 +104,24 @@ union-holds a b p q =
 union-held : (o a b : Bounds3) → Holds o a → Holds o b → Holds o (boxUnion a b)
 unfolding boxUnion leastOf greatestOf
 union-held o a b h k = record {
-  min-x = either (λ (z : Float). T (le (o .min .x) z)) (a .min .x) (b .min .x) _ (fmin-is (a .min .x) (b .min .x)) (h .min-x) (k .min-x);
-  min-y = either (λ (z : Float). T (le (o .min .y) z)) (a .min .y) (b .min .y) _ (fmin-is (a .min .y) (b .min .y)) (h .min-y) (k .min-y);
-  min-z = either (λ (z : Float). T (le (o .min .z) z)) (a .min .z) (b .min .z) _ (fmin-is (a .min .z) (b .min .z)) (h .min-z) (k .min-z);
-  max-x = either (λ (z : Float). T (le z (o .max .x))) (a .max .x) (b .max .x) _ (fmax-is (a .max .x) (b .max .x)) (h .max-x) (k .max-x);
-  max-y = either (λ (z : Float). T (le z (o .max .y))) (a .max .y) (b .max .y) _ (fmax-is (a .max .y) (b .max .y)) (h .max-y) (k .max-y);
-  max-z = either (λ (z : Float). T (le z (o .max .z))) (a .max .z) (b .max .z) _ (fmax-is (a .max .z) (b .max .z)) (h .max-z) (k .max-z);
+  min-x =
+      either (λ (z : Float). T (le (o .min .x) z)) (a .min .x) (b .min .x) _ (fmin-is (a .min .x) (b .min .x))
+      (h .min-x) (k .min-x);
+  min-y =
+      either (λ (z : Float). T (le (o .min .y) z)) (a .min .y) (b .min .y) _ (fmin-is (a .min .y) (b .min .y))
+      (h .min-y) (k .min-y);
+  min-z =
+      either (λ (z : Float). T (le (o .min .z) z)) (a .min .z) (b .min .z) _ (fmin-is (a .min .z) (b .min .z))
+      (h .min-z) (k .min-z);
+  max-x =
+      either (λ (z : Float). T (le z (o .max .x))) (a .max .x) (b .max .x) _ (fmax-is (a .max .x) (b .max .x))
+      (h .max-x) (k .max-x);
+  max-y =
+      either (λ (z : Float). T (le z (o .max .y))) (a .max .y) (b .max .y) _ (fmax-is (a .max .y) (b .max .y))
+      (h .max-y) (k .max-y);
+  max-z =
+      either (λ (z : Float). T (le z (o .max .z))) (a .max .z) (b .max .z) _ (fmax-is (a .max .z) (b .max .z))
+      (h .max-z) (k .max-z);
 }
 
 holds-trans : (a b c : Bounds3) → Holds a b → Holds b c → Holds a c
@@ -146,15 +159,23 @@ check-proper b e =
     let (whole, upright) = go (finiteBox b) (inverted b) e in
     let low = and-l (finiteVec (b .min)) (finiteVec (b .max)) whole in
     let high = and-r (finiteVec (b .min)) (finiteVec (b .max)) whole in
-    let (nx, rest) = not-or (lt (b .max .x) (b .min .x)) (lt (b .max .y) (b .min .y) || lt (b .max .z) (b .min .z)) upright in
+    let (nx, rest) =
+    not-or (lt (b .max .x) (b .min .x)) (lt (b .max .y) (b .min .y) || lt (b .max .z) (b .min .z)) upright in
     let (ny, nz) = not-or (lt (b .max .y) (b .min .y)) (lt (b .max .z) (b .min .z)) rest in
     record {
-      along-x = axis-of (b .min .x) (b .max .x) (first (b .min .x) (b .min .y) (b .min .z) low) (first (b .max .x) (b .max .y) (b .max .z) high) nx;
-      along-y = axis-of (b .min .y) (b .max .y) (second (b .min .x) (b .min .y) (b .min .z) low) (second (b .max .x) (b .max .y) (b .max .z) high) ny;
-      along-z = axis-of (b .min .z) (b .max .z) (third (b .min .x) (b .min .y) (b .min .z) low) (third (b .max .x) (b .max .y) (b .max .z) high) nz;
+      along-x =
+          axis-of (b .min .x) (b .max .x) (first (b .min .x) (b .min .y) (b .min .z) low)
+          (first (b .max .x) (b .max .y) (b .max .z) high) nx;
+      along-y =
+          axis-of (b .min .y) (b .max .y) (second (b .min .x) (b .min .y) (b .min .z) low)
+          (second (b .max .x) (b .max .y) (b .max .z) high) ny;
+      along-z =
+          axis-of (b .min .z) (b .max .z) (third (b .min .x) (b .min .y) (b .min .z) low)
+          (third (b .max .x) (b .max .y) (b .max .z) high) nz;
     }
   where
-    go : (f i : Bool) → _≡_ {A = Answer (Unit {0})} (cond f (cond i (refused 6) (given tt)) (refused 5)) (given tt) → T f × T (not i)
+    go : (f i : Bool) → _≡_ {A = Answer (Unit {0})} (cond f (cond i (refused 6) (given tt)) (refused 5)) (given tt)
+        → T f × T (not i)
     go true true e = absurd (not-both e refl)
     go true false e = (tt, tt)
     go false i e = absurd (not-both e refl)
@@ -207,15 +228,18 @@ Around ws all h = Fit all (lightOf ws h .bounds)
 abbrev Covers : List ℕ → Bounds3 → List ℕ → Type 0
 Covers ws all hs = Proper all × All (Around ws all) hs
 
-rows-covered : (ws : List ℕ) (m : ℕ) → validated ws m ≡ given tt → (all : Bounds3) → allBounds ws m ≡ some all → Covers ws all (boundedHandles ws m)
+rows-covered : (ws : List ℕ) (m : ℕ) → validated ws m ≡ given tt → (all : Bounds3) → allBounds ws m ≡ some all
+    → Covers ws all (boundedHandles ws m)
 unfolding validated allBounds boundedHandles grown
 rows-covered ws zero e all is = absurd (Option·none-ne-some all is)
 rows-covered ws (suc n) e all is =
     let (_, before, last) = then-given (validated ws n) (λ _. validate (lightOf ws n)) tt e in
     go (validate-proper (lightOf ws n) last) (rows-covered ws n before) (isPowered ws n) (allBounds ws n) refl is
   where
-    go : Proper (lightOf ws n .bounds) → ((a : Bounds3) → allBounds ws n ≡ some a → Covers ws a (boundedHandles ws n)) → (c : Bool) (o : Option Bounds3)
-        → allBounds ws n ≡ o → cond c (grown o (lightOf ws n .bounds)) o ≡ some all → Covers ws all (boundedHandles ws n ++ cond c (n ∷ []) [])
+    go : Proper (lightOf ws n .bounds) → ((a : Bounds3) → allBounds ws n ≡ some a → Covers ws a (boundedHandles ws n))
+        → (c : Bool) (o : Option Bounds3)
+        → allBounds ws n ≡ o → cond c (grown o (lightOf ws n .bounds)) o ≡ some all
+        → Covers ws all (boundedHandles ws n ++ cond c (n ∷ []) [])
     go own ih true none h is =
         let same : lightOf ws n .bounds ≡ all = Option·some-injective (lightOf ws n .bounds) all is in
         subst (λ (z : Bounds3). Covers ws z (boundedHandles ws n ++ n ∷ [])) same (
@@ -259,7 +283,8 @@ join-fit all a b h k = go (eq (a .phi) zerof) (eq (b .phi) zerof)
       proper = proper-union (a .bounds) (b .bounds) (h .proper) (k .proper);
     }
 
-built-within : (ws : List ℕ) (all : Bounds3) (n : ℕ) (hs : List ℕ) (t : Tree) → buildSubtree ws n hs ≡ given t → All (Around ws all) hs → Within all t
+built-within : (ws : List ℕ) (all : Bounds3) (n : ℕ) (hs : List ℕ) (t : Tree) → buildSubtree ws n hs ≡ given t
+    → All (Around ws all) hs → Within all t
 built-within ws all n hs t e =
     built-holds ws (λ (hs : List ℕ) (t : Tree). All (Around ws all) hs → Within all t)
     (λ h each. each .0)
@@ -270,28 +295,34 @@ built-within ws all n hs t e =
     let is = union-given (bounds l) (bounds r) b e .2 in
     (rw is (join-fit all (bounds l) (bounds r) (root-within all l left) (root-within all r right)), left, right)) n hs t e
 
-place-within : (all : Bounds3) (at p : ℕ) (t : Tree) (i : ℕ) (x : LightBVHNode × LightBounds) → Within all t → nodeIn at p t i ≡ some x
+place-within : (all : Bounds3) (at p : ℕ) (t : Tree) (i : ℕ) (x : LightBVHNode × LightBounds) → Within all t
+    → nodeIn at p t i ≡ some x
     → Fit all (x .1 .bounds)
 place-within all at p (leaf h b) i x w e =
-    subst (λ (z : LightBVHNode × LightBounds). Fit all (z .1 .bounds)) (Option·some-injective (leafNode h p, b) x (nodeIn-leaf at p h b i x e .1)) w
+    subst (λ (z : LightBVHNode × LightBounds). Fit all (z .1 .bounds))
+    (Option·some-injective (leafNode h p, b) x (nodeIn-leaf at p h b i x e .1)) w
 place-within all at p (fork b l r) i x w e =
     ⊎-elim
     (λ here. subst (λ (z : LightBVHNode × LightBounds). Fit all (z .1 .bounds))
     (Option·some-injective (interior (at + 1) (rightPlace at l) p, b) x (here .1)) (w .0))
-    (λ under. ⊎-elim (place-within all (at + 1) at l i x (w .1)) (place-within all (rightPlace at l) at r i x (w .2)) under)
+    (λ under. ⊎-elim (place-within all (at + 1) at l i x (w .1))
+    (place-within all (rightPlace at l) at r i x (w .2)) under)
     (nodeIn-fork at p b l r i x e)
 
 -- ---- of a build that was accepted
 
 -- a record that is read is a node's
-pub record-low : (ws : List ℕ) (b : LightBVH) → Parts ws b → (i : ℕ) (r : LightBounds) → boundsAt (nodesWritten b) i ≡ given r → i < 2 * b .k - 1
+pub record-low : (ws : List ℕ) (b : LightBVH) → Parts ws b → (i : ℕ) (r : LightBounds)
+    → boundsAt (nodesWritten b) i ≡ given r → i < 2 * b .k - 1
 record-low ws b parts i r e = go (ltb i (length (nodesWritten b) / nodeWords)) refl
   where
     go : (c : Bool) → ltb i (length (nodesWritten b) / nodeWords) ≡ c → i < 2 * b .k - 1
     go true f = omega (arith, ltb-true i (length (nodesWritten b) / nodeWords) f, node-words ws b parts)
-    go false f = absurd (not-both e (boundsAt-past (nodesWritten b) i (ltb-false i (length (nodesWritten b) / nodeWords) f)))
+    go false f =
+        absurd (not-both e (boundsAt-past (nodesWritten b) i (ltb-false i (length (nodesWritten b) / nodeWords) f)))
 
-module _ (lights : ℕ) (ws : List ℕ) (nodes table work : ℕ) (b : LightBVH) (accepted : buildLightBvh lights ws nodes table work ≡ given b) where
+module _ (lights : ℕ) (ws : List ℕ) (nodes table work : ℕ) (b : LightBVH)
+    (accepted : buildLightBvh lights ws nodes table work ≡ given b) where
   parts : Parts ws b
   parts = accepted-parts lights ws nodes table work b accepted
 
@@ -299,12 +330,15 @@ module _ (lights : ℕ) (ws : List ℕ) (nodes table work : ℕ) (b : LightBVH) 
   pub accepted-box : b .all-bounds ≡ allBounds ws (b .rows)
   unfolding buildLightBvh builtBvh
   accepted-box =
-      let (m, _, e₁) = then-given (buildCheck lights ws nodes table work) (λ (m : ℕ). validated ws m then λ _. builtBvh ws m) b accepted in
+      let (m, _, e₁) =
+      then-given (buildCheck lights ws nodes table work)
+      (λ (m : ℕ). validated ws m then λ _. builtBvh ws m) b accepted in
       let (_, _, e₂) = then-given (validated ws m) (λ _. builtBvh ws m) b e₁ in
       let (t, _, e₃) =
       then-given (treeOf ws (boundedHandles ws m))
       (λ (t : Option Tree). given (record { rows = m; k = length (boundedHandles ws m); all-bounds = allBounds ws m; tree = t })) b e₂ in
-      let made : LightBVH = record { rows = m; k = length (boundedHandles ws m); all-bounds = allBounds ws m; tree = t } in
+      let made : LightBVH =
+      record { rows = m; k = length (boundedHandles ws m); all-bounds = allBounds ws m; tree = t } in
       subst (λ (b : LightBVH). b .all-bounds ≡ allBounds ws (b .rows)) {x = made} (given-injective {a = made} e₃) refl
 
   module _ (all : Bounds3) (is : b .all-bounds ≡ some all) where

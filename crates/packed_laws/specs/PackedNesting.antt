@@ -1,5 +1,6 @@
--- Packed boxes nest as boxes do: where one box holds another, both within the overall box, its steps hold the other's (`steps-nest`). So in the packed words of
--- an accepted build the box of an interior node, in steps, holds those of its children (`packed-nests`). Assumes nothing.
+-- Packed boxes nest as boxes do: where one box holds another, both within the overall box, its steps hold the other's
+-- (`steps-nest`). So in the packed words of an accepted build the box of an interior node, in steps, holds those of its
+-- children (`packed-nests`). Assumes nothing.
 use Prim.Native.Nat.{ℕ, _/_, _≤_, _<_}
 use mathlib.Core.Path.{_≡_}
 use mathlib.Core.Bool.{true, false}
@@ -30,14 +31,21 @@ use Rattle.packed_laws.specs.StepsOrder.{quantize-mono}
 -- ---- boxes
 
 -- of c and d within a and b within lo and hi
-module _ (lo hi a b c d : Float) (all : Axis lo hi) (low : T (le lo a)) (high : T (le b hi)) (min : T (le a c)) (max : T (le d b)) (inner : Axis c d) where
+module _ (lo hi a b c d : Float) (all : Axis lo hi) (low : T (le lo a)) (high : T (le b hi)) (min : T (le a c))
+    (max : T (le d b)) (inner : Axis c d) where
   min-steps : quantizeBounds false a lo hi ≤ quantizeBounds false c lo hi
   min-steps =
-      quantize-mono false a c lo hi (all .low) (all .high) low min (le-trans c d hi (inner .order) (le-trans d b hi max high))
+      quantize-mono false a c lo hi (all .low) (all .high) low min
+      (le-trans c d hi (inner .order) (le-trans d b hi max high))
 
   max-steps : quantizeBounds true d lo hi ≤ quantizeBounds true b lo hi
   max-steps =
-      quantize-mono true d b lo hi (all .low) (all .high) (le-trans lo c d (le-trans lo a c low min) (inner .order)) max high
+      quantize-mono true d b lo hi (all .low) (all .high)
+      (le-trans lo c d (le-trans lo a c low min) (inner .order)) max high
+
+  axis : (quantizeBounds false a lo hi ≤ quantizeBounds false c lo hi)
+      × (quantizeBounds true d lo hi ≤ quantizeBounds true b lo hi)
+  axis = (min-steps, max-steps)
 
 pub steps-nest : (all outer inner : Bounds3) → Proper all → Holds all outer → Holds outer inner → Proper inner
     → StepHolds (boxSteps all outer) (boxSteps all inner)
@@ -49,19 +57,30 @@ steps-nest all o i p h k q =
     let b = o .max in
     let c = i .min in
     let d = i .max in
+    let along-x =
+    axis (lo .x) (hi .x) (a .x) (b .x) (c .x) (d .x) (p .along-x) (h .min-x) (h .max-x) (k .min-x) (k .max-x)
+    (q .along-x) in
+    let along-y =
+    axis (lo .y) (hi .y) (a .y) (b .y) (c .y) (d .y) (p .along-y) (h .min-y) (h .max-y) (k .min-y) (k .max-y)
+    (q .along-y) in
+    let along-z =
+    axis (lo .z) (hi .z) (a .z) (b .z) (c .z) (d .z) (p .along-z) (h .min-z) (h .max-z) (k .min-z) (k .max-z)
+    (q .along-z) in
     record {
-      min-x = min-steps (lo .x) (hi .x) (a .x) (b .x) (c .x) (d .x) (p .along-x) (h .min-x) (h .max-x) (k .min-x) (k .max-x) (q .along-x);
-      min-y = min-steps (lo .y) (hi .y) (a .y) (b .y) (c .y) (d .y) (p .along-y) (h .min-y) (h .max-y) (k .min-y) (k .max-y) (q .along-y);
-      min-z = min-steps (lo .z) (hi .z) (a .z) (b .z) (c .z) (d .z) (p .along-z) (h .min-z) (h .max-z) (k .min-z) (k .max-z) (q .along-z);
-      max-x = max-steps (lo .x) (hi .x) (a .x) (b .x) (c .x) (d .x) (p .along-x) (h .min-x) (h .max-x) (k .min-x) (k .max-x) (q .along-x);
-      max-y = max-steps (lo .y) (hi .y) (a .y) (b .y) (c .y) (d .y) (p .along-y) (h .min-y) (h .max-y) (k .min-y) (k .max-y) (q .along-y);
-      max-z = max-steps (lo .z) (hi .z) (a .z) (b .z) (c .z) (d .z) (p .along-z) (h .min-z) (h .max-z) (k .min-z) (k .max-z) (q .along-z);
+      min-x = along-x .0;
+      min-y = along-y .0;
+      min-z = along-z .0;
+      max-x = along-x .1;
+      max-y = along-y .1;
+      max-z = along-z .1;
     }
 
 -- ---- the packed words of a build that was accepted
 
-module _ (lights : ℕ) (ws : List ℕ) (nodes table work : ℕ) (b : LightBVH) (accepted : buildLightBvh lights ws nodes table work ≡ given b)
-    (room : ℕ) (words : List ℕ) (packed : packLightBvh (bytesOf (nodesWritten b)) (b .k) (b .all-bounds) room ≡ given (some words)) where
+module _ (lights : ℕ) (ws : List ℕ) (nodes table work : ℕ) (b : LightBVH)
+    (accepted : buildLightBvh lights ws nodes table work ≡ given b)
+    (room : ℕ) (words : List ℕ) (packed : packLightBvh (bytesOf (nodesWritten b)) (b .k) (b .all-bounds) room ≡ given
+    (some words)) where
   parts : Parts ws b
   parts = accepted-parts lights ws nodes table work b accepted
 
@@ -74,7 +93,8 @@ module _ (lights : ℕ) (ws : List ℕ) (nodes table work : ℕ) (b : LightBVH) 
     reread = rw (nodes-words ws b parts) e
 
     record-box : (all : Bounds3) → b .all-bounds ≡ some all → boxAt words i ≡ boxSteps all (r .bounds)
-    record-box all is = packed-box (bytesOf (nodesWritten b)) (b .k) (b .all-bounds) room words packed all is i place r reread
+    record-box all is =
+        packed-box (bytesOf (nodesWritten b)) (b .k) (b .all-bounds) room words packed all is i place r reread
 
   -- the box of an interior node holds its children's
   pub packed-nests : (i l r p : ℕ) → nodeAt (nodesWritten b) i ≡ given (interior l r p)
@@ -91,6 +111,8 @@ module _ (lights : ℕ) (ws : List ℕ) (nodes table work : ℕ) (b : LightBVH) 
         record-box l (held .left) (held .left-is) all is,
         record-box r (held .right) (held .right-is) all is,
       ) (
-        steps-nest all box (held .left .bounds) whole outer (held .holds-left) (within l (held .left) (held .left-is) .proper),
-        steps-nest all box (held .right .bounds) whole outer (held .holds-right) (within r (held .right) (held .right-is) .proper),
+        steps-nest all box (held .left .bounds) whole outer (held .holds-left)
+            (within l (held .left) (held .left-is) .proper),
+        steps-nest all box (held .right .bounds) whole outer (held .holds-right)
+            (within r (held .right) (held .right-is) .proper),
       )

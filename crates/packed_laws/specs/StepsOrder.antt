@@ -1,6 +1,7 @@
--- Packed coordinates keep the order: of two values within the overall box's axis, the greater one has a step that is no smaller, whichever way both are rounded
--- (`quantize-mono`). Every part of the computation keeps it: the difference, the quotient, the clamp, the product, the next whole number. The computed steps
--- are known where the difference of the axis's ends is finite (`steps-known`); where it is not, all are 0 (`wide-steps`). Assumes nothing.
+-- Packed coordinates keep the order: of two values within the overall box's axis, the greater one has a step that is no
+-- smaller, whichever way both are rounded (`quantize-mono`). Every part of the computation keeps it: the difference,
+-- the quotient, the clamp, the product, the next whole number. The computed steps are known where the difference of the
+-- axis's ends is finite (`steps-known`); where it is not, all are 0 (`wide-steps`). Assumes nothing.
 use Prim.Native.Nat.{ℕ, suc, _+_, _*_, _≤_, _<_, zero-le}
 use mathlib.Core.Path.{_≡_, refl, _∙_}
 use mathlib.Core.Bool.{Bool, true, false, cond, not}
@@ -10,14 +11,16 @@ use native.Mathlib.Omega.{arith}
 use borrow.Author.Tests.{eq-eqb}
 use lib.Dec.{T, eqb→eq, lt→ltb}
 use lib.IntN.{ℤ, pos}
-use lib.Ieee.{Float, nan, inf, fin, binary32, unlike, low, up, down, size, span, climb, odd, units, round, mul, div, lt, le, eq, isNan}
+use lib.Ieee.{Float, nan, inf, fin, binary32, unlike, low, up, down, size, span, climb, odd, units, round, mul, div, lt}
+use lib.Ieee.{le, eq, isNan}
 use lib.Ieee.{fits, ofBits, toUnsigned}
 use lib.Ieee.Fits.{down-pos, up-pos}
 use lib.Ieee.Scale.{finite}
 use Rattle.ieee.specs.Choose.{clamp, fmin, fmax}
 use Rattle.ieee.specs.ChooseOrder.{fmin-mono, fmax-mono}
 use Rattle.ieee.specs.OperationOrder.{div-mono, mul-mono, positive→lt}
-use Rattle.ieee.specs.OrderLaws.{gain, loss, nonneg, le-fin, le-left, le-right, le-refl, le-trans, nonneg-known, nonneg-up, finite-below}
+use Rattle.ieee.specs.OrderLaws.{gain, loss, nonneg, le-fin, le-left, le-right, le-refl, le-trans, nonneg-known}
+use Rattle.ieee.specs.OrderLaws.{nonneg-up, finite-below}
 use Rattle.ieee.specs.Single.{_⊖_, _⊗_, _⊘_, zerof, onef}
 use Rattle.ieee.specs.Whole.{outward, nextWhole, negative, floor, ceil, toU32}
 use Rattle.ieee.specs.WholeNumbers.{outward-small, outward-under, outward-over}
@@ -50,13 +53,16 @@ clamp-is x h =
 clamp-mono : (x y : Float) → T (le x y) → T (le (clamp x zerof onef) (clamp y zerof onef))
 clamp-mono x y h =
     rw (clamp-is x (le-left x y h), clamp-is y (le-right x y h))
-    (fmin-mono (fmax x zerof) (fmax y zerof) onef (unfold isNan ofBits in tt) (fmax-mono x y zerof (unfold isNan ofBits in tt) h))
+    (fmin-mono (fmax x zerof) (fmax y zerof) onef (unfold isNan ofBits in tt)
+    (fmax-mono x y zerof (unfold isNan ofBits in tt) h))
 
 -- ---- the next whole number
 
-outward-mono : (away : Bool) (m : ℕ) (e : ℤ) (n : ℕ) (d : ℤ) → m * up e * down d ≤ n * up d * down e → outward away m e ≤ outward away n d
+outward-mono : (away : Bool) (m : ℕ) (e : ℤ) (n : ℕ) (d : ℤ) → m * up e * down d ≤ n * up d * down e
+    → outward away m e ≤ outward away n d
 outward-mono false m e n d h =
-    steps (outward false m e) (outward false n d) (m * up e) (n * up d) (down e) (down d) (down-pos e) (down-pos d) (outward-under m e .at-most)
+    steps (outward false m e) (outward false n d) (m * up e) (n * up d) (down e) (down d) (down-pos e) (down-pos d)
+    (outward-under m e .at-most)
     (outward-under n d .greatest) h
   where
     steps : (q r a b x y : ℕ) → 0 < x → 0 < y → q * x ≤ a → b < suc r * y → a * y ≤ b * x → q ≤ r
@@ -67,7 +73,8 @@ outward-mono false m e n d h =
         let s : q < suc r = lt-of-mul-lt-mul-right (x * y) t in
         omega arith
 outward-mono true m e n d h =
-    steps (outward true m e) (outward true n d) (m * up e) (n * up d) (down e) (down d) (down-pos e) (down-pos d) (outward-over m e .least)
+    steps (outward true m e) (outward true n d) (m * up e) (n * up d) (down e) (down d) (down-pos e) (down-pos d)
+    (outward-over m e .least)
     (outward-over n d .at-least) h
   where
     steps : (q r a b x y : ℕ) → 0 < x → 0 < y → q * x < a + x → b ≤ r * y → a * y ≤ b * x → q ≤ r
@@ -86,7 +93,8 @@ stepsAt x = clamp x zerof onef ⊗ lastStep
 unfoldable stepAt : Bool → Float → ℕ
 stepAt to x = toU32 (cond to (ceil binary32 (stepsAt x)) (floor binary32 (stepsAt x)))
 
-quantize-is : (to : Bool) (v lo hi : Float) → quantizeBounds to v lo hi ≡ cond (eq lo hi) 0 (stepAt to ((v ⊖ lo) ⊘ (hi ⊖ lo)))
+quantize-is : (to : Bool) (v lo hi : Float)
+    → quantizeBounds to v lo hi ≡ cond (eq lo hi) 0 (stepAt to ((v ⊖ lo) ⊘ (hi ⊖ lo)))
 unfolding quantizeBounds stepsOf stepAt
 quantize-is to v lo hi = refl
 
@@ -104,7 +112,8 @@ step-zero false false = refl
 
 -- it is the whole number next to the steps, by their sign
 next-mono : (away : Bool → Bool) (x y : Float) → Steps x → Steps y → T (le x y)
-    → toUnsigned 32 (nextWhole binary32 (away (negative x)) x) ≤ toUnsigned 32 (nextWhole binary32 (away (negative y)) y)
+    → toUnsigned 32 (nextWhole binary32 (away (negative x)) x) ≤ toUnsigned 32
+    (nextWhole binary32 (away (negative y)) y)
 next-mono away nan y s t h = absurd (s .low)
 next-mono away (inf true) y s t h = absurd (s .low)
 next-mono away (inf false) y s t h = absurd (unfold le lt eq in s .high)
@@ -119,7 +128,8 @@ next-mono away (fin false m e) (fin true n d) s t h =
     rw (cast-next (away false) m e s .0, cast-zero (away true) n d t) (outward-small (away false) m e 0 (omega arith))
 next-mono away (fin false m e) (fin false n d) s t h =
     let l = le-fin false m e false n d .0 h in
-    rw (cast-next (away false) m e s .0, cast-next (away false) n d t .0) (outward-mono (away false) m e n d (omega arith))
+    rw (cast-next (away false) m e s .0, cast-next (away false) n d t .0)
+    (outward-mono (away false) m e n d (omega arith))
 
 portion : (x y : Float) → T (le x y) → Portion (clamp x zerof onef) × Portion (clamp y zerof onef)
 portion x y h =
@@ -133,8 +143,10 @@ steps-mono : (x y : Float) → T (le x y) → T (le (stepsAt x) (stepsAt y))
 unfolding ofBits
 steps-mono x y h =
     let (p, q) = portion x y h in
-    mul-mono binary32 (clamp x zerof onef) (clamp y zerof onef) lastStep lastStep (p .0) tt (clamp-mono x y h) (le-refl lastStep (unfold isNan in tt))
-    (nonneg-known (stepsAt x) (steps-of (clamp x zerof onef) p .low)) (nonneg-known (stepsAt y) (steps-of (clamp y zerof onef) q .low))
+    mul-mono binary32 (clamp x zerof onef) (clamp y zerof onef) lastStep lastStep (p .0) tt (clamp-mono x y h)
+    (le-refl lastStep (unfold isNan in tt))
+    (nonneg-known (stepsAt x) (steps-of (clamp x zerof onef) p .low))
+    (nonneg-known (stepsAt y) (steps-of (clamp y zerof onef) q .low))
 
 step-mono : (to : Bool) (x y : Float) → T (le x y) → stepAt to x ≤ stepAt to y
 unfolding stepAt toU32 ceil floor
@@ -149,14 +161,17 @@ step-mono to x y h =
 -- ---- the quotient
 
 -- what is not below zero and at most a zero is one
-zero-below : (s : Bool) (m : ℕ) (e : ℤ) (t : Bool) (d : ℤ) → T (nonneg (fin s m e)) → T (le (fin s m e) (fin t 0 d)) → m ≡ 0
+zero-below : (s : Bool) (m : ℕ) (e : ℤ) (t : Bool) (d : ℤ) → T (nonneg (fin s m e)) → T (le (fin s m e) (fin t 0 d))
+    → m ≡ 0
 zero-below true m e t d p h = eqb→eq m 0 p
 zero-below false m e t d p h = go t (le-fin false m e t 0 d .0 h)
   where
     none : m * up e * down d ≤ 0 → m ≡ 0
     none l = elim (eq-zero-or-pos m) [ inl z ↦ z | inr q ↦ absurd (omega (arith, mul-pos (mul-pos q (up-pos e)) (down-pos d))) ]
 
-    go : (t : Bool) → gain false (m * up e) * down d + loss t (0 * up d) * down e ≤ gain t (0 * up d) * down e + loss false (m * up e) * down d → m ≡ 0
+    go : (t : Bool)
+        → gain false (m * up e) * down d + loss t (0 * up d) * down e ≤ gain t (0 * up d) * down e + loss false
+        (m * up e) * down d → m ≡ 0
     go true l = none (omega arith)
     go false l = none (omega arith)
 
@@ -167,7 +182,8 @@ over-infinity to nan p = absurd p
 over-infinity to (inf s) p = step-nan to
 over-infinity to (fin s m e) p = step-zero to (unlike s false)
 
-over-zero : (to : Bool) (a : Float) (t : Bool) (n : ℕ) (d : ℤ) → T (nonneg a) → T (le a (fin t n d)) → n ≡ 0 → stepAt to (a ⊘ fin t n d) ≡ 0
+over-zero : (to : Bool) (a : Float) (t : Bool) (n : ℕ) (d : ℤ) → T (nonneg a) → T (le a (fin t n d)) → n ≡ 0
+    → stepAt to (a ⊘ fin t n d) ≡ 0
 unfolding div le lt eq
 over-zero to nan t n d p h e = absurd p
 over-zero to (inf true) t n d p h e = absurd p
@@ -176,7 +192,8 @@ over-zero to (fin s m c) t n d p h e =
     let none : m ≡ 0 = zero-below s m c t d p (rw e at h) in
     rw (eq-eqb n 0 e, eq-eqb m 0 none) (step-nan to)
 
-quotient-mono : (to : Bool) (a b d : Float) → T (nonneg a) → T (le a b) → T (le b d) → stepAt to (a ⊘ d) ≤ stepAt to (b ⊘ d)
+quotient-mono : (to : Bool) (a b d : Float) → T (nonneg a) → T (le a b) → T (le b d)
+    → stepAt to (a ⊘ d) ≤ stepAt to (b ⊘ d)
 unfolding isNan
 quotient-mono to a b nan p h k = absurd (le-right b nan k)
 quotient-mono to a b (inf true) p h k = absurd (nonneg-up a (inf true) p (le-trans a b (inf true) h k))
@@ -185,15 +202,18 @@ quotient-mono to a b (fin t n d) p h k = go t k (eq-zero-or-pos n)
   where
     go : (t : Bool) → T (le b (fin t n d)) → (n ≡ 0) ⊎ (0 < n) → stepAt to (a ⊘ fin t n d) ≤ stepAt to (b ⊘ fin t n d)
     go t k (inl e) = rw (over-zero to a t n d p (le-trans a b (fin t n d) h k) e) zero-le
-    go true k (inr l) = absurd (omega (arith, eqb→eq n 0 (nonneg-up a (fin true n d) p (le-trans a b (fin true n d) h k))))
+    go true k (inr l) =
+        absurd (omega (arith, eqb→eq n 0 (nonneg-up a (fin true n d) p (le-trans a b (fin true n d) h k))))
     go false k (inr l) =
         step-mono to (a ⊘ fin false n d) (b ⊘ fin false n d)
-        (div-mono binary32 a b (fin false n d) p (finite-below b (fin false n d) (nonneg-up a b p h) k tt) tt (positive→lt (fin false n d) (lt→ltb 0 n l)) h)
+        (div-mono binary32 a b (fin false n d) p (finite-below b (fin false n d) (nonneg-up a b p h) k tt) tt
+        (positive→lt (fin false n d) (lt→ltb 0 n l)) h)
 
 -- ---- the coordinates
 
 -- of values v and w from lo to hi
-pub quantize-mono : (to : Bool) (v w lo hi : Float) → T (finite lo) → T (finite hi) → T (le lo v) → T (le v w) → T (le w hi)
+pub quantize-mono : (to : Bool) (v w lo hi : Float) → T (finite lo) → T (finite hi) → T (le lo v) → T (le v w)
+    → T (le w hi)
     → quantizeBounds to v lo hi ≤ quantizeBounds to w lo hi
 quantize-mono to v w lo hi a b low h high = rw (quantize-is to v lo hi, quantize-is to w lo hi) (go (eq lo hi))
   where
@@ -218,7 +238,8 @@ quantize-mono to v w lo hi a b low h high = rw (quantize-is to v lo hi, quantize
 -- ---- where the steps are known
 
 -- of a value from lo to hi, where the difference of the ends is finite and not 0
-pub steps-known : (v lo hi : Float) → T (fits binary32 lo) → T (fits binary32 hi) → T (finite lo) → T (finite hi) → T (lt lo hi) → T (finite (hi ⊖ lo))
+pub steps-known : (v lo hi : Float) → T (fits binary32 lo) → T (fits binary32 hi) → T (finite lo) → T (finite hi)
+    → T (lt lo hi) → T (finite (hi ⊖ lo))
     → T (le lo v) → T (le v hi) → T (not (isNan (stepsOf v lo hi)))
 unfolding stepsOf
 steps-known v lo hi F G a b h narrow low high =
@@ -232,7 +253,8 @@ steps-known v lo hi F G a b h narrow low high =
     nonneg-known (stepsAt (x ⊘ d)) (steps-of (clamp (x ⊘ d) zerof onef) (portion (x ⊘ d) (x ⊘ d) l .0) .low)
 
 -- where it is not, all steps are 0
-pub wide-steps : (to : Bool) (v lo hi : Float) → T (finite lo) → T (finite v) → T (le lo v) → hi ⊖ lo ≡ inf false → quantizeBounds to v lo hi ≡ 0
+pub wide-steps : (to : Bool) (v lo hi : Float) → T (finite lo) → T (finite v) → T (le lo v) → hi ⊖ lo ≡ inf false
+    → quantizeBounds to v lo hi ≡ 0
 wide-steps to v lo hi a b low wide = quantize-is to v lo hi ∙ rw wide (go (eq lo hi))
   where
     go : (e : Bool) → cond e 0 (stepAt to ((v ⊖ lo) ⊘ inf false)) ≡ 0

@@ -218,6 +218,10 @@ refusal-put before at k n {said} {out} e word number =
 
 -- ---- all of a text or none
 
+-- the room that a test has found
+pub room-told : {r : Bool} {a b : ℕ} → r ≡ leb a b → r ≡ true → a ≤ b
+room-told {r} {a} {b} is holds = leb-true a b (sym is ∙ holds)
+
 module _ (before : List ℕ) (at : ℕ) (text : List ℕ) where
   pub fitting-all : at + length text ≤ length before → fitting before at text ≡ text
   unfolding fitting

@@ -1,7 +1,8 @@
--- The laws of built trees at a build that was accepted: its rows were labelled and checked (`accepted-parts`); its tree, where there is one, is sound, has each
--- powered lamp as a leaf once and nothing else, and each node is read from its words (`accepted-sound`, `accepted-count`, `accepted-read`); and the table leads
--- from each powered lamp to its leaf, with its record, and from any other nowhere (`accepted-table`, `accepted-unpowered`, `accepted-nothing`). Assumes
--- nothing.
+-- The laws of built trees at a build that was accepted: its rows were labelled and checked (`accepted-parts`); its
+-- tree, where there is one, is sound, has each powered lamp as a leaf once and nothing else, and each node is read from
+-- its words (`accepted-sound`, `accepted-count`, `accepted-read`); and the table leads from each powered lamp to its
+-- leaf, with its record, and from any other nowhere (`accepted-table`, `accepted-unpowered`, `accepted-nothing`).
+-- Assumes nothing.
 use Prim.Native.Nat.{ℕ, _*_, _-_, _≤_, _<_}
 use mathlib.Core.Path.{_≡_, refl, ap, subst, sym, _∙_}
 use mathlib.Core.Bool.{Bool, true, false, cond, _&&_}
@@ -21,11 +22,14 @@ use Rattle.light_rows.specs.Block.{blockWords, sideAt, handleAt, blockLayout, b
 use Rattle.light_rows.specs.Nodes.{LightBVHNode, leaf as leafNode, invalidIndex, nodeWords, nodeAt, boundsAt}
 use Rattle.light_rows.specs.Tree.{Tree, leaves, leafHandles, treeWords}
 use Rattle.light_split.specs.Lights.{lightOf}
-use Rattle.light_bvh.specs.Build.{isPowered, boundedHandles, allBounds, validated, LightBVH, treeOf, builtBvh, isShort, buildCheck, buildLightBvh}
+use Rattle.light_bvh.specs.Build.{isPowered, boundedHandles, allBounds, validated, LightBVH, treeOf, builtBvh, isShort}
+use Rattle.light_bvh.specs.Build.{buildCheck, buildLightBvh}
 use Rattle.light_bvh.specs.Build.{nodesWritten, tabled, tableWritten}
 use Rattle.light_bvh.specs.Subtree.{buildSubtree}
-use Rattle.tree_laws.specs.LeafLaws.{built-leaves, built-words, built-records, bounded-labelled, tree-count, powered-once, others-never}
-use Rattle.tree_laws.specs.PlaceLaws.{nodeIn, nodeIn-some, nodeIn-record, headEnd, LabelsFit, sound-records, Reads, node-read}
+use Rattle.tree_laws.specs.LeafLaws.{built-leaves, built-words, built-records, bounded-labelled, tree-count}
+use Rattle.tree_laws.specs.LeafLaws.{powered-once, others-never}
+use Rattle.tree_laws.specs.PlaceLaws.{nodeIn, nodeIn-some, nodeIn-record, headEnd, LabelsFit, sound-records}
+use Rattle.tree_laws.specs.PlaceLaws.{Reads, node-read}
 use Rattle.tree_laws.specs.PlaceLaws.{placeIn-node, placeIn-within, table-leaf, table-other}
 use Rattle.tree_laws.specs.RecordsOfTree.{Sound, bounded-sound}
 use Rattle.light_bvh.proofs.RowsLaws.{bounded-few}
@@ -46,14 +50,16 @@ handles-count ws m e = go (below (handleAt ws) (getD ws 0 0)) e
 layout-few : (ws : List ℕ) (m : ℕ) → blockLayout ws ≡ given m → getD ws 0 0 ≤ maxLamps
 unfolding blockLayout
 layout-few ws m e =
-    go (crowded ws) (cond (eqb (length ws) (blockWords (getD ws 0 0)) && below (sideAt ws) (getD ws 0 0)) (given (getD ws 0 0)) (refused 1)) refl e
+    go (crowded ws) (cond (eqb (length ws) (blockWords (getD ws 0 0)) && below (sideAt ws) (getD ws 0 0))
+    (given (getD ws 0 0)) (refused 1)) refl e
   where
     go : (b : Bool) (a : Answer ℕ) → crowded ws ≡ b → cond b (refused 2) a ≡ given m → getD ws 0 0 ≤ maxLamps
     go true a c e = absurd (not-both e refl)
     go false a c e = few-lamps ws c
 
 module _ (lights : ℕ) (ws : List ℕ) (nodes table work : ℕ) where
-  pub checked-parts : (m : ℕ) → buildCheck lights ws nodes table work ≡ given m → (m ≤ maxLamps) × (blockHandles ws ≡ given m)
+  pub checked-parts : (m : ℕ) → buildCheck lights ws nodes table work ≡ given m
+      → (m ≤ maxLamps) × (blockHandles ws ≡ given m)
   unfolding buildCheck
   checked-parts m e =
       let (l, layout, e₁) =
@@ -63,7 +69,8 @@ module _ (lights : ℕ) (ws : List ℕ) (nodes table work : ℕ) where
       let (k, _, e₂) =
       then-given (cond (eqb lights l) (given l) (refused 1))
       (λ (m : ℕ). blockHandles ws then λ (m : ℕ). cond (isShort m nodes table work) (refused 3) (given m)) m e₁ in
-      let (h, handles, e₃) = then-given (blockHandles ws) (λ (m : ℕ). cond (isShort m nodes table work) (refused 3) (given m)) m e₂ in
+      let (h, handles, e₃) =
+      then-given (blockHandles ws) (λ (m : ℕ). cond (isShort m nodes table work) (refused 3) (given m)) m e₂ in
       let same : h ≡ m = go h (isShort h nodes table work) e₃ in
       let labelled : blockHandles ws ≡ given m = rw same at handles in
       (omega (arith, layout-few ws l layout, handles-count ws m labelled), labelled)
@@ -80,26 +87,31 @@ pub record Parts (ws : List ℕ) (b : LightBVH) : Type 0 where
   pub powered : b .k ≡ length (boundedHandles ws (b .rows))
   pub grown : treeOf ws (boundedHandles ws (b .rows)) ≡ given (b .tree)
 
-pub accepted-parts : (lights : ℕ) (ws : List ℕ) (nodes table work : ℕ) (b : LightBVH) → buildLightBvh lights ws nodes table work ≡ given b → Parts ws b
+pub accepted-parts : (lights : ℕ) (ws : List ℕ) (nodes table work : ℕ) (b : LightBVH)
+    → buildLightBvh lights ws nodes table work ≡ given b → Parts ws b
 unfolding buildLightBvh builtBvh
 accepted-parts lights ws nodes table work b e =
-    let (m, check, e₁) = then-given (buildCheck lights ws nodes table work) (λ (m : ℕ). validated ws m then λ _. builtBvh ws m) b e in
+    let (m, check, e₁) =
+    then-given (buildCheck lights ws nodes table work) (λ (m : ℕ). validated ws m then λ _. builtBvh ws m) b e in
     let (_, checked, e₂) = then-given (validated ws m) (λ _. builtBvh ws m) b e₁ in
     let (t, grown, e₃) =
     then-given (treeOf ws (boundedHandles ws m))
     (λ (t : Option Tree). given (record { rows = m; k = length (boundedHandles ws m); all-bounds = allBounds ws m; tree = t })) b e₂ in
     let (few, labelled) = checked-parts lights ws nodes table work m check in
-    let made : LightBVH = record { rows = m; k = length (boundedHandles ws m); all-bounds = allBounds ws m; tree = t } in
+    let made : LightBVH =
+    record { rows = m; k = length (boundedHandles ws m); all-bounds = allBounds ws m; tree = t } in
     subst (Parts ws) {x = made} (given-injective {a = made} e₃)
     (record { few = few; labelled = labelled; checked = checked; powered = refl; grown = grown })
 
 -- ---- the tree
 
-pub treeOf-built : (ws hs : List ℕ) (t : Tree) → treeOf ws hs ≡ given (some t) → buildSubtree ws (length hs) hs ≡ given t
+pub treeOf-built : (ws hs : List ℕ) (t : Tree) → treeOf ws hs ≡ given (some t)
+    → buildSubtree ws (length hs) hs ≡ given t
 unfolding treeOf
 treeOf-built ws [] t e = absurd (Option·none-ne-some t (given-injective e))
 treeOf-built ws (h ∷ hs) t e =
-    let (r, is, e₁) = then-given (buildSubtree ws (length (h ∷ hs)) (h ∷ hs)) (λ (t : Tree). given (some t)) (some t) e in
+    let (r, is, e₁) =
+    then-given (buildSubtree ws (length (h ∷ hs)) (h ∷ hs)) (λ (t : Tree). given (some t)) (some t) e in
     is ∙ ap given (Option·some-injective r t (given-injective e₁))
 
 treeOf-none : (ws hs : List ℕ) → treeOf ws hs ≡ given none → length hs ≡ 0
@@ -134,16 +146,22 @@ module _ (ws : List ℕ) (b : LightBVH) (t : Tree) (parts : Parts ws b) (is : b 
   accepted-sound = bounded-sound ws (length (boundedHandles ws (b .rows))) (b .rows) t (parts .checked) built
 
   pub accepted-leaves : leaves t ≡ b .k
-  accepted-leaves = built-leaves ws (length (boundedHandles ws (b .rows))) (boundedHandles ws (b .rows)) t built ∙ sym (parts .powered)
+  accepted-leaves =
+      built-leaves ws (length (boundedHandles ws (b .rows))) (boundedHandles ws (b .rows)) t built ∙ sym
+      (parts .powered)
 
   pub accepted-words : length (nodesWritten b) ≡ nodeWords * (2 * b .k - 1)
-  accepted-words = rw (nodes-are, parts .powered) (built-words ws (length (boundedHandles ws (b .rows))) (boundedHandles ws (b .rows)) t built)
+  accepted-words =
+      rw (nodes-are, parts .powered)
+      (built-words ws (length (boundedHandles ws (b .rows))) (boundedHandles ws (b .rows)) t built)
 
   pub accepted-count : (x : ℕ) → often x (leafHandles t) ≡ cond (ltb x (b .rows) && isPowered ws x) 1 0
   accepted-count = tree-count ws (length (boundedHandles ws (b .rows))) (b .rows) t (parts .labelled) built
 
   labels-below : All (λ (h : ℕ). h < b .rows) (leafHandles t)
-  labels-below = counted-all (λ (h : ℕ). h < b .rows) (leafHandles t) (λ x l. go x (ltb x (b .rows)) (isPowered ws x) refl (rw (accepted-count x) at l))
+  labels-below =
+      counted-all (λ (h : ℕ). h < b .rows) (leafHandles t)
+      (λ x l. go x (ltb x (b .rows)) (isPowered ws x) refl (rw (accepted-count x) at l))
     where
       go : (x : ℕ) (a c : Bool) → ltb x (b .rows) ≡ a → 1 ≤ cond (a && c) 1 0 → x < b .rows
       go x true c e l = ltb-true x (b .rows) e
@@ -159,23 +177,27 @@ module _ (ws : List ℕ) (b : LightBVH) (t : Tree) (parts : Parts ws b) (is : b 
   reads : (i : ℕ) (x : LightBVHNode × LightBounds) → nodeIn 0 invalidIndex t i ≡ some x → Reads (nodesWritten b) i x
   reads i x e = rw nodes-are (node-read t places-fit labels-fit (sound-records t accepted-sound) i x e)
 
-  pub accepted-read : (i : ℕ) → i < 2 * b .k - 1 → (x : LightBVHNode × LightBounds) × (nodeIn 0 invalidIndex t i ≡ some x) × Reads (nodesWritten b) i x
+  pub accepted-read : (i : ℕ) → i < 2 * b .k - 1
+      → (x : LightBVHNode × LightBounds) × (nodeIn 0 invalidIndex t i ≡ some x) × Reads (nodesWritten b) i x
   accepted-read i l =
       let (x, e) = nodeIn-some 0 invalidIndex t i (omega arith) (omega (arith, accepted-leaves)) in
       (x, e, reads i x e)
 
   -- the table leads from a powered lamp to a leaf of its label and its record
   pub accepted-table : (x : ℕ) → x < b .rows → T (isPowered ws x)
-      → (i : ℕ) × (p : ℕ) × (getD (tableWritten b) x 0 ≡ i) × (i < 2 * b .k - 1) × (nodeAt (nodesWritten b) i ≡ given (leafNode x p))
+      → (i : ℕ) × (p : ℕ) × (getD (tableWritten b) x 0 ≡ i) × (i < 2 * b .k - 1)
+      × (nodeAt (nodesWritten b) i ≡ given (leafNode x p))
       × (boundsAt (nodesWritten b) i ≡ given (lightOf ws x))
   accepted-table x l power =
       let n = length (boundedHandles ws (b .rows)) in
-      let (i, place, entry) = table-leaf t (b .rows) x l (powered-once ws n (b .rows) t (parts .labelled) built x l power) in
+      let (i, place, entry) =
+      table-leaf t (b .rows) x l (powered-once ws n (b .rows) t (parts .labelled) built x l power) in
       let (p, c, node) = placeIn-node 0 invalidIndex t x i place in
       let within = placeIn-within 0 t x i place in
       let record-is : c ≡ lightOf ws x =
       nodeIn-record (λ (h : ℕ). lightOf ws h) 0 invalidIndex t i x p c
-      (built-records ws n (boundedHandles ws (b .rows)) t built (bounded-labelled ws (b .rows) (parts .labelled))) node in
+      (built-records ws n (boundedHandles ws (b .rows)) t built
+      (bounded-labelled ws (b .rows) (parts .labelled))) node in
       let read = reads i (leafNode x p, c) node in
       (i, p, rw table-is entry, omega (arith, accepted-leaves), read .0, read .1 ∙ ap given record-is)
 
@@ -183,4 +205,5 @@ module _ (ws : List ℕ) (b : LightBVH) (t : Tree) (parts : Parts ws b) (is : b 
   accepted-unpowered x l never =
       rw table-is
       (table-other t (b .rows) x l
-      (others-never ws (length (boundedHandles ws (b .rows))) (b .rows) t (parts .labelled) built x (λ _ power. never power)))
+      (others-never ws (length (boundedHandles ws (b .rows))) (b .rows) t (parts .labelled) built x
+      (λ _ power. never power)))

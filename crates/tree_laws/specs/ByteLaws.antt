@@ -1,5 +1,6 @@
--- The words of a build that was accepted are below 2 ^ 32, so they come back from their bytes (`nodes-words`, `table-words-back`), which are 64 a node and 4 a
--- row (`nodes-bytes`, `table-bytes`), so that as many nodes are counted in them as there are (`words-counted`, `nodes-counted`). Assumes nothing.
+-- The words of a build that was accepted are below 2 ^ 32, so they come back from their bytes (`nodes-words`,
+-- `table-words-back`), which are 64 a node and 4 a row (`nodes-bytes`, `table-bytes`), so that as many nodes are
+-- counted in them as there are (`words-counted`, `nodes-counted`). Assumes nothing.
 use Prim.Native.Nat.{ℕ, suc, _+_, _*_, _-_, _/_, _%_, _≤_}
 use mathlib.Core.Path.{_≡_, refl, _∙_}
 use mathlib.Core.Bool.{Bool, true, false, cond}
@@ -57,7 +58,8 @@ unfolding recordList
 record-words r h =
     all-append IsWord (vecWords (r .bounds .min) ++ vecWords (r .bounds .max) ++ vecWords (r .direction)) (restWords r)
     (all-append IsWord (vecWords (r .bounds .min) ++ vecWords (r .bounds .max)) (vecWords (r .direction))
-    (all-append IsWord (vecWords (r .bounds .min)) (vecWords (r .bounds .max)) (vec-words (r .bounds .min) (h .bounds .min))
+    (all-append IsWord (vecWords (r .bounds .min)) (vecWords (r .bounds .max))
+    (vec-words (r .bounds .min) (h .bounds .min))
     (vec-words (r .bounds .max) (h .bounds .max)))
     (vec-words (r .direction) (h .direction))) (
       float-word (r .phi) (h .phi),
@@ -74,13 +76,15 @@ head-word : (n : LightBVHNode) → IsWord (headWord n)
 head-word (leafNode h p) = omega arith
 head-word (interior l r p) = omega arith
 
-node-word : (n : LightBVHNode) (b : LightBounds) → IsWord (rightChild n) → IsWord (parent n) → RecordFits b → All IsWord (nodeList n b)
+node-word : (n : LightBVHNode) (b : LightBounds) → IsWord (rightChild n) → IsWord (parent n) → RecordFits b
+    → All IsWord (nodeList n b)
 unfolding nodeList
 node-word n b right up fit = (head-word n, (right, (up, record-words b fit)))
 
 -- ---- the words of a tree
 
-flatten-words : (at p : ℕ) (t : Tree) → at + (2 * leaves t - 1) ≤ headEnd → IsWord p → RecordsFit t → All IsWord (flatten at p t)
+flatten-words : (at p : ℕ) (t : Tree) → at + (2 * leaves t - 1) ≤ headEnd → IsWord p → RecordsFit t
+    → All IsWord (flatten at p t)
 unfolding flatten leaves
 flatten-words at p (leaf h b) low up fit = node-word (leafNode h p) b (omega arith) up fit
 flatten-words at p (fork b l r) low up fit =
@@ -88,17 +92,20 @@ flatten-words at p (fork b l r) low up fit =
     let more-r = leaves-pos r in
     let root = nodeList (interior (at + 1) (rightPlace at l) p) b in
     all-append IsWord (root ++ flatten (at + 1) at l) (flatten (rightPlace at l) at r)
-    (all-append IsWord root (flatten (at + 1) at l) (node-word (interior (at + 1) (rightPlace at l) p) b (omega arith) up (fit .0))
+    (all-append IsWord root (flatten (at + 1) at l)
+    (node-word (interior (at + 1) (rightPlace at l) p) b (omega arith) up (fit .0))
     (flatten-words (at + 1) at l (omega arith) (omega arith) (fit .1)))
     (flatten-words (rightPlace at l) at r (omega arith) (omega arith) (fit .2))
 
-tabled-words : (at : ℕ) (t : Tree) (table : List ℕ) → at + (2 * leaves t - 1) ≤ headEnd → All IsWord table → All IsWord (tabled at t table)
+tabled-words : (at : ℕ) (t : Tree) (table : List ℕ) → at + (2 * leaves t - 1) ≤ headEnd → All IsWord table
+    → All IsWord (tabled at t table)
 unfolding tabled leaves
 tabled-words at (leaf h b) table low all = all-set IsWord table h at (omega arith) all
 tabled-words at (fork b l r) table low all =
     let more-l = leaves-pos l in
     let more-r = leaves-pos r in
-    tabled-words (rightPlace at l) r (tabled (suc at) l table) (omega arith) (tabled-words (suc at) l table (omega arith) all)
+    tabled-words (rightPlace at l) r (tabled (suc at) l table) (omega arith)
+    (tabled-words (suc at) l table (omega arith) all)
 
 -- ---- of a build that was accepted
 
@@ -111,7 +118,9 @@ module _ (ws : List ℕ) (b : LightBVH) (parts : Parts ws b) where
       go none is = rw is tt
       go (some t) is =
           let low = places-fit ws b t parts is in
-          rw (nodes-are ws b t parts is) (flatten-words 0 invalidIndex t (omega arith) (omega arith) (sound-records t (accepted-sound ws b t parts is)))
+          rw (nodes-are ws b t parts is)
+          (flatten-words 0 invalidIndex t (omega arith) (omega arith)
+          (sound-records t (accepted-sound ws b t parts is)))
 
   pub table-fits : All IsWord (tableWritten b)
   unfolding tableWritten

@@ -1,6 +1,7 @@
--- The leaves of a tree that is built: as many as its stretch has handles, in 2 k - 1 nodes (`built-leaves`, `built-words`), and, where the rows are labelled by
--- their places, each handle a leaf as often as it stands in the stretch, with its row's record (`built-count`, `built-records`). So of a block's powered lamps
--- each is a leaf once, and no other number is one (`tree-count`, `powered-once`, `others-never`). Assumes nothing.
+-- The leaves of a tree that is built: as many as its stretch has handles, in 2 k - 1 nodes (`built-leaves`,
+-- `built-words`), and, where the rows are labelled by their places, each handle a leaf as often as it stands in the
+-- stretch, with its row's record (`built-count`, `built-records`). So of a block's powered lamps each is a leaf once,
+-- and no other number is one (`tree-count`, `powered-once`, `others-never`). Assumes nothing.
 use Prim.Native.Nat.{ℕ, zero, suc, _+_, _*_, _-_, _<_}
 use mathlib.Core.Path.{_≡_, refl, ap, sym, _∙_}
 use mathlib.Core.Bool.{Bool, true, false, cond, _&&_}
@@ -28,10 +29,12 @@ use Rattle.words.specs.Lists.{once, often}
 
 -- ---- as many
 
-pub built-leaves : (ws : List ℕ) (n : ℕ) (hs : List ℕ) (t : Tree) → buildSubtree ws n hs ≡ given t → leaves t ≡ length hs
+pub built-leaves : (ws : List ℕ) (n : ℕ) (hs : List ℕ) (t : Tree) → buildSubtree ws n hs ≡ given t
+    → leaves t ≡ length hs
 built-leaves = build-size
 
-pub built-words : (ws : List ℕ) (n : ℕ) (hs : List ℕ) (t : Tree) → buildSubtree ws n hs ≡ given t → length (treeWords t) ≡ nodeWords * (2 * length hs - 1)
+pub built-words : (ws : List ℕ) (n : ℕ) (hs : List ℕ) (t : Tree) → buildSubtree ws n hs ≡ given t
+    → length (treeWords t) ≡ nodeWords * (2 * length hs - 1)
 built-words ws n hs t e = omega (arith, built-leaves ws n hs t e, leaves-pos t, length-flatten 0 invalidIndex t)
 
 -- ---- each as often as in the stretch
@@ -48,14 +51,16 @@ built-count ws n hs t e =
     (λ h each x. ap (λ (y : ℕ). once x y + 0) (each .0))
     (λ hs s l r b two e holds-l holds-r each x.
     let halves = all-halves (Labelled ws) ws hs s each in
-    often-append x (leafHandles l) (leafHandles r) ∙ omega (arith, holds-l (halves .0) x, holds-r (halves .1) x, halves-count ws hs s x)) n hs t e
+    often-append x (leafHandles l) (leafHandles r) ∙ omega
+    (arith, holds-l (halves .0) x, holds-r (halves .1) x, halves-count ws hs s x)) n hs t e
 
 -- each leaf's record is its label's
 abbrev pub LeavesBy : (ℕ → LightBounds) → Tree → Type 0
 LeavesBy f (leaf h b) = b ≡ f h
 LeavesBy f (fork b l r) = LeavesBy f l × LeavesBy f r
 
-pub built-records : (ws : List ℕ) (n : ℕ) (hs : List ℕ) (t : Tree) → buildSubtree ws n hs ≡ given t → All (Labelled ws) hs → LeavesBy (lightOf ws) t
+pub built-records : (ws : List ℕ) (n : ℕ) (hs : List ℕ) (t : Tree) → buildSubtree ws n hs ≡ given t
+    → All (Labelled ws) hs → LeavesBy (lightOf ws) t
 built-records ws n hs t e =
     built-holds ws (λ (hs : List ℕ) (t : Tree). All (Labelled ws) hs → LeavesBy (lightOf ws) t)
     (λ h each. ap (λ (k : ℕ). lightOf ws k) (sym (each .0)))
@@ -75,7 +80,8 @@ pub bounded-count : (ws : List ℕ) (m x : ℕ) → often x (boundedHandles ws m
 unfolding boundedHandles often
 bounded-count ws zero x = rw (le-ltb x 0 (omega arith))
 bounded-count ws (suc n) x =
-    often-append x (boundedHandles ws n) (cond (isPowered ws n) (n ∷ []) []) ∙ rw (bounded-count ws n x) (go (eqb x n) refl)
+    often-append x (boundedHandles ws n) (cond (isPowered ws n) (n ∷ []) []) ∙ rw (bounded-count ws n x)
+    (go (eqb x n) refl)
   where
     same : (b : Bool) → 0 + often n (cond b (n ∷ []) []) ≡ cond b 1 0
     same true = rw (eq-eqb n n refl)
@@ -86,7 +92,8 @@ bounded-count ws (suc n) x =
     other k false e = omega arith
 
     go : (b : Bool) → eqb x n ≡ b
-        → cond (ltb x n && isPowered ws x) 1 0 + often x (cond (isPowered ws n) (n ∷ []) []) ≡ cond (ltb x (suc n) && isPowered ws x) 1 0
+        → cond (ltb x n && isPowered ws x) 1 0 + often x (cond (isPowered ws n) (n ∷ []) [])
+        ≡ cond (ltb x (suc n) && isPowered ws x) 1 0
     go true e = rw (eqb-true x n e, le-ltb n n (omega arith), lt-ltb n (suc n) (omega arith)) (same (isPowered ws n))
     go false e = rw (ltb-next x n (eqb-false x n e)) (other (cond (ltb x n && isPowered ws x) 1 0) (isPowered ws n) e)
 
@@ -96,11 +103,13 @@ pub block-labelled : (ws : List ℕ) (m h : ℕ) → blockHandles ws ≡ given m
 block-labelled ws m h e l = label-is ws m e h l
 
 pub bounded-labelled : (ws : List ℕ) (m : ℕ) → blockHandles ws ≡ given m → All (Labelled ws) (boundedHandles ws m)
-bounded-labelled ws m e = all-map (λ (h : ℕ) (l : h < m). block-labelled ws m h e l) (boundedHandles ws m) (bounded-below ws m)
+bounded-labelled ws m e =
+    all-map (λ (h : ℕ) (l : h < m). block-labelled ws m h e l) (boundedHandles ws m) (bounded-below ws m)
 
 -- ---- the tree of a block's powered lamps
 
-module _ (ws : List ℕ) (n m : ℕ) (t : Tree) (block : blockHandles ws ≡ given m) (built : buildSubtree ws n (boundedHandles ws m) ≡ given t) where
+module _ (ws : List ℕ) (n m : ℕ) (t : Tree) (block : blockHandles ws ≡ given m)
+    (built : buildSubtree ws n (boundedHandles ws m) ≡ given t) where
   pub tree-count : (x : ℕ) → often x (leafHandles t) ≡ cond (ltb x m && isPowered ws x) 1 0
   tree-count x = built-count ws n (boundedHandles ws m) t built (bounded-labelled ws m block) x ∙ bounded-count ws m x
 

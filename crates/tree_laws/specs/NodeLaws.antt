@@ -1,6 +1,7 @@
--- The nodes and the table of a build that was accepted, as demand 3 has them: how many there are (`k-counted`, `node-words`, `table-words`), that child words
--- reach each place once (`places-reached`, `places`), that the table leads from a powered lamp to its leaf, from any other nowhere, and that each leaf is where
--- it leads (`powered-leaf`, `other-lamps`, `leaf-powered`), and that a fork's box holds its children's (`boxes`). Assumes nothing.
+-- The nodes and the table of a build that was accepted, as demand 3 has them: how many there are (`k-counted`,
+-- `node-words`, `table-words`), that child words reach each place once (`places-reached`, `places`), that the table
+-- leads from a powered lamp to its leaf, from any other nowhere, and that each leaf is where it leads (`powered-leaf`,
+-- `other-lamps`, `leaf-powered`), and that a fork's box holds its children's (`boxes`). Assumes nothing.
 use Prim.Native.Nat.{ℕ, zero, suc, _+_, _*_, _-_, _/_, _≤_, _<_}
 use mathlib.Core.Path.{_≡_, refl, ap, subst, sym, _∙_}
 use mathlib.Core.Bool.{Bool, true, false, cond, _&&_}
@@ -19,10 +20,12 @@ use Rattle.light_rows.specs.Nodes.{LightBVHNode, leaf as leafNode, interior, in
 use Rattle.light_rows.specs.Tree.{Tree, leaf, fork, bounds, leaves, leafHandles, rightPlace}
 use Rattle.light_rows.specs.TreeLaws.{leaves-pos, nodeAt-past}
 use Rattle.light_bvh.specs.Build.{LightBVH, isPowered, boundedHandles, nodesWritten, tableWritten}
-use Rattle.tree_laws.specs.AcceptedTree.{Parts, accepted-none, accepted-nothing, accepted-sound, accepted-leaves, accepted-words, accepted-count, accepted-read}
+use Rattle.tree_laws.specs.AcceptedTree.{Parts, accepted-none, accepted-nothing, accepted-sound, accepted-leaves}
+use Rattle.tree_laws.specs.AcceptedTree.{accepted-words, accepted-count, accepted-read}
 use Rattle.tree_laws.specs.AcceptedTree.{table-is, accepted-table, accepted-unpowered}
 use Rattle.tree_laws.specs.LeafLaws.{bounded-count}
-use Rattle.tree_laws.specs.PlaceLaws.{nodeIn, nodeIn-fork, nodeIn-leaf, placeIn, placeIn-none, length-tabled, table-leaf}
+use Rattle.tree_laws.specs.PlaceLaws.{nodeIn, nodeIn-fork, nodeIn-leaf, placeIn, placeIn-none, length-tabled}
+use Rattle.tree_laws.specs.PlaceLaws.{table-leaf}
 use Rattle.tree_laws.specs.RecordsOfTree.{Sound}
 use Rattle.words.proofs.OrderedLists.{often-append, often-none}
 use Rattle.words.specs.Lists.{often}
@@ -40,7 +43,8 @@ bounded-length : (ws : List ℕ) (m : ℕ) → length (boundedHandles ws m) ≡ 
 unfolding boundedHandles poweredBelow
 bounded-length ws zero = refl
 bounded-length ws (suc m) =
-    length-append (boundedHandles ws m) (cond (isPowered ws m) (m ∷ []) []) ∙ rw (bounded-length ws m, one-length (isPowered ws m) m)
+    length-append (boundedHandles ws m) (cond (isPowered ws m) (m ∷ []) []) ∙ rw
+    (bounded-length ws m, one-length (isPowered ws m) m)
 
 -- ---- the places that child words reach
 
@@ -60,12 +64,14 @@ module _ (ws : List ℕ) (n i : ℕ) where
   unfolding reached
   reached-leaf h p e = rw (e, reached)
 
-  pub reached-fork : (l r p : ℕ) → nodeAt ws i ≡ given (interior l r p) → reached ws (suc n) i ≡ i ∷ (reached ws n l ++ reached ws n r)
+  pub reached-fork : (l r p : ℕ) → nodeAt ws i ≡ given (interior l r p)
+      → reached ws (suc n) i ≡ i ∷ (reached ws n l ++ reached ws n r)
   unfolding reached
   reached-fork l r p e = rw (e, reached)
 
 -- of a tree that stands in words, as many forks deep as it has leaves less one, or deeper
-pub places-reached : (ws : List ℕ) (n at p : ℕ) (t : Tree) → Stands ws at p t → leaves t ≤ suc n → reached ws n at ≡ placesFrom at (2 * leaves t - 1)
+pub places-reached : (ws : List ℕ) (n at p : ℕ) (t : Tree) → Stands ws at p t → leaves t ≤ suc n
+    → reached ws n at ≡ placesFrom at (2 * leaves t - 1)
 unfolding reached placesFrom leaves
 places-reached ws zero at p (leaf h b) s few = refl
 places-reached ws (suc n) at p (leaf h b) s few = reached-leaf ws n at h p (s .0)
@@ -100,11 +106,14 @@ module _ (h q : ℕ) (c : LightBounds) where
       rw (eq-eqb h k same) (omega arith)
   leaf-counted at p (fork b l r) i e =
       let sum = often-append h (leafHandles l) (leafHandles r) in
-      ⊎-elim (λ here. absurd (not-leaf (at + 1) (rightPlace at l) p h q (same-node (interior (at + 1) (rightPlace at l) p, b) (leafNode h q, c) (here .1))))
-      (λ under. ⊎-elim (λ f. omega (arith, leaf-counted (at + 1) at l i f)) (λ f. omega (arith, leaf-counted (rightPlace at l) at r i f)) under)
+      ⊎-elim (λ here. absurd (not-leaf (at + 1) (rightPlace at l) p h q
+      (same-node (interior (at + 1) (rightPlace at l) p, b) (leafNode h q, c) (here .1))))
+      (λ under. ⊎-elim (λ f. omega (arith, leaf-counted (at + 1) at l i f))
+      (λ f. omega (arith, leaf-counted (rightPlace at l) at r i f)) under)
       (nodeIn-fork at p b l r i (leafNode h q, c) e)
 
-  leaf-place : (at p : ℕ) (t : Tree) (i : ℕ) → often h (leafHandles t) ≡ 1 → nodeIn at p t i ≡ some (leafNode h q, c) → placeIn at t h ≡ some i
+  leaf-place : (at p : ℕ) (t : Tree) (i : ℕ) → often h (leafHandles t) ≡ 1 → nodeIn at p t i ≡ some (leafNode h q, c)
+      → placeIn at t h ≡ some i
   unfolding placeIn leafHandles often
   leaf-place at p (leaf k b) i one e =
       let (here, found) = nodeIn-leaf at p k b i (leafNode h q, c) e in
@@ -113,7 +122,8 @@ module _ (h q : ℕ) (c : LightBounds) where
       rw (eq-eqb h k same, here)
   leaf-place at p (fork b l r) i one e =
       let sum = often-append h (leafHandles l) (leafHandles r) in
-      ⊎-elim (λ here. absurd (not-leaf (at + 1) (rightPlace at l) p h q (same-node (interior (at + 1) (rightPlace at l) p, b) (leafNode h q, c) (here .1))))
+      ⊎-elim (λ here. absurd (not-leaf (at + 1) (rightPlace at l) p h q
+      (same-node (interior (at + 1) (rightPlace at l) p, b) (leafNode h q, c) (here .1))))
       (λ under. ⊎-elim
       (λ f.
       let some-l = leaf-counted (at + 1) at l i f in
@@ -130,7 +140,8 @@ module _ (h q : ℕ) (c : LightBounds) where
 fork-holds : (ws : List ℕ) (at p : ℕ) (t : Tree) → Stands ws at p t → Sound t
     → (i j k q : ℕ) (c : LightBounds) → nodeIn at p t i ≡ some (interior j k q, c) → HoldsChildren ws i j k
 fork-holds ws at p (leaf h b) s sound i j k q c e =
-    absurd (not-leaf j k q h p (sym (same-node (leafNode h p, b) (interior j k q, c) (nodeIn-leaf at p h b i (interior j k q, c) e .1))))
+    absurd (not-leaf j k q h p (sym
+    (same-node (leafNode h p, b) (interior j k q, c) (nodeIn-leaf at p h b i (interior j k q, c) e .1))))
 fork-holds ws at p (fork b l r) s sound i j k q c e =
     ⊎-elim
     (λ here.
@@ -148,7 +159,8 @@ fork-holds ws at p (fork b l r) s sound i j k q c e =
       holds-left = sound .0 .holds-left;
       holds-right = sound .0 .holds-right;
     }))
-    (λ under. ⊎-elim (fork-holds ws (at + 1) at l (s .1) (sound .1) i j k q c) (fork-holds ws (rightPlace at l) at r (s .2) (sound .2) i j k q c) under)
+    (λ under. ⊎-elim (fork-holds ws (at + 1) at l (s .1) (sound .1) i j k q c)
+    (fork-holds ws (rightPlace at l) at r (s .2) (sound .2) i j k q c) under)
     (nodeIn-fork at p b l r i (interior j k q, c) e)
 
 -- ---- of a build that was accepted
@@ -183,7 +195,8 @@ module _ (ws : List ℕ) (b : LightBVH) (parts : Parts ws b) where
     where
       go : (o : Option Tree) → b .tree ≡ o → length (tableWritten b) ≡ b .rows
       go none is = rw is (length-replicate (b .rows) invalidIndex)
-      go (some t) is = rw is (length-tabled 0 t (replicate (b .rows) invalidIndex) ∙ length-replicate (b .rows) invalidIndex)
+      go (some t) is =
+          rw is (length-tabled 0 t (replicate (b .rows) invalidIndex) ∙ length-replicate (b .rows) invalidIndex)
 
   -- without a tree no lamp has power
   none-powered : b .tree ≡ none → (h : ℕ) → h < b .rows → T (isPowered ws h) → ⊥
@@ -209,7 +222,8 @@ module _ (ws : List ℕ) (b : LightBVH) (parts : Parts ws b) where
       → (p : ℕ) × (placeOf b h < 2 * b .k - 1) × (nodeAt (nodesWritten b) (placeOf b h) ≡ given (leafNode h p))
   powered-leaf h l power = go (b .tree) refl
     where
-      go : (o : Option Tree) → b .tree ≡ o → (p : ℕ) × (placeOf b h < 2 * b .k - 1) × (nodeAt (nodesWritten b) (placeOf b h) ≡ given (leafNode h p))
+      go : (o : Option Tree) → b .tree ≡ o
+          → (p : ℕ) × (placeOf b h < 2 * b .k - 1) × (nodeAt (nodesWritten b) (placeOf b h) ≡ given (leafNode h p))
       go none is = absurd (none-powered is h l power)
       go (some t) is =
           let (i, p, entry, low, node, _) = accepted-table ws b t parts is h l power in
@@ -220,8 +234,10 @@ module _ (ws : List ℕ) (b : LightBVH) (parts : Parts ws b) where
     where
       go : (c : Bool) → ltb h (b .rows) ≡ c → (o : Option Tree) → b .tree ≡ o → placeOf b h ≡ invalidIndex
       go true e none is = let l = ltb-true h (b .rows) e in place-is h l ∙ accepted-nothing ws b parts is h l
-      go true e (some t) is = let l = ltb-true h (b .rows) e in place-is h l ∙ accepted-unpowered ws b t parts is h l never
-      go false e o is = List·getD-eq-default (tableWritten b) invalidIndex (omega (arith, table-words, ltb-false h (b .rows) e))
+      go true e (some t) is =
+          let l = ltb-true h (b .rows) e in place-is h l ∙ accepted-unpowered ws b t parts is h l never
+      go false e o is =
+          List·getD-eq-default (tableWritten b) invalidIndex (omega (arith, table-words, ltb-false h (b .rows) e))
 
   -- a node that is read is the tree's at its place
   node-low : (i : ℕ) (n : LightBVHNode) → nodeAt (nodesWritten b) i ≡ given n → i < 2 * b .k - 1
@@ -233,10 +249,12 @@ module _ (ws : List ℕ) (b : LightBVH) (parts : Parts ws b) where
       let (x, at, read) = accepted-read ws b t parts is i (node-low i n e) in
       (x .1, subst (λ (m : LightBVHNode). nodeIn 0 invalidIndex t i ≡ some (m, x .1)) (given-injective (sym (read .0) ∙ e)) at)
 
-  pub leaf-powered : (i h p : ℕ) → nodeAt (nodesWritten b) i ≡ given (leafNode h p) → (h < b .rows) × T (isPowered ws h) × (placeOf b h ≡ i)
+  pub leaf-powered : (i h p : ℕ) → nodeAt (nodesWritten b) i ≡ given (leafNode h p)
+      → (h < b .rows) × T (isPowered ws h) × (placeOf b h ≡ i)
   leaf-powered i h p e = go (b .tree) refl
     where
-      counted : (x : ℕ) (a c : Bool) → ltb x (b .rows) ≡ a → isPowered ws x ≡ c → 1 ≤ cond (a && c) 1 0 → (x < b .rows) × T (isPowered ws x)
+      counted : (x : ℕ) (a c : Bool) → ltb x (b .rows) ≡ a → isPowered ws x ≡ c → 1 ≤ cond (a && c) 1 0
+          → (x < b .rows) × T (isPowered ws x)
       counted x true true f g l = (ltb-true x (b .rows) f, subst T (sym g) tt)
       counted x true false f g l = absurd (omega arith)
       counted x false c f g l = absurd (omega arith)
@@ -248,7 +266,8 @@ module _ (ws : List ℕ) (b : LightBVH) (parts : Parts ws b) where
           let some-h = leaf-counted h p c 0 invalidIndex t i here in
           let is-count = accepted-count ws b t parts is h in
           let (l, power) = counted h (ltb h (b .rows)) (isPowered ws h) refl refl (rw is-count at some-h) in
-          let one : often h (leafHandles t) ≡ 1 = omega (arith, is-count, at-most (ltb h (b .rows) && isPowered ws h)) in
+          let one : often h (leafHandles t) ≡ 1 =
+          omega (arith, is-count, at-most (ltb h (b .rows) && isPowered ws h)) in
           let (j, place, entry) = table-leaf t (b .rows) h l one in
           let there = leaf-place h p c 0 invalidIndex t i one here in
           let found : j ≡ i = Option·some-injective j i (sym place ∙ there) in
@@ -273,4 +292,5 @@ module _ (ws : List ℕ) (b : LightBVH) (parts : Parts ws b) where
       go none is = absurd (omega (arith, node-low ws b parts i (interior l r p) e, accepted-none ws b parts is))
       go (some t) is =
           let (c, here) = node-in ws b parts t is i (interior l r p) e in
-          fork-holds (nodesWritten b) 0 invalidIndex t (accepted-stands ws b t parts is) (accepted-sound ws b t parts is) i l r p c here
+          fork-holds (nodesWritten b) 0 invalidIndex t (accepted-stands ws b t parts is)
+          (accepted-sound ws b t parts is) i l r p c here

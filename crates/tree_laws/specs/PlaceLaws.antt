@@ -1,6 +1,8 @@
--- The places of a tree. At each of its 2 n - 1 places stands a node, and the tree's words there are read as that node, and its record as that record
--- (`nodeIn-some`, `place-at`, `place-read`). The handle table has, at a label that stands once among the leaves, the place of its leaf, and at a number that is
--- no label what it had (`tabled-at`, `placeIn-node`, `tabled-other`), the invalid index where it was filled so (`table-leaf`, `table-other`). Assumes nothing.
+-- The places of a tree. At each of its 2 n - 1 places stands a node, and the tree's words there are read as that node,
+-- and its record as that record (`nodeIn-some`, `place-at`, `place-read`). The handle table has, at a label that stands
+-- once among the leaves, the place of its leaf, and at a number that is no label what it had (`tabled-at`,
+-- `placeIn-node`, `tabled-other`), the invalid index where it was filled so (`table-leaf`, `table-other`). Assumes
+-- nothing.
 use Prim.Native.Nat.{ℕ, zero, suc, _+_, _*_, _-_, _≤_, _<_}
 use mathlib.Core.Path.{_≡_, refl, ap, subst, sym, _∙_}
 use mathlib.Core.Bool.{Bool, true, false, cond}
@@ -67,12 +69,14 @@ module _ (at p : ℕ) (b : LightBounds) (l r : Tree) (i : ℕ) where
       go false true h e = inr (inl e)
       go false false h e = inr (inr e)
 
-pub nodeIn-leaf : (at p h : ℕ) (b : LightBounds) (i : ℕ) (x : LightBVHNode × LightBounds) → nodeIn at p (leaf h b) i ≡ some x
+pub nodeIn-leaf : (at p h : ℕ) (b : LightBounds) (i : ℕ) (x : LightBVHNode × LightBounds)
+    → nodeIn at p (leaf h b) i ≡ some x
     → (i ≡ at) × (some (leafNode h p, b) ≡ some x)
 unfolding nodeIn
 nodeIn-leaf at p h b i x e = go (eqb i at) refl e
   where
-    go : (a : Bool) → eqb i at ≡ a → cond a (some (leafNode h p, b)) none ≡ some x → (i ≡ at) × (some (leafNode h p, b) ≡ some x)
+    go : (a : Bool) → eqb i at ≡ a → cond a (some (leafNode h p, b)) none ≡ some x
+        → (i ≡ at) × (some (leafNode h p, b) ≡ some x)
     go true f e = (eqb-true i at f, e)
     go false f e = absurd (Option·none-ne-some x e)
 
@@ -111,20 +115,24 @@ abbrev IsInterior : LightBVHNode → Type 0
 IsInterior (leafNode h p) = ⊥
 IsInterior (interior l r p) = Unit
 
-interior-leaf : {l r p h q : ℕ} {c b : LightBounds} → _≡_ {A = LightBVHNode × LightBounds} (interior l r p, c) (leafNode h q, b) → ⊥
+interior-leaf : {l r p h q : ℕ} {c b : LightBounds}
+    → _≡_ {A = LightBVHNode × LightBounds} (interior l r p, c) (leafNode h q, b) → ⊥
 interior-leaf e = subst (λ (x : LightBVHNode × LightBounds). IsInterior (x .0)) e tt
 
 -- where each leaf's record is its label's, so is that of a leaf at a place
 pub nodeIn-record : (f : ℕ → LightBounds) (at p : ℕ) (t : Tree) (i h q : ℕ) (b : LightBounds) → LeavesBy f t
     → nodeIn at p t i ≡ some (leafNode h q, b) → b ≡ f h
 nodeIn-record f at p (leaf k c) i h q b is e =
-    let same = Option·some-injective (leafNode k p, c) (leafNode h q, b) (nodeIn-leaf at p k c i (leafNode h q, b) e .1) in
+    let same =
+    Option·some-injective (leafNode k p, c) (leafNode h q, b) (nodeIn-leaf at p k c i (leafNode h q, b) e .1) in
     let label : k ≡ h = ap (λ (x : LightBVHNode × LightBounds). labelIn (x .0)) same in
     sym (ap (λ (x : LightBVHNode × LightBounds). x .1) same) ∙ is ∙ ap f label
 nodeIn-record f at p (fork c l r) i h q b is e =
     ⊎-elim
-    (λ here. absurd (interior-leaf (Option·some-injective (interior (at + 1) (rightPlace at l) p, c) (leafNode h q, b) (here .1))))
-    (λ under. ⊎-elim (λ g. nodeIn-record f (at + 1) at l i h q b (is .0) g) (λ g. nodeIn-record f (rightPlace at l) at r i h q b (is .1) g) under)
+    (λ here. absurd (interior-leaf
+    (Option·some-injective (interior (at + 1) (rightPlace at l) p, c) (leafNode h q, b) (here .1))))
+    (λ under. ⊎-elim (λ g. nodeIn-record f (at + 1) at l i h q b (is .0) g)
+    (λ g. nodeIn-record f (rightPlace at l) at r i h q b (is .1) g) under)
     (nodeIn-fork at p c l r i (leafNode h q, b) e)
 
 -- ---- read from words
@@ -148,7 +156,8 @@ abbrev pub Reads : List ℕ → ℕ → LightBVHNode × LightBounds → Type 0
 Reads ws i x = (nodeAt ws i ≡ given (x .0)) × (boundsAt ws i ≡ given (x .1))
 
 -- the root, wherever its tree stands
-root-read : (ps ss : List ℕ) (at p : ℕ) (t : Tree) (i : ℕ) (x : LightBVHNode × LightBounds) → length ps ≡ nodePlace at → headFits (root at p t) ≡ true
+root-read : (ps ss : List ℕ) (at p : ℕ) (t : Tree) (i : ℕ) (x : LightBVHNode × LightBounds) → length ps ≡ nodePlace at
+    → headFits (root at p t) ≡ true
     → RecordFits (bounds t) → i ≡ at → some (root at p t, bounds t) ≡ some x → Reads (ps ++ flatten at p t ++ ss) i x
 root-read ps ss at p t i x place head fits here e =
     let is : (root at p t, bounds t) ≡ x = Option·some-injective (root at p t, bounds t) x e in
@@ -156,17 +165,20 @@ root-read ps ss at p t i x place head fits here e =
 
 -- the trees under a fork, in its words
 module _ (ps ss : List ℕ) (at p : ℕ) (b : LightBounds) (l r : Tree) where
-  pub in-left : ps ++ nodeList (interior (at + 1) (rightPlace at l) p) b ++ flatten (at + 1) at l ++ (flatten (rightPlace at l) at r ++ ss)
+  pub in-left : ps ++ nodeList (interior (at + 1) (rightPlace at l) p) b ++ flatten (at + 1) at l ++
+      (flatten (rightPlace at l) at r ++ ss)
       ≡ ps ++ flatten at p (fork b l r) ++ ss
   unfolding flatten
   in-left = simp append-assoc
 
-  pub in-right : ps ++ nodeList (interior (at + 1) (rightPlace at l) p) b ++ flatten (at + 1) at l ++ flatten (rightPlace at l) at r ++ ss
+  pub in-right : ps ++ nodeList (interior (at + 1) (rightPlace at l) p) b ++ flatten (at + 1) at l ++ flatten
+      (rightPlace at l) at r ++ ss
       ≡ ps ++ flatten at p (fork b l r) ++ ss
   unfolding flatten
   in-right = simp append-assoc
 
-pub place-at : (t : Tree) (ps ss : List ℕ) (at p i : ℕ) (x : LightBVHNode × LightBounds) → length ps ≡ nodePlace at → at + (2 * leaves t - 1) ≤ headEnd
+pub place-at : (t : Tree) (ps ss : List ℕ) (at p i : ℕ) (x : LightBVHNode × LightBounds) → length ps ≡ nodePlace at
+    → at + (2 * leaves t - 1) ≤ headEnd
     → LabelsFit t → RecordsFit t → nodeIn at p t i ≡ some x → Reads (ps ++ flatten at p t ++ ss) i x
 unfolding leaves leafHandles
 place-at (leaf h b) ps ss at p i x place low labels fit e =
@@ -178,12 +190,15 @@ place-at (fork b l r) ps ss at p i x place low labels fit e =
     let (labels-l, labels-r) = all-parts (λ (h : ℕ). h < headEnd) (leafHandles l) (leafHandles r) labels in
     let n = interior (at + 1) (rightPlace at l) p in
     ⊎-elim
-    (λ here. root-read ps ss at p (fork b l r) i x place (lt-ltb (at + 1) headEnd (omega arith)) (fit .0) (here .0) (here .1))
+    (λ here. root-read ps ss at p (fork b l r) i x place (lt-ltb (at + 1) headEnd (omega arith)) (fit .0) (here .0)
+    (here .1))
     (λ under. ⊎-elim
     (λ is. subst (λ (ws : List ℕ). Reads ws i x) (in-left ps ss at p b l r)
-    (place-at l (ps ++ nodeList n b) (flatten (rightPlace at l) at r ++ ss) (at + 1) at i x (left-place ps at n b place) (omega arith) labels-l (fit .1) is))
+    (place-at l (ps ++ nodeList n b) (flatten (rightPlace at l) at r ++ ss) (at + 1) at i x (left-place ps at n b place)
+    (omega arith) labels-l (fit .1) is))
     (λ is. subst (λ (ws : List ℕ). Reads ws i x) (in-right ps ss at p b l r)
-    (place-at r (ps ++ nodeList n b ++ flatten (at + 1) at l) ss (rightPlace at l) at i x (right-place ps at n b place l) (omega arith) labels-r (fit .2) is))
+    (place-at r (ps ++ nodeList n b ++ flatten (at + 1) at l) ss (rightPlace at l) at i x
+    (right-place ps at n b place l) (omega arith) labels-r (fit .2) is))
     under)
     (nodeIn-fork at p b l r i x e)
 
@@ -191,9 +206,11 @@ place-at (fork b l r) ps ss at p i x place low labels fit e =
 module _ (t : Tree) (low : 2 * leaves t - 1 ≤ headEnd) (labels : LabelsFit t) (fit : RecordsFit t) (i : ℕ) where
   pub node-read : (x : LightBVHNode × LightBounds) → nodeIn 0 invalidIndex t i ≡ some x → Reads (treeWords t) i x
   node-read x is =
-      subst (λ (ws : List ℕ). Reads ws i x) (append-nil (treeWords t)) (place-at t [] [] 0 invalidIndex i x refl (omega arith) labels fit is)
+      subst (λ (ws : List ℕ). Reads ws i x) (append-nil (treeWords t))
+      (place-at t [] [] 0 invalidIndex i x refl (omega arith) labels fit is)
 
-  pub place-read : i < 2 * leaves t - 1 → (x : LightBVHNode × LightBounds) × (nodeIn 0 invalidIndex t i ≡ some x) × Reads (treeWords t) i x
+  pub place-read : i < 2 * leaves t - 1
+      → (x : LightBVHNode × LightBounds) × (nodeIn 0 invalidIndex t i ≡ some x) × Reads (treeWords t) i x
   place-read below =
       let (x, is) = nodeIn-some 0 invalidIndex t i (omega arith) (omega arith) in
       (x, is, node-read x is)
@@ -244,7 +261,8 @@ placeIn-within at (fork b l r) x i e =
     (first-cases (placeIn (suc at) l x) (placeIn (rightPlace at l) r x) i e)
 
 -- at that place stands a leaf with the label
-pub placeIn-node : (at p : ℕ) (t : Tree) (x i : ℕ) → placeIn at t x ≡ some i → (q : ℕ) × (b : LightBounds) × (nodeIn at p t i ≡ some (leafNode x q, b))
+pub placeIn-node : (at p : ℕ) (t : Tree) (x i : ℕ) → placeIn at t x ≡ some i
+    → (q : ℕ) × (b : LightBounds) × (nodeIn at p t i ≡ some (leafNode x q, b))
 unfolding placeIn
 placeIn-node at p (leaf h b) x i e =
     let (label, here) = placeIn-leaf at h b x i e in
@@ -267,10 +285,12 @@ placeIn-node at p (fork b l r) x i e =
 pub length-tabled : (at : ℕ) (t : Tree) (table : List ℕ) → length (tabled at t table) ≡ length table
 unfolding tabled
 length-tabled at (leaf h b) table = length-set table h at
-length-tabled at (fork b l r) table = length-tabled (rightPlace at l) r (tabled (suc at) l table) ∙ length-tabled (suc at) l table
+length-tabled at (fork b l r) table =
+    length-tabled (rightPlace at l) r (tabled (suc at) l table) ∙ length-tabled (suc at) l table
 
 -- a number that is no label
-pub tabled-other : (at : ℕ) (t : Tree) (table : List ℕ) (x d : ℕ) → often x (leafHandles t) ≡ 0 → getD (tabled at t table) x d ≡ getD table x d
+pub tabled-other : (at : ℕ) (t : Tree) (table : List ℕ) (x d : ℕ) → often x (leafHandles t) ≡ 0
+    → getD (tabled at t table) x d ≡ getD table x d
 unfolding tabled leafHandles often
 tabled-other at (leaf h b) table x d e = getD-set-other table h x at d (λ is. go is e)
   where
@@ -278,7 +298,8 @@ tabled-other at (leaf h b) table x d e = getD-set-other table h x at d (λ is. g
     go is e = omega (arith, rw (eq-eqb x h is) at e)
 tabled-other at (fork b l r) table x d e =
     let sum = often-append x (leafHandles l) (leafHandles r) in
-    tabled-other (rightPlace at l) r (tabled (suc at) l table) x d (omega arith) ∙ tabled-other (suc at) l table x d (omega arith)
+    tabled-other (rightPlace at l) r (tabled (suc at) l table) x d (omega arith) ∙ tabled-other (suc at) l table x d
+    (omega arith)
 
 -- a label that stands once
 pub tabled-at : (at : ℕ) (t : Tree) (table : List ℕ) (x d : ℕ) → often x (leafHandles t) ≡ 1 → x < length table
@@ -286,7 +307,8 @@ pub tabled-at : (at : ℕ) (t : Tree) (table : List ℕ) (x d : ℕ) → often x
 unfolding tabled placeIn leafHandles often
 tabled-at at (leaf h b) table x d e low = go (eqb x h) refl e
   where
-    go : (b : Bool) → eqb x h ≡ b → cond b 1 0 + 0 ≡ 1 → (i : ℕ) × (cond b (some at) none ≡ some i) × (getD (set table h at) x d ≡ i)
+    go : (b : Bool) → eqb x h ≡ b → cond b 1 0 + 0 ≡ 1
+        → (i : ℕ) × (cond b (some at) none ≡ some i) × (getD (set table h at) x d ≡ i)
     go true f e = (at, refl, rw (← (eqb-true x h f)) (getD-set-same table x at d low))
     go false f e = absurd (omega arith)
 tabled-at at (fork b l r) table x d e low =
@@ -296,7 +318,8 @@ tabled-at at (fork b l r) table x d e low =
     go : (k : ℕ) → often x (leafHandles l) ≡ k
         → (often x (leafHandles l) ≡ 1 → (i : ℕ) × (placeIn (suc at) l x ≡ some i) × (getD (tabled (suc at) l table) x d ≡ i))
         → (often x (leafHandles r) ≡ 1
-        → (i : ℕ) × (placeIn (rightPlace at l) r x ≡ some i) × (getD (tabled (rightPlace at l) r (tabled (suc at) l table)) x d ≡ i))
+        → (i : ℕ) × (placeIn (rightPlace at l) r x ≡ some i)
+        × (getD (tabled (rightPlace at l) r (tabled (suc at) l table)) x d ≡ i))
         → (i : ℕ) × (firstOf (placeIn (suc at) l x) (placeIn (rightPlace at l) r x) ≡ some i)
         × (getD (tabled (rightPlace at l) r (tabled (suc at) l table)) x d ≡ i)
     go zero is left right =
@@ -315,7 +338,8 @@ tabled-twice b = refl
 
 -- a table that was filled with the invalid index
 module _ (t : Tree) (m x : ℕ) (below : x < m) where
-  pub table-leaf : often x (leafHandles t) ≡ 1 → (i : ℕ) × (placeIn 0 t x ≡ some i) × (getD (tabled 0 t (replicate m invalidIndex)) x 0 ≡ i)
+  pub table-leaf : often x (leafHandles t) ≡ 1
+      → (i : ℕ) × (placeIn 0 t x ≡ some i) × (getD (tabled 0 t (replicate m invalidIndex)) x 0 ≡ i)
   table-leaf e = tabled-at 0 t (replicate m invalidIndex) x 0 e (rw (length-replicate m invalidIndex) below)
 
   pub table-other : often x (leafHandles t) ≡ 0 → getD (tabled 0 t (replicate m invalidIndex)) x 0 ≡ invalidIndex

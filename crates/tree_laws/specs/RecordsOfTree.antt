@@ -1,6 +1,7 @@
--- The records of a tree. A leaf's passes its check and has power; a fork's is the join of its children's, which pass their checks, and has power and a box that
--- holds their boxes; all are of floats of the format, so that a node's words have its record whole (`Sound`). Such is every tree that is built of handles whose
--- records pass their checks and have power (`built-sound`), as those of the powered lamps do (`bounded-passes`). Assumes nothing.
+-- The records of a tree. A leaf's passes its check and has power; a fork's is the join of its children's, which pass
+-- their checks, and has power and a box that holds their boxes; all are of floats of the format, so that a node's words
+-- have its record whole (`Sound`). Such is every tree that is built of handles whose records pass their checks and have
+-- power (`built-sound`), as those of the powered lamps do (`bounded-passes`). Assumes nothing.
 use Prim.Native.Nat.{ℕ, zero, suc}
 use mathlib.Core.Path.{_≡_, refl, subst, sym}
 use mathlib.Core.Bool.{Bool, true, false, cond}
@@ -52,7 +53,8 @@ sound-fits (leaf h b) s = s .fits
 sound-fits (fork b l r) s = s .0 .fits
 
 -- a union that is given, of records with power
-pub union-sound : (l r b : LightBounds) → T (lt zerof (l .phi)) → T (lt zerof (r .phi)) → RecordFits l → RecordFits r → union l r ≡ given b → SoundFork b l r
+pub union-sound : (l r b : LightBounds) → T (lt zerof (l .phi)) → T (lt zerof (r .phi)) → RecordFits l → RecordFits r
+    → union l r ≡ given b → SoundFork b l r
 union-sound l r b p q f g e =
     let (v, w, is) = union-given l r b e in
     let holds = union-holds l r v w p q in
@@ -72,7 +74,8 @@ union-sound l r b p q f g e =
 abbrev pub Passes : List ℕ → ℕ → Type 0
 Passes ws h = (validate (lightOf ws h) ≡ given tt) × T (lt zerof (lightOf ws h .phi))
 
-pub built-sound : (ws : List ℕ) (n : ℕ) (hs : List ℕ) (t : Tree) → buildSubtree ws n hs ≡ given t → All (Passes ws) hs → Sound t
+pub built-sound : (ws : List ℕ) (n : ℕ) (hs : List ℕ) (t : Tree) → buildSubtree ws n hs ≡ given t → All (Passes ws) hs
+    → Sound t
 built-sound ws n hs t e =
     built-holds ws (λ (hs : List ℕ) (t : Tree). All (Passes ws) hs → Sound t)
     (λ h each. record { passes = each .0 .0; power = each .0 .1; fits = record-fits-read ws (recordPlace h) })
@@ -89,11 +92,13 @@ unfolding validated boundedHandles
 bounded-passes ws zero e = tt
 bounded-passes ws (suc n) e =
     let (_, before, last) = then-given (validated ws n) (λ _. validate (lightOf ws n)) tt e in
-    all-append (Passes ws) (boundedHandles ws n) (cond (isPowered ws n) (n ∷ []) []) (bounded-passes ws n before) (one last (isPowered ws n) refl)
+    all-append (Passes ws) (boundedHandles ws n) (cond (isPowered ws n) (n ∷ []) []) (bounded-passes ws n before)
+    (one last (isPowered ws n) refl)
   where
     one : validate (lightOf ws n) ≡ given tt → (b : Bool) → isPowered ws n ≡ b → All (Passes ws) (cond b (n ∷ []) [])
     one v true p = ((v, subst T (sym p) tt), tt)
     one v false p = tt
 
-pub bounded-sound : (ws : List ℕ) (n m : ℕ) (t : Tree) → validated ws m ≡ given tt → buildSubtree ws n (boundedHandles ws m) ≡ given t → Sound t
+pub bounded-sound : (ws : List ℕ) (n m : ℕ) (t : Tree) → validated ws m ≡ given tt
+    → buildSubtree ws n (boundedHandles ws m) ≡ given t → Sound t
 bounded-sound ws n m t checked e = built-sound ws n (boundedHandles ws m) t e (bounded-passes ws m checked)

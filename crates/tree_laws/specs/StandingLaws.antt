@@ -1,5 +1,6 @@
--- Trees that stand in words: a tree stands where it is flattened (`stands-flat`), so an accepted build's tree stands in its words (`accepted-stands`), and its
--- root and the root's record are read at its place (`stands-root`). Assumes nothing.
+-- Trees that stand in words: a tree stands where it is flattened (`stands-flat`), so an accepted build's tree stands in
+-- its words (`accepted-stands`), and its root and the root's record are read at its place (`stands-root`). Assumes
+-- nothing.
 use Prim.Native.Nat.{ℕ, _+_, _*_, _-_, _≤_, _<_}
 use mathlib.Core.Path.{_≡_, refl, subst}
 use mathlib.Core.List.{List, [], _++_, append-nil}
@@ -22,7 +23,8 @@ stands-root ws at p (leaf h b) s = s
 stands-root ws at p (fork b l r) s = s .0
 
 -- a tree that is flattened into words stands there
-pub stands-flat : (t : Tree) (ps ss : List ℕ) (at p : ℕ) → length ps ≡ nodePlace at → at + (2 * leaves t - 1) ≤ headEnd → LabelsFit t → RecordsFit t
+pub stands-flat : (t : Tree) (ps ss : List ℕ) (at p : ℕ) → length ps ≡ nodePlace at → at + (2 * leaves t - 1) ≤ headEnd
+    → LabelsFit t → RecordsFit t
     → Stands (ps ++ flatten at p t ++ ss) at p t
 unfolding leaves leafHandles
 stands-flat (leaf h b) ps ss at p place low labels fit =
@@ -35,13 +37,16 @@ stands-flat (fork b l r) ps ss at p place low labels fit =
     let t = fork b l r in (
       (root-at ps ss at at p t place (lt-ltb (at + 1) headEnd (omega arith)), root-bounds-at ps ss at at p t place (fit .0)),
       subst (λ (ws : List ℕ). Stands ws (at + 1) at l) (in-left ps ss at p b l r)
-          (stands-flat l (ps ++ nodeList n b) (flatten (rightPlace at l) at r ++ ss) (at + 1) at (left-place ps at n b place) (omega arith) labels-l (fit .1)),
+          (stands-flat l (ps ++ nodeList n b) (flatten (rightPlace at l) at r ++ ss) (at + 1) at
+          (left-place ps at n b place) (omega arith) labels-l (fit .1)),
       subst (λ (ws : List ℕ). Stands ws (rightPlace at l) at r) (in-right ps ss at p b l r)
-          (stands-flat r (ps ++ nodeList n b ++ flatten (at + 1) at l) ss (rightPlace at l) at (right-place ps at n b place l) (omega arith) labels-r (fit .2)),
+          (stands-flat r (ps ++ nodeList n b ++ flatten (at + 1) at l) ss (rightPlace at l) at
+          (right-place ps at n b place l) (omega arith) labels-r (fit .2)),
     )
 
 -- an accepted build's tree stands in its words
-pub accepted-stands : (ws : List ℕ) (b : LightBVH) (t : Tree) → Parts ws b → b .tree ≡ some t → Stands (nodesWritten b) 0 invalidIndex t
+pub accepted-stands : (ws : List ℕ) (b : LightBVH) (t : Tree) → Parts ws b → b .tree ≡ some t
+    → Stands (nodesWritten b) 0 invalidIndex t
 accepted-stands ws b t parts is =
     rw (nodes-are ws b t parts is)
     (subst (λ (ws : List ℕ). Stands ws 0 invalidIndex t) (append-nil (treeWords t))

@@ -8,4 +8,5 @@ use Rattle.tree_laws.specs.PlaceLaws.{Reads}
 -- with its root at a place, under a parent
 abbrev pub Stands : List ℕ → ℕ → ℕ → Tree → Type 0
 Stands ws at p (leaf h b) = Reads ws at (leafNode h p, b)
-Stands ws at p (fork b l r) = Reads ws at (interior (at + 1) (rightPlace at l) p, b) × Stands ws (at + 1) at l × Stands ws (rightPlace at l) at r
+Stands ws at p (fork b l r) =
+    Reads ws at (interior (at + 1) (rightPlace at l) p, b) × Stands ws (at + 1) at l × Stands ws (rightPlace at l) at r

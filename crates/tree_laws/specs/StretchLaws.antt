@@ -1,7 +1,8 @@
--- Laws of stretches of handles. The handles of the powered lamps ascend (`bounded-ascends`), and both halves of an ascending stretch ascend
--- (`partition-ascends`), so the Rust's sort before a cut at the middle changes nothing in any stretch of a build (`sort-changes-nothing`,
--- `build-sorts-nothing`). Each half of two handles or more has one at least, and each handle stands in the halves as often as in the stretch (`halves-some`,
--- `halves-length`, `halves-count`). Assumes nothing.
+-- Laws of stretches of handles. The handles of the powered lamps ascend (`bounded-ascends`), and both halves of an
+-- ascending stretch ascend (`partition-ascends`), so the Rust's sort before a cut at the middle changes nothing in any
+-- stretch of a build (`sort-changes-nothing`, `build-sorts-nothing`). Each half of two handles or more has one at
+-- least, and each handle stands in the halves as often as in the stretch (`halves-some`, `halves-length`,
+-- `halves-count`). Assumes nothing.
 use Prim.Native.Nat.{ℕ, zero, suc, _+_, _/_, _≤_}
 use mathlib.Core.Path.{_≡_, refl, ap, sym, _∙_}
 use mathlib.Core.Bool.{Bool, true, false, cond, _||_}
@@ -13,7 +14,8 @@ use lib.Dec.{eqb}
 use lib.ListN.{length, take, drop}
 use Rattle.light_split.specs.Lights.{centroidEnds}
 use Rattle.light_split.specs.Partition.{goesLeft, goesRight, lefts, rights, partitionHandles}
-use Rattle.words.proofs.OrderedLists.{Ascends, kept-ascends, take-ascends, drop-ascends, ascends-snoc, sorted-ascending, often-append, often-kept}
+use Rattle.words.proofs.OrderedLists.{Ascends, kept-ascends, take-ascends, drop-ascends, ascends-snoc, sorted-ascending}
+use Rattle.words.proofs.OrderedLists.{often-append, often-kept}
 use Rattle.words.specs.Lists.{sorted, often}
 use Rattle.light_split.specs.declared.split.Split.{Split}
 use Rattle.light_split.proofs.PartitionLaws.{goes-right, partition-joined}
@@ -76,7 +78,8 @@ module _ (ws hs : List ℕ) (s : Split) where
   rights-ascend h = kept-ascends (goesRight ws (centroidEnds ws hs) s) hs h
 
   -- where a side is empty, both in a row ascend
-  pub sides-ascend : Ascends hs → (lefts ws hs s ≡ []) ⊎ (rights ws hs s ≡ []) → Ascends (lefts ws hs s ++ rights ws hs s)
+  pub sides-ascend : Ascends hs → (lefts ws hs s ≡ []) ⊎ (rights ws hs s ≡ [])
+      → Ascends (lefts ws hs s ++ rights ws hs s)
   sides-ascend h empty = ascends-joined (lefts ws hs s) (rights ws hs s) empty (lefts-ascend h) (rights-ascend h)
 
   pub partition-ascends : Ascends hs → Ascends (partitionHandles ws hs s .0) × Ascends (partitionHandles ws hs s .1)
@@ -105,9 +108,11 @@ stretch-ascends {ws} h (left-half {xs} s p) = partition-ascends ws xs s (stretch
 stretch-ascends {ws} h (right-half {xs} s p) = partition-ascends ws xs s (stretch-ascends h p) .1
 
 -- so no stretch of the powered lamps' build is changed by it
-pub build-sorts-nothing : {ws xs : List ℕ} (m : ℕ) (s : Split) → Stretch ws (boundedHandles ws m) xs → (lefts ws xs s ≡ []) ⊎ (rights ws xs s ≡ [])
+pub build-sorts-nothing : {ws xs : List ℕ} (m : ℕ) (s : Split) → Stretch ws (boundedHandles ws m) xs
+    → (lefts ws xs s ≡ []) ⊎ (rights ws xs s ≡ [])
     → sorted (lefts ws xs s ++ rights ws xs s) ≡ lefts ws xs s ++ rights ws xs s
-build-sorts-nothing {ws} {xs} m s p empty = sort-changes-nothing ws xs s (stretch-ascends (bounded-ascends ws m) p) empty
+build-sorts-nothing {ws} {xs} m s p empty =
+    sort-changes-nothing ws xs s (stretch-ascends (bounded-ascends ws m) p) empty
 
 -- ---- how often in the halves
 
@@ -118,7 +123,8 @@ module _ (ws hs : List ℕ) (s : Split) where
       let ends = centroidEnds ws hs in
       often-kept (goesLeft ws ends s) (goesRight ws ends s) (goes-right ws ends s) x hs
 
-  pub halves-count : (x : ℕ) → often x (partitionHandles ws hs s .0) + often x (partitionHandles ws hs s .1) ≡ often x hs
+  pub halves-count : (x : ℕ)
+      → often x (partitionHandles ws hs s .0) + often x (partitionHandles ws hs s .1) ≡ often x hs
   halves-count x =
       sym (often-append x (partitionHandles ws hs s .0) (partitionHandles ws hs s .1))
       ∙ ap (often x) (partition-joined ws hs s)
@@ -128,5 +134,6 @@ module _ (ws hs : List ℕ) (s : Split) where
   pub halves-length : length (partitionHandles ws hs s .0) + length (partitionHandles ws hs s .1) ≡ length hs
   halves-length = halves-sum ws hs s
 
-  pub halves-some : 2 ≤ length hs → (1 ≤ length (partitionHandles ws hs s .0)) × (1 ≤ length (partitionHandles ws hs s .1))
+  pub halves-some : 2 ≤ length hs
+      → (1 ≤ length (partitionHandles ws hs s .0)) × (1 ≤ length (partitionHandles ws hs s .1))
   halves-some two = let h = halves ws hs s two in (h .left, h .right)

@@ -79,7 +79,8 @@ unfolding folded
 folded-next step b xs i h = rw (add-one, drop-cons xs i 0)
 
 -- and its end
-pub folded-all : {B : Type 0} (step : B → ℕ → B) (b : B) (xs : List ℕ) (i : ℕ) → length xs ≤ i → folded step b (drop i xs) ≡ b
+pub folded-all : {B : Type 0} (step : B → ℕ → B) (b : B) (xs : List ℕ) (i : ℕ) → length xs ≤ i
+    → folded step b (drop i xs) ≡ b
 unfolding folded
 folded-all step b xs i h = rw (drop-of-length-le xs h)
 
@@ -100,23 +101,30 @@ pub kept-in : (test : ℕ → Bool) (xs : List ℕ) (i : ℕ) → i < length xs 
 unfolding kept
 kept-in test xs i h e = rw (add-one, take-suc xs i 0, kept-append test (take i xs) (getD xs i 0 ∷ [])) (rw e)
 
-pub kept-out : (test : ℕ → Bool) (xs : List ℕ) (i : ℕ) → i < length xs → test (getD xs i 0) ≡ false → kept test (take (i + 1) xs) ≡ kept test (take i xs)
+pub kept-out : (test : ℕ → Bool) (xs : List ℕ) (i : ℕ) → i < length xs → test (getD xs i 0) ≡ false
+    → kept test (take (i + 1) xs) ≡ kept test (take i xs)
 unfolding kept
-kept-out test xs i h e = rw (add-one, take-suc xs i 0, kept-append test (take i xs) (getD xs i 0 ∷ [])) (rw e (append-nil (kept test (take i xs))))
+kept-out test xs i h e =
+    rw (add-one, take-suc xs i 0, kept-append test (take i xs) (getD xs i 0 ∷ []))
+    (rw e (append-nil (kept test (take i xs))))
 
-sides : (b : Bool) (x : ℕ) (xs ys : List ℕ) (n : ℕ) → length xs + length ys ≡ n → length (cond b (x ∷ xs) xs) + length (cond (not b) (x ∷ ys) ys) ≡ suc n
+sides : (b : Bool) (x : ℕ) (xs ys : List ℕ) (n : ℕ) → length xs + length ys ≡ n
+    → length (cond b (x ∷ xs) xs) + length (cond (not b) (x ∷ ys) ys) ≡ suc n
 sides true x xs ys n h = omega arith
 sides false x xs ys n h = omega arith
 
 -- each item passes or does not
-pub kept-lengths : (l r : ℕ → Bool) → ((h : ℕ) → r h ≡ not (l h)) → (xs : List ℕ) → length (kept l xs) + length (kept r xs) ≡ length xs
+pub kept-lengths : (l r : ℕ → Bool) → ((h : ℕ) → r h ≡ not (l h)) → (xs : List ℕ)
+    → length (kept l xs) + length (kept r xs) ≡ length xs
 unfolding kept
 kept-lengths l r other [] = refl
-kept-lengths l r other (x ∷ xs) = rw (other x) (sides (l x) x (kept l xs) (kept r xs) (length xs) (kept-lengths l r other xs))
+kept-lengths l r other (x ∷ xs) =
+    rw (other x) (sides (l x) x (kept l xs) (kept r xs) (length xs) (kept-lengths l r other xs))
 
 -- ---- laid over the front
 
-pub laid-next : (xs ys : List ℕ) (y : ℕ) → length xs < length ys → set (laid xs ys) (length xs) y ≡ laid (xs ++ (y ∷ [])) ys
+pub laid-next : (xs ys : List ℕ) (y : ℕ) → length xs < length ys
+    → set (laid xs ys) (length xs) y ≡ laid (xs ++ (y ∷ [])) ys
 laid-next xs ys y h = stored xs ys (y ∷ []) (length xs) refl (omega arith) ∙ rw (length-append xs (y ∷ []))
 
 -- behind it nothing is changed
@@ -124,7 +132,8 @@ pub laid-getD : (xs ys : List ℕ) (i : ℕ) → length xs ≤ i → getD (laid 
 laid-getD xs ys i h =
     let k = i - length xs in
     let e : i ≡ length xs + k = omega arith in
-    ap (λ (n : ℕ). getD (laid xs ys) n 0) e ∙ getD-append-add xs (drop (length xs) ys) k 0 ∙ getD-drop (length xs) ys k 0
+    ap (λ (n : ℕ). getD (laid xs ys) n 0) e ∙ getD-append-add xs (drop (length xs) ys) k 0 ∙ getD-drop
+    (length xs) ys k 0
     ∙ ap (λ (n : ℕ). getD ys n 0) (sym e)
 
 -- ---- in reverse
@@ -148,7 +157,8 @@ last-behind (y ∷ z ∷ xs) x = last-behind (z ∷ xs) x
 -- the first in reverse is the last
 pub last-first : (xs : List ℕ) (x : ℕ) (rest : List ℕ) → reversed xs ≡ x ∷ rest → lastOf xs ≡ x
 unfolding reversed
-last-first xs x rest e = ap lastOf (sym (reversed-twice xs) ∙ ap (λ (ys : List ℕ). reversed ys) e) ∙ last-behind (reversed rest) x
+last-first xs x rest e =
+    ap lastOf (sym (reversed-twice xs) ∙ ap (λ (ys : List ℕ). reversed ys) e) ∙ last-behind (reversed rest) x
 
 -- ---- none
 

@@ -1,4 +1,5 @@
--- Words and their little-endian bytes: lengths, the word at a place, and reading back what was written. Assumes nothing.
+-- Words and their little-endian bytes: lengths, the word at a place, and reading back what was written. Assumes
+-- nothing.
 use Prim.Native.Nat.{ℕ, zero, suc, _+_, _*_, _/_, _%_, _^_, _<_}
 use mathlib.Core.Path.{_≡_, refl, ap, ap₂}
 use mathlib.Core.List.{List, [], _∷_, _++_}
@@ -24,14 +25,16 @@ length-bytesOf (w ∷ rest) = omega (arith, length-bytesOf rest)
 
 -- the word at a place
 pub wordsOf-at : (bs : List ℕ) (i : ℕ) → i < length bs / 4
-    → getD (wordsOf bs) i 0 ≡ wordOf (getD bs (4 * i) 0) (getD bs (4 * i + 1) 0) (getD bs (4 * i + 2) 0) (getD bs (4 * i + 3) 0)
+    → getD (wordsOf bs) i 0
+    ≡ wordOf (getD bs (4 * i) 0) (getD bs (4 * i + 1) 0) (getD bs (4 * i + 2) 0) (getD bs (4 * i + 3) 0)
 unfolding wordsOf
 wordsOf-at [] i h = omega arith
 wordsOf-at (a ∷ []) i h = omega arith
 wordsOf-at (a ∷ b ∷ []) i h = omega arith
 wordsOf-at (a ∷ b ∷ c ∷ []) i h = omega arith
 wordsOf-at (a ∷ b ∷ c ∷ d ∷ rest) zero h = refl
-wordsOf-at (a ∷ b ∷ c ∷ d ∷ rest) (suc i) h = simp unary-clauses (simp unary-clauses at (wordsOf-at rest i (omega arith)))
+wordsOf-at (a ∷ b ∷ c ∷ d ∷ rest) (suc i) h =
+    simp unary-clauses (simp unary-clauses at (wordsOf-at rest i (omega arith)))
 
 -- the bytes of the word at a place
 pub bytesOf-at : (ws : List ℕ) (i : ℕ) → i < length ws → take 4 (drop (4 * i) (bytesOf ws)) ≡ bytesOfWord (getD ws i 0)

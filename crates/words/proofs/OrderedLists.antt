@@ -119,14 +119,17 @@ often-sides true x y xs ys n h = omega arith
 often-sides false x y xs ys n h = omega arith
 
 -- each item passes one of two tests
-pub often-kept : (l r : ℕ → Bool) → ((h : ℕ) → r h ≡ not (l h)) → (x : ℕ) (xs : List ℕ) → often x (kept l xs) + often x (kept r xs) ≡ often x xs
+pub often-kept : (l r : ℕ → Bool) → ((h : ℕ) → r h ≡ not (l h)) → (x : ℕ) (xs : List ℕ)
+    → often x (kept l xs) + often x (kept r xs) ≡ often x xs
 unfolding kept often
 often-kept l r other x [] = refl
-often-kept l r other x (y ∷ ys) = rw (other y) (often-sides (l y) x y (kept l ys) (kept r ys) (often x ys) (often-kept l r other x ys))
+often-kept l r other x (y ∷ ys) =
+    rw (other y) (often-sides (l y) x y (kept l ys) (kept r ys) (often x ys) (often-kept l r other x ys))
 
 -- ---- the sort is one: of the same numbers, none above the next
 
-often-swap : (b : Bool) (x z y : ℕ) (ys zs : List ℕ) → often x zs ≡ once x z + often x ys → often x (cond b (z ∷ y ∷ ys) (y ∷ zs)) ≡ once x z + often x (y ∷ ys)
+often-swap : (b : Bool) (x z y : ℕ) (ys zs : List ℕ) → often x zs ≡ once x z + often x ys
+    → often x (cond b (z ∷ y ∷ ys) (y ∷ zs)) ≡ once x z + often x (y ∷ ys)
 unfolding often
 often-swap true x z y ys zs e = refl
 often-swap false x z y ys zs e = omega arith

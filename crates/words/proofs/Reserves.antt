@@ -27,6 +27,8 @@ module _ {A : Type 0} (written : A → List ℕ) (reserve : ℕ) (before : List 
   tray-zeroed l k h e late = zeroed l (drop reserve before) reserve h e ∙ rw (lt-leb k 4 late)
 
   -- filled by a loop that copies all of what is to be written
-  pub tray-copied : {i : ℕ} {l : List ℕ} (a : A) → Copied (written a) before i l → i ≡ reserve → length (written a) ≡ reserve
+  pub tray-copied : {i : ℕ} {l : List ℕ} (a : A) → Copied (written a) before i l → i ≡ reserve
+      → length (written a) ≡ reserve
       → l ≡ tray written reserve (given a) before
-  tray-copied a c e h = c .is ∙ simp (e, take-all reserve (written a) (omega arith), tray-full written reserve before a h)
+  tray-copied a c e h =
+      c .is ∙ simp (e, take-all reserve (written a) (omega arith), tray-full written reserve before a h)

@@ -1,5 +1,6 @@
--- Functions of lists that definitions of several crates cite: folds, the items that pass a test, a list over the front of another, the
--- reverse, the last, the sort of numbers, and how often a number stands in a list. Definitions only. Assumes nothing.
+-- Functions of lists that definitions of several crates cite: folds, the items that pass a test, a list over the front
+-- of another, the reverse, the last, the sort of numbers, and how often a number stands in a list. Definitions only.
+-- Assumes nothing.
 use Prim.Native.Nat.{ℕ, _+_}
 use mathlib.Core.Bool.{Bool, cond}
 use mathlib.Core.List.{List, [], _∷_, _++_}

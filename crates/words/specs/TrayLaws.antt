@@ -7,7 +7,8 @@ use native.Mathlib.Nat.{sub-self, add-sub-of-le}
 use native.Mathlib.Omega.{arith}
 use borrow.Author.Tests.{le-leb, lt-leb}
 use lib.Dec.{leb}
-use lib.ListN.{length, take, drop, replicate, getD, length-append, length-drop, length-replicate, getD-replicate, take-append-drop, List·getD-append}
+use lib.ListN.{length, take, drop, replicate, getD, length-append, length-drop, length-replicate, getD-replicate}
+use lib.ListN.{take-append-drop, List·getD-append}
 use lib.Seq.{length-take-le, take-at, getD-append-add, getD-drop}
 use Rattle.words.specs.Answers.{Answer, given, refused}
 use Rattle.words.specs.Tray.{front, tray}
@@ -30,24 +31,29 @@ module _ {A : Type 0} (written : A → List ℕ) (reserve : ℕ) (before : List 
   unfolding tray
   tray-late n i h k =
       simp (lt-leb n 4 h)
-      (List·getD-append (replicate reserve 0) (drop reserve before) 0 i (rw length-replicate k) ∙ getD-replicate reserve i 0 0 k)
+      (List·getD-append (replicate reserve 0) (drop reserve before) 0 i (rw length-replicate k)
+      ∙ getD-replicate reserve i 0 0 k)
 
   -- acceptance writes its words, and zeros after them
-  pub tray-given : (a : A) (i : ℕ) → i < length (written a) → getD (tray written reserve (given a) before) i 0 ≡ getD (written a) i 0
+  pub tray-given : (a : A) (i : ℕ) → i < length (written a)
+      → getD (tray written reserve (given a) before) i 0 ≡ getD (written a) i 0
   unfolding tray
   tray-given a i h =
       List·getD-append (front reserve (written a)) (drop reserve before) 0 i (simp length-append (omega arith))
       ∙ List·getD-append (written a) (replicate (reserve - length (written a)) 0) 0 i h
 
-  pub tray-rest : (a : A) (i : ℕ) → length (written a) ≤ i → i < reserve → getD (tray written reserve (given a) before) i 0 ≡ 0
+  pub tray-rest : (a : A) (i : ℕ) → length (written a) ≤ i → i < reserve
+      → getD (tray written reserve (given a) before) i 0 ≡ 0
   unfolding tray
   tray-rest a i h k =
-      List·getD-append (front reserve (written a)) (drop reserve before) 0 i (simp (length-append, length-replicate) (omega arith))
+      List·getD-append (front reserve (written a)) (drop reserve before) 0 i
+      (simp (length-append, length-replicate) (omega arith))
       ∙ behind (written a) (replicate (reserve - length (written a)) 0) i h
       ∙ getD-replicate (reserve - length (written a)) (i - length (written a)) 0 0 (omega arith)
 
   -- words that fill the reserve
-  pub tray-full : (a : A) → length (written a) ≡ reserve → tray written reserve (given a) before ≡ written a ++ drop reserve before
+  pub tray-full : (a : A) → length (written a) ≡ reserve
+      → tray written reserve (given a) before ≡ written a ++ drop reserve before
   unfolding tray
   tray-full a e = simp (e, sub-self, append-nil)
 
@@ -58,11 +64,14 @@ module _ {A : Type 0} (written : A → List ℕ) (reserve : ℕ) (before : List 
   tray-is (given a) fits room = (front reserve (written a), front-length (written a) reserve (fits a refl), refl)
   tray-is (refused n) fits room = go (leb n 4)
     where
-      go : (b : Bool) → (l : List ℕ) × (length l ≡ reserve) × (cond b before (replicate reserve 0 ++ drop reserve before) ≡ l ++ drop reserve before)
+      go : (b : Bool)
+          → (l : List ℕ) × (length l ≡ reserve)
+          × (cond b before (replicate reserve 0 ++ drop reserve before) ≡ l ++ drop reserve before)
       go true = (take reserve before, length-take-le reserve before room, sym (take-append-drop reserve before))
       go false = (replicate reserve 0, length-replicate reserve 0, refl)
 
-  module _ (answer : Answer A) (fits : (a : A) → answer ≡ given a → length (written a) ≤ reserve) (room : reserve ≤ length before) where
+  module _ (answer : Answer A) (fits : (a : A) → answer ≡ given a → length (written a) ≤ reserve)
+      (room : reserve ≤ length before) where
     pub tray-length : length (tray written reserve answer before) ≡ length before
     tray-length =
         let (l, e, is) = tray-is answer fits room in

@@ -1,19 +1,15 @@
 -- The test of the room decides between all of the digits and none. Assumes nothing.
 use mathlib.Core.Path.{sym, _∙_}
 use borrow.Author.Needs.{needs}
-use borrow.Author.Tests.{leb-true}
 use Rattle.text.specs.Text.{decimalBytes}
-use Rattle.text.proofs.PutLaws.{put-all, put-none, length-decimal}
+use Rattle.text.proofs.PutLaws.{room-told, put-all, put-none, length-decimal}
 use Rattle.text.proofs.put_decimal.Statement.{statement}
 use Rattle.text.proofs.put_decimal.Tie as tie
 
 lay-digits-requires : tie.Need-lay-digits-requires
-lay-digits-requires c κs = (
-  search needs,
-  search needs,
-  leb-true _ _
-      (sym (c .before .before .fits2 .ensures) ∙ c .before .if1 .taken),
-)
+lay-digits-requires c κs =
+    let tested = c .before in
+    (search needs, search needs, room-told (tested .before .fits2 .ensures) (tested .if1 .taken))
 
 returns : tie.Need-returns
 unfolding decimalBytes

@@ -1,5 +1,6 @@
--- `packed_bvh::pack::pack_nodes` meets its contract: the header, then node behind node (Packing), or zeros at the first node that is refused. Assumes nothing.
-use Prim.Native.Nat.{_+_, _*_, _-_, _≤_, _<_}
+-- `packed_bvh::pack::pack_nodes`: after i turns the words of i nodes stand behind the header (Packing); the first node
+-- that is refused zeroes them all. Assumes nothing.
+use Prim.Native.Nat.{_*_, _-_, _≤_, _<_}
 use mathlib.Core.Path.{_≡_, refl, ap, sym, _∙_}
 use denote.Ref.{now}
 use native.Mathlib.Omega.{arith}
@@ -9,7 +10,8 @@ use Rattle.words.specs.LittleEndian.{wordsOf}
 use Rattle.words.specs.Refusals.{number}
 use Rattle.packed_bvh.specs.Packed.{packedPlace, packedReserve}
 use Rattle.packed_bvh.specs.PackedParts.{compactList, nodePacked}
-use Rattle.packed_bvh.proofs.PackLaws.{Packing, packing-none, packing-one, packing-length, reserve-some, reserve-small, outcome-refused, outcome-given}
+use Rattle.packed_bvh.proofs.PackLaws.{Packing, packing-none, packing-one, packing-length, reserve-some}
+use Rattle.packed_bvh.proofs.PackLaws.{reserve-small, outcome-refused, outcome-given}
 use Rattle.packed_bvh.proofs.pack.pack_nodes.Statement.{statement}
 use Rattle.packed_bvh.proofs.pack.pack_nodes.Tie as tie
 
@@ -43,7 +45,8 @@ write-header-requires c κs =
     omega (arith, reserve s, s .pre .1 .1, s .pre .1 .0)
 
 -- a turn: the node's place, and the limit
-turn : (c : tie.In-loop Inv-loop μ-loop) → (c .before .loop .i < start (c .before) .args .n) × (start (c .before) .args .n ≤ 8191)
+turn : (c : tie.In-loop Inv-loop μ-loop)
+    → (c .before .loop .i < start (c .before) .args .n) × (start (c .before) .args .n ≤ 8191)
 turn c = (c .loop-test .taken, start (c .before) .pre .0)
 
 loop-holds : tie.Need-loop-holds Inv-loop μ-loop
@@ -74,6 +77,11 @@ loop-again c =
 abbrev refusing : tie.After-reserve Inv-loop μ-loop → tie.In-loop Inv-loop μ-loop
 refusing c = c .before .before .before .before .before .before
 
+reserve-requires : tie.Need-reserve-requires Inv-loop μ-loop
+reserve-requires c κs =
+    let in-loop = c .before .before .before .before .before in
+    start (in-loop .before) .pre .0
+
 mul-zero-bytes : tie.Need-mul-zero-bytes Inv-loop μ-loop
 mul-zero-bytes c =
     let s = start (refusing c .before) in
@@ -100,29 +108,35 @@ returns c =
     let at = in-loop .before in
     let s = start at in
     let told = sym (why .before .before .pack-node .ensures) ∙ ap nodePacked (why .why .given .1) in
-    outcome-refused (s .args .all) (wordsOf (now (s .args .nodes))) (s .args .n) (now (s .args .out)) (s .pre .1 .0) (s .pre .1 .1)
-    (at .before .before .before .write-header .ensures) (at .loop .inv .1) (number (why .why .given .0 .0)) (turn in-loop .0) told
+    outcome-refused (s .args .all) (wordsOf (now (s .args .nodes))) (s .args .n) (now (s .args .out)) (s .pre .1 .0)
+    (s .pre .1 .1)
+    (at .before .before .before .write-header .ensures) (at .loop .inv .1) (number (why .why .given .0 .0))
+    (turn in-loop .0) told
     (rw (← zeroed .before .reserve .ensures) (zeroed .zero-bytes .ensures))
 
 same-length-2 : tie.Need-same-length-2 Inv-loop μ-loop
 same-length-2 c =
     let at = c .before .before in
     let args = start at .args in
-    packing-length (args .all) (wordsOf (now (args .nodes))) (args .n) (at .loop .inv .1) ∙ at .before .before .before .write-header .kept .0
+    packing-length (args .all) (wordsOf (now (args .nodes))) (args .n) (at .loop .inv .1)
+    ∙ at .before .before .before .write-header .kept .0
 
 returns-2 : tie.Need-returns-2 Inv-loop μ-loop
 returns-2 c =
     let at = c .before .before in
     let s = start at in
     rw (c .reserve2 .ensures)
-    (outcome-given (s .args .all) (wordsOf (now (s .args .nodes))) (s .args .n) (now (s .args .out)) (s .pre .1 .0) (s .pre .1 .1)
-    (at .before .before .before .write-header .ensures) (at .loop .inv .1) (omega (arith, at .loop .inv .0, c .before .loop-test .left)))
+    (outcome-given (s .args .all) (wordsOf (now (s .args .nodes))) (s .args .n) (now (s .args .out)) (s .pre .1 .0)
+    (s .pre .1 .1)
+    (at .before .before .before .write-header .ensures) (at .loop .inv .1)
+    (omega (arith, at .loop .inv .0, c .before .loop-test .left)))
 
 pub pack-nodes-spec : {M : Type 1} → statement M
 pack-nodes-spec =
     tie.close (tie.spec Inv-loop μ-loop write-header-requires loop-holds pack-node-requires (λ c. search needs)
     (λ c. omega (arith, turn (writing c))) (λ c. omega (arith, turn (writing c)))
     (λ c κs. omega (arith, turn (writing c), room (writing c .before)))
-    (λ c. omega (arith, turn (writing (c .before .before .before)))) (λ c. omega (arith, turn (writing (c .before .before .before)))) loop-again
-    (λ c. search needs) (λ c κs. start (c .before .before .before .before .before .before) .pre .0) mul-zero-bytes zero-bytes-requires same-length returns
+    (λ c. omega (arith, turn (writing (c .before .before .before))))
+    (λ c. omega (arith, turn (writing (c .before .before .before)))) loop-again
+    (λ c. search needs) reserve-requires mul-zero-bytes zero-bytes-requires same-length returns
     (λ c κs. start (c .before) .pre .0) same-length-2 returns-2)

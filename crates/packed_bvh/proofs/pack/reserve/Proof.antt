@@ -1,5 +1,5 @@
--- `packed_bvh::pack::reserve` meets its contract: eight words of header and eight a node, none without nodes. Assumes nothing.
-use Prim.Native.Nat.{ℕ, zero, suc, _+_, _*_}
+-- `packed_bvh::pack::reserve`: header and nodes end at the place behind the last node; none without nodes. Assumes nothing.
+use Prim.Native.Nat.{ℕ, zero, suc}
 use mathlib.Core.Path.{_≡_, refl}
 use borrow.Author.Needs.{needs}
 use Rattle.packed_bvh.specs.Packed.{packedPlace, packedReserve}
