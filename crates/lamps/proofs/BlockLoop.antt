@@ -3,6 +3,7 @@ use Prim.Native.Nat.{ℕ, suc, _+_, _*_, _≤_, _<_}
 use mathlib.Core.Path.{_≡_, refl, ap, sym, _∙_}
 use mathlib.Core.List.{List, [], _∷_, _++_, append-nil}
 use native.Mathlib.Omega.{arith}
+use borrow.Author.Tests.{le-leb}
 use lib.ListN.{length, getD, set, drop, length-set, length-append}
 use lib.Seq.{sets, set-set, length-sets}
 use Rattle.words.specs.Answers.{given, refused, count}
@@ -13,7 +14,7 @@ use Rattle.words.specs.TrayLaws.{tray-full}
 use Rattle.words.proofs.Reserves.{tray-zeroed}
 use Rattle.words.proofs.RowLaws.{Written, written-none, written-one, written-under, written-behind, Walked, walked-none, walked-one, walked-refused, walked-all}
 use Rattle.light_bounds.specs.declared.light_bounds.LightBounds.{LightBounds}
-use Rattle.light_rows.specs.Block.{boundsWords, boundsRow, blockWords, handlePlace, packExhaustiveBounds}
+use Rattle.light_rows.specs.Block.{boundsWords, boundsRow, blockWords, handlePlace, rowWritten, packExhaustiveBounds}
 use Rattle.lamps.specs.Build.{Passed, nextBounds, buildLightBounds}
 use Rattle.lamps.specs.LampList.{lampList}
 use Rattle.lamps.proofs.BuildLaws.{list-counted, build-refused, build-given, row-width, length-block}
@@ -40,21 +41,28 @@ taking-none list m d few room =
           rw set-set at (written-none boundsRow boundsWords row-width (m ∷ []) (set d 0 m) (rw length-set (omega arith)));
     }
 
+-- a row that fits is written
+row-written : (ws : List ℕ) (i : ℕ) (b : LightBounds) → handlePlace i + boundsWords ≤ length ws
+    → rowWritten ws i b ≡ sets ws (handlePlace i) (boundsRow i b)
+unfolding rowWritten
+row-written ws i b h = rw (le-leb (handlePlace i + boundsWords) (length ws) h)
+
 module _ {list : List ℕ} {m : ℕ} {block₀ block : List ℕ} {place at : ℕ} (t : Taking list m block₀ block place at) where
   pub taking-next : (p : Passed) → place < m → nextBounds list at ≡ given p
-      → Taking list m block₀ (sets block (handlePlace place) (boundsRow place (p .bounds))) (place + 1) (p .next .at)
+      → Taking list m block₀ (rowWritten block place (p .bounds)) (place + 1) (p .next .at)
   taking-next p h e =
       let n : length (t .done) ≡ place = t .walked .size in
+      let put = row-written block place (p .bounds) (omega (arith, t .room)) in
       let behind : 1 + boundsWords * length (t .done) ≡ handlePlace place = ap (λ (k : ℕ). 1 + boundsWords * k) n in
       let row = written-one boundsRow boundsWords row-width (p .bounds) (handlePlace place) (t .written) behind
       (omega (arith, t .room, t .written .same)) in
       record {
         few = t .few;
-        room = rw length-sets (t .room);
+        room = rw (put, length-sets) (t .room);
         within = omega arith;
         done = t .done ++ p .bounds ∷ [];
         walked = walked-one (boundsWalk list) p (t .walked) h e;
-        written = rw n at row;
+        written = rw put (rw n at row);
       }
 
 module _ (d : List ℕ) {list l : List ℕ} {m place at : ℕ} (t : Taking list m (set d 0 m) l place at) (counted : count (lampList list) ≡ given m)

@@ -51,7 +51,7 @@ pub fn build_light_bounds(list: &[u32], block: &mut [u32]) -> Counted
 {
     match check_list(list) {
         Counted::Count(m) => {
-            if block.len() < block_words(m) {
+            if block.len() < block_words(m as u32) {
                 return Counted::Refused(Refusal::ShortTray);
             }
             write_block(list, m, block)
@@ -78,7 +78,7 @@ fn write_block(list: &[u32], m: usize, block: &mut [u32]) -> Counted
                 cursor = next;
             }
             Next::Refused(why) => {
-                zero_words(block, 0, block_words(m));
+                zero_words(block, 0, block_words(m as u32));
                 return Counted::Refused(why);
             }
         }

@@ -174,7 +174,7 @@ fn table_leaves(nodes: &[u32], n: usize, table: &mut [u32])
 {
     let mut i: u32 = 0;
     while wide(i) < n {
-        let head = head_at(nodes, wide(i));
+        let head = head_at(nodes, i);
         if kind_of(head) == 1 {
             let handle = wide(handle_of(head));
             if handle < table.len() {

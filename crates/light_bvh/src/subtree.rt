@@ -59,7 +59,7 @@ fn union_children(nodes: &[u32], right: usize) -> Bounded
     ensures { λ r. ⌜ bounded r ≡ unionAt (now (nodes .entry)) right ⌝ }
 {
     let left_bounds = bounds_in(nodes, 1);
-    let right_bounds = bounds_in(nodes, right);
+    let right_bounds = bounds_in(nodes, right as u32);
     union(left_bounds, right_bounds)
 }
 

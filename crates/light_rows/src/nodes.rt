@@ -3,7 +3,7 @@
 ghost use mathlib.Core.Path.{_≡_};
 ghost use mathlib.Core.Bool.{cond};
 ghost use mathlib.Core.List.{_∷_};
-ghost use Prim.Native.Nat.{_*_, _+_, _^_, _≤_, _<_};
+ghost use Prim.Native.Nat.{_*_, _+_, _≤_};
 ghost use lib.ListN.{length, getD};
 ghost use lib.Seq.{sets};
 ghost use Rattle.words.specs.Answers.{counted};
@@ -22,6 +22,8 @@ use words::answers::Counted;
 use words::heads::handle_of;
 use words::heads::kind_of;
 use words::little_endian::word_at;
+use words::places::wide;
+use words::places::word_or_zero;
 use words::refusals::Refusal;
 
 // The places of a node's parts behind its head.
@@ -151,22 +153,20 @@ pub fn write_interior(
     )
 }
 
-// ---- read back while the tree is built, from words
+// ---- read back while the tree is built, from words: those past the end are 0
 
 // The head of the node at a place.
-pub fn head_at(nodes: &[u32], place: usize) -> u32
-    requires { ⌜ nodePlace place < length (now nodes) ⌝ }
+pub fn head_at(nodes: &[u32], place: u32) -> u32
     ensures { λ r. ⌜ r ≡ getD (now (nodes .entry)) (nodePlace place) 0 ⌝ }
 {
-    nodes[NODE_WORDS * place]
+    word_or_zero(nodes, NODE_WORDS * wide(place))
 }
 
-// The record of the node at a place, words past the end as 0.
-pub fn bounds_in(nodes: &[u32], place: usize) -> LightBounds
-    requires { ⌜ place < 2 ^ 30 ⌝ }
+// The record of the node at a place.
+pub fn bounds_in(nodes: &[u32], place: u32) -> LightBounds
     ensures { λ r. ⌜ r ≡ readRecord (now (nodes .entry)) (boundsPlace place) ⌝ }
 {
-    record_or_zeros(nodes, NODE_WORDS * place + BOUNDS_PLACE)
+    record_or_zeros(nodes, NODE_WORDS * wide(place) + BOUNDS_PLACE)
 }
 
 // ---- reading, from little-endian bytes

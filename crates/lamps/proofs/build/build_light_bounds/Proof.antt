@@ -45,6 +45,6 @@ returns-3 c =
 
 pub build-light-bounds-spec : {M : Type 1} → statement M
 build-light-bounds-spec =
-    tie.close (tie.spec (λ c κs. search needs) (λ c. search needs) (λ c κs. omega (arith, few c)) returns
+    tie.close (tie.spec (λ c κs. search needs) (λ c. search needs) (λ c. omega (arith, few c)) (λ c κs. search needs) returns
     (λ c κs. (read (c .before .before .before), omega (arith, c .before .before .block-words .ensures))) (λ c. search needs) (λ c. search needs)
     (λ c. search needs) returns-3)

@@ -66,5 +66,6 @@ returns-2 c = taking-all (now (c .before .before .before .before .before .args .
 pub write-block-spec : {M : Type 1} → statement M
 write-block-spec =
     tie.close (tie.spec Inv-loop μ-loop cast-block (λ c. omega (arith, c .before .before .pre .1)) (λ c κs. search needs) loop-holds
-    (λ c κs. search needs) (λ c. search needs) (λ c. omega arith) (λ c κs. omega arith) (λ c. search needs) (λ c κs. omega arith)
-    (λ c κs. omega (arith, c .block-words .ensures)) same-length returns (λ c. omega arith) (λ c. omega arith) loop-again same-length-2 returns-2)
+    (λ c κs. search needs) (λ c. search needs) (λ c. omega arith) (λ c κs. search needs) (λ c. search needs) (λ c. omega arith)
+    (λ c κs. search needs) (λ c κs. omega (arith, c .block-words .ensures)) same-length returns (λ c. omega arith) (λ c. omega arith)
+    loop-again same-length-2 returns-2)

@@ -26,14 +26,13 @@ loop-holds c = (omega arith, refl, refl)
 
 loop-again : tie.Need-loop-again Inv-loop μ-loop
 loop-again c =
-    let at = c .before .before .before in
+    let at = c .before .before in
     let loop = at .before .before .before .loop in
     let args = at .before .before .before .before .before .before .args in
     let nodes = now (args .nodes) in
     let table = now (args .table) in
     let i = loop .i in
-    let place : c .before .before .head-at .result ≡ getD nodes (nodePlace i) 0 =
-    c .before .before .head-at .ensures ∙ ap (λ (k : ℕ). getD nodes (nodePlace k) 0) (at .wide2 .ensures) in
+    let place : at .head-at .result ≡ getD nodes (nodePlace i) 0 = at .head-at .ensures in
     let kind : kindOf (getD nodes (nodePlace i) 0) ≡ c .before .kind-of .result = sym (c .before .kind-of .ensures ∙ ap kindOf place) in
     ⊎-elim
     (λ w.
@@ -64,6 +63,6 @@ returns c =
 
 pub table-leaves-spec : {M : Type 1} → statement M
 table-leaves-spec =
-    tie.close (tie.spec Inv-loop μ-loop loop-holds (λ c κs. search needs) (λ c κs. search needs) (λ c κs. omega (arith, c .wide2 .ensures))
-    (λ c κs. search needs) (λ c κs. search needs) (λ c κs. search needs) (λ c. search needs) (λ c. omega arith) (λ c. omega arith)
+    tie.close (tie.spec Inv-loop μ-loop loop-holds (λ c κs. search needs) (λ c κs. search needs) (λ c κs. search needs)
+    (λ c κs. search needs) (λ c κs. search needs) (λ c. search needs) (λ c. omega arith) (λ c. omega arith)
     (λ c. omega arith) loop-again (λ c. c .before .before .loop .inv .1) returns)
