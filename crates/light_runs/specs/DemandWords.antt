@@ -1,4 +1,4 @@
--- The words in which demand 3 is said, as document 01's last paragraph of the Agreement explains them; those of the
+-- The words in which demand 3 is said, as docs/REQUIREMENTS.md R8 explains them; those of the
 -- nodes and the table alone stand in tree_laws TreeWords. Definitions only. Assumes nothing.
 use Prim.Native.Nat.{ℕ}
 use mathlib.Core.Path.{_≡_}

@@ -67,7 +67,7 @@ impl std::fmt::Display for Search {
     }
 }
 
-/// What of the last paragraph of demand 3 is not so: 2k - 1 nodes, each reached once by child words from the first; a leaf for each lamp with
+/// What of R8.5 to R8.7 is not so: 2k - 1 nodes, each reached once by child words from the first; a leaf for each lamp with
 /// power, where the table says, and no other; each box holds its children's. And each child's parent word is right.
 pub fn shape_flaw(records: &[Record], words: &Words) -> Option<&'static str> {
     let powered = |record: &Record| f32::from_bits(record[9]) > 0.0;

@@ -1,5 +1,5 @@
--- `light_bvh::subtree::union_children` meets its contract: the union of the records as they are read. Assumes nothing.
-use Rattle.light_bvh.specs.Subtree.{unionAt}
+-- `light_bvh::subtree::union_children`: the union of the records as they are read. Assumes nothing.
+use Rattle.light_bvh.specs.AsCoded.Stretches.{unionAt}
 use native.Mathlib.Omega.{arith}
 use borrow.Author.Needs.{needs}
 use Rattle.light_bvh.proofs.subtree.union_children.Statement.{statement}

@@ -1,4 +1,4 @@
--- `light_report::lines::float_at` meets its contract: the word, then its float. Assumes nothing.
+-- `light_report::lines::float_at`: the word, then its float. Assumes nothing.
 use borrow.Author.Needs.{needs}
 use Rattle.light_report.proofs.lines.float_at.Statement.{statement}
 use Rattle.light_report.proofs.lines.float_at.Tie as tie

@@ -1,4 +1,4 @@
--- `light_report::lines::group_query` meets its contract: float by float. Assumes nothing.
+-- `light_report::lines::group_query`: float by float. Assumes nothing.
 use borrow.Author.Needs.{needs}
 use Rattle.light_rows.specs.RecordWords.{vecAt}
 use Rattle.light_report.proofs.lines.group_query.Statement.{statement}
@@ -13,5 +13,6 @@ returns c =
 
 pub group-query-spec : {M : Type 1} → statement M
 group-query-spec =
-    tie.close (tie.spec (λ c κs. search needs) (λ c κs. search needs) (λ c κs. search needs) (λ c κs. search needs) (λ c κs. search needs)
+    tie.close (tie.spec (λ c κs. search needs) (λ c κs. search needs) (λ c κs. search needs) (λ c κs. search needs)
+    (λ c κs. search needs)
     (λ c κs. search needs) returns)

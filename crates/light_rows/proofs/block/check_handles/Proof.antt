@@ -29,8 +29,18 @@ loop-again c =
     let loop = read .before .before .before .loop in
     let block = now (read .before .before .before .before .before .before .before .args .block) in
     let handle : c .before .wide2 .result ≡ getD block (handlePlace (loop .i)) 0 =
-    c .before .wide2 .ensures ∙ read .word-or-zero2 .ensures ∙ ap (λ (k : ℕ). getD block k 0) (read .before .block-words .ensures) in
-    (loop .inv .0, loop .inv .1, omega arith, rw (below-next (handleAt block) (loop .i), loop .inv .3, eq-eqb _ _ (sym handle ∙ c .if1 .taken)))
+    c .before .wide2 .ensures ∙ read .word-or-zero2 .ensures ∙
+    ap (λ (k : ℕ). getD block k 0) (read .before .block-words .ensures) in (
+      loop .inv .0,
+      loop .inv .1,
+      omega arith,
+      rw (
+        below-next (handleAt block) (loop .i),
+        loop .inv .3,
+        eq-eqb _ _
+            (sym handle ∙ c .if1 .taken),
+      ),
+    )
 
 returns : tie.Need-returns Inv-loop μ-loop
 unfolding blockHandles
@@ -39,7 +49,8 @@ returns c =
     let loop = read .before .before .before .loop in
     let block = now (read .before .before .before .before .before .before .before .args .block) in
     let handle : c .before .wide2 .result ≡ getD block (handlePlace (loop .i)) 0 =
-    c .before .wide2 .ensures ∙ read .word-or-zero2 .ensures ∙ ap (λ (k : ℕ). getD block k 0) (read .before .block-words .ensures) in
+    c .before .wide2 .ensures ∙ read .word-or-zero2 .ensures ∙
+    ap (λ (k : ℕ). getD block k 0) (read .before .block-words .ensures) in
     rw (below-false (handleAt block) (getD block 0 0) (loop .i) (omega (arith, loop .inv .0))
     (ne-eqb _ _ (λ e. c .if1 .left (handle ∙ e))))
 

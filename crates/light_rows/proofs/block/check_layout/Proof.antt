@@ -21,7 +21,11 @@ returns-2 c =
     let block = now (test .before .before .before .args .block) in
     let m = words .before .wide .ensures ∙ words .before .before .word-or-zero .ensures in
     rw (← test .before .crowded .ensures, test .if1 .left)
-    (rw (eq-eqb (length block) (blockWords (getD block 0 0)) (omega (arith, m, words .block-words .ensures, c .before .if2 .taken)), ← m)
+    (rw (
+      eq-eqb (length block) (blockWords (getD block 0 0))
+          (omega (arith, m, words .block-words .ensures, c .before .if2 .taken)),
+      ← m,
+    )
     (c .check-sides .ensures))
 
 returns-3 : tie.Need-returns-3
@@ -32,7 +36,8 @@ returns-3 c =
     let block = now (test .before .before .before .args .block) in
     let m = words .before .wide .ensures ∙ words .before .before .word-or-zero .ensures in
     rw (← test .before .crowded .ensures, test .if1 .left)
-    (rw (ne-eqb (length block) (blockWords (getD block 0 0)) (λ e. c .if2 .left (omega (arith, e, m, words .block-words .ensures)))))
+    (rw (ne-eqb (length block) (blockWords (getD block 0 0))
+    (λ e. c .if2 .left (omega (arith, e, m, words .block-words .ensures)))))
 
 pub check-layout-spec : {M : Type 1} → statement M
 check-layout-spec =

@@ -29,7 +29,8 @@ loop-again c =
     let place = c .before .before .before in
     let loop = place .before .before .loop in
     let block = now (place .before .before .before .before .args .block) in
-    let known = c .before .is-side .ensures ∙ ap (λ (k : ℕ). sideKnown (getD block (sidePlace k) 0)) (place .record-place .ensures) in (
+    let known = c .before .is-side .ensures ∙
+    ap (λ (k : ℕ). sideKnown (getD block (sidePlace k) 0)) (place .record-place .ensures) in (
       loop .inv .0,
       loop .inv .1,
       omega arith,
@@ -41,7 +42,8 @@ returns c =
     let place = c .before .before .before in
     let args = place .before .before .before .before .args in
     let block = now (args .block) in
-    let known = c .before .is-side .ensures ∙ ap (λ (k : ℕ). sideKnown (getD block (sidePlace k) 0)) (place .record-place .ensures) in
+    let known = c .before .is-side .ensures ∙
+    ap (λ (k : ℕ). sideKnown (getD block (sidePlace k) 0)) (place .record-place .ensures) in
     rw (below-false (sideAt block) (args .m) (place .before .before .loop .i) (omega arith) (sym known ∙ c .if1 .left))
 
 returns-2 : tie.Need-returns-2 Inv-loop μ-loop
@@ -53,5 +55,6 @@ returns-2 c =
 
 pub check-sides-spec : {M : Type 1} → statement M
 check-sides-spec =
-    tie.close (tie.spec Inv-loop μ-loop loop-holds (λ c κs. omega (arith, c .before .loop .inv .0)) (λ c. search needs) (λ c. search needs)
+    tie.close (tie.spec Inv-loop μ-loop loop-holds (λ c κs. omega (arith, c .before .loop .inv .0)) (λ c. search needs)
+    (λ c. search needs)
     (λ c. search needs) (λ c κs. search needs) (λ c. search needs) (λ c. search needs) loop-again returns returns-2)

@@ -7,7 +7,7 @@ use lib.ListN.{set, length-set}
 use lib.Seq.{sets}
 use Rattle.light_rows.specs.Block.{handlePlace, recordPlace}
 use Rattle.light_rows.specs.RecordWords.{recordList}
-use Rattle.light_rows.specs.RecordPlaces.{writtenAt-sets}
+use Rattle.light_rows.specs.Laws.RecordPlaces.{writtenAt-sets}
 use borrow.Author.Needs.{needs}
 use Rattle.light_rows.proofs.block.write_row.Statement.{statement}
 use Rattle.light_rows.proofs.block.write_row.Tie as tie
@@ -28,9 +28,11 @@ returns c =
 same-length : tie.Need-same-length
 same-length c =
     let first = c .before .before .before .before .before .before in
-    c .before .before .write-record .kept .0 ∙ length-set (now (first .before .before .before .args .block)) (first .block-words .result) _
+    c .before .before .write-record .kept .0 ∙
+    length-set (now (first .before .before .before .args .block)) (first .block-words .result) _
 
 pub write-row-spec : {M : Type 1} → statement M
 write-row-spec =
-    tie.close (tie.spec (λ c κs. search needs) (λ c κs. search needs) (λ c. search needs) (λ c. search needs) (λ c κs. search needs)
+    tie.close (tie.spec (λ c κs. search needs) (λ c κs. search needs) (λ c. search needs) (λ c. search needs)
+    (λ c κs. search needs)
     (λ c κs. search needs) (λ c κs. search needs) same-length returns)

@@ -16,7 +16,7 @@ macro_rules! refusals {
     ($($number:literal $($name:ident =)? $message:literal;)*) => {
         $($(pub const $name: &str = $message;)?)*
 
-        /// Document 01's number for each error that the functions here can give.
+        /// The number (R11) for each error that the functions here can give.
         pub const REFUSALS: &[(&str, u32)] = &[$(($message, $number)),*];
     };
 }
@@ -89,10 +89,10 @@ pub(crate) fn lost(_: PbrtError) -> PbrtError {
 /// "a union's operand fails its check": any error of a union.
 pub const LOST_UNION: u32 = 10;
 
-/// "side unknown": document 01's own, since Rust's side is a bool. It comes before Rust's order.
+/// "side unknown": ours alone (R11.1), since Rust's side is a bool. It comes before Rust's order.
 pub const RAGGED: u32 = 1;
 
-/// "over 4,096 lamps by word 0, weights"; "a lent output or work slice is under its reserve": document 01's own.
+/// "over 4,096 lamps by word 0, weights"; "a lent output or work slice is under its reserve": ours alone (R11.2, R11.3).
 pub const CROWDED: u32 = 2;
 pub const SHORT_TRAY: u32 = 3;
 
