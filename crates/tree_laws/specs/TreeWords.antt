@@ -1,5 +1,5 @@
--- What demand 3 says of the nodes and the handle table that build leaves, as document 01's last paragraph of the
--- Agreement explains it; light_runs DemandWords has the words on draws. Definitions only. Assumes nothing.
+-- What demand 3 says of the nodes and the handle table that build leaves, as docs/REQUIREMENTS.md R8
+-- explains it; light_runs DemandWords has the words on draws. Definitions only. Assumes nothing.
 use Prim.Native.Nat.{ℕ, zero, suc, _+_}
 use mathlib.Core.Path.{_≡_}
 use mathlib.Core.Bool.{cond}

@@ -3,7 +3,7 @@ use Rattle.words.specs.Answers.{Answer, given, refused}
 use Rattle.words.specs.Refusals.{number}
 use Rattle.light_bounds.specs.declared.importance.View.{View}
 use Rattle.light_bounds.specs.declared.importance.View.the-variants.{Dark, Lit, Facing, Refused as View·Refused}
-use Rattle.light_bounds.specs.Importance.{Seen}
+use Rattle.light_bounds.specs.Importance.{Seen, dark, lit, facing}
 
 -- what the code's view answers
 abbrev pub viewed : View → Answer Seen

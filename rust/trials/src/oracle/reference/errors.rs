@@ -1,4 +1,4 @@
-//! The errors of the reference and document 01's numbers for them.
+//! The errors of the reference and the numbers of docs/REQUIREMENTS.md R11 for them.
 
 use super::branches::mark_error;
 
@@ -51,7 +51,7 @@ refusals! {
     12 CHILDLESS_PARENT = "Light BVH PMF parent has no right child.";
     12 NOT_OWNED = "Light BVH PMF child is not owned by its parent.";
     12 SPENT_CHANCE = "Light BVH PMF exceeded its node limit.";
-    // document 01's own: no node of the Rust has such words
+    // ours alone (R11.12): no node of the Rust has such words
     12 UNKNOWN_NODE = "the node entered has an unknown kind";
     12 UNKNOWN_PARENT = "the parent has an unknown kind";
     12 UNKNOWN_SIDE = "the node weighed has an unknown side";
@@ -64,7 +64,7 @@ refusals! {
     13 "Light BVH payload exceeds the 31-bit packed index limit.";
     12 "Light BVH node {index} has an invalid parent.";
     12 "Light BVH nodes do not satisfy the DFS left-child invariant.";
-    // document 01's own
+    // ours alone
     12 PACKED_UNKNOWN_NODE = "a packed node has an unknown kind";
     12 PACKED_UNKNOWN_SIDE = "a packed node has an unknown side";
 }

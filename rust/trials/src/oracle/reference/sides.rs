@@ -118,7 +118,7 @@ macro_rules! files {
     };
 }
 
-/// The reference over document 01's library functions.
+/// The reference over the library functions of R2.
 #[allow(dead_code, clippy::all)]
 pub mod oracle {
     pub use super::INVALID_INDEX;
