@@ -1,6 +1,7 @@
-//! `bench PART`: the proved functions timed beside Rust's own or beside the reference with Rust's own library functions, on the same inputs
-//! by the same driver. The table below is what `bench --help` shows. It is a program and no part of the library, so that the compiler
-//! sees no more of a proved function's wrapper than whoever links it does.
+//! `bench PART`: the proved functions timed beside Rust's own or beside the reference with Rust's own library
+//! functions, on the same inputs by the same driver. The table below is what `bench --help` shows. It is a
+//! program and no part of the library, so that the compiler sees no more of a proved function's wrapper than
+//! whoever links it does.
 
 mod floats;
 #[cfg(reference)]
