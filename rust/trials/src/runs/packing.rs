@@ -1,5 +1,5 @@
-//! Runs of the proved packing against the oracle, over built and damaged words with the box, k, the lengths and the tray changed too,
-//! counted by how each case ended. What is packed is also read back.
+//! Runs of the proved packing against the oracle, over built and damaged words with the box, k, the lengths
+//! and the tray changed too, counted by how each case ended. What is packed is also read back.
 
 use super::progress::Progress;
 use super::tally::{self, OWN, Tally};
@@ -47,7 +47,7 @@ impl Reason {
     }
 }
 
-/// Every reason of a node, in R9.3's order; of the record's own check the first. Written apart from the oracle.
+/// Every reason of a node, in document 01's order; of the record's own check the first. Written apart from the oracle.
 fn reasons(node: &[u32; NODE], index: usize, count: usize) -> Vec<Reason> {
     let (kind, payload, [right, parent]) = (node[0] & !PAYLOAD, node[0] & PAYLOAD, [node[1], node[2]]);
     let mut record: Record = node[3..].try_into().unwrap();
@@ -77,7 +77,8 @@ fn box_reason(all: &Corners) -> Option<u32> {
     }
 }
 
-/// What a case is to be refused for, judged from the refusals of R9 and R11 and apart from the reference: every reason there is, in order.
+/// What a case is to be refused for, judged from document 01's table and apart from the reference: every
+/// reason there is, in order.
 struct Judged {
     lengths: Vec<u32>,
     disagree: bool,
@@ -147,7 +148,8 @@ impl Judged {
     }
 }
 
-/// Why the words packed for a node are not those of its words, if they are not: what is kept is read back exact, the rest within its step.
+/// Why the words packed for a node are not those of its words, if they are not: what is kept is read back
+/// exact, the rest within its step.
 fn node_flaw(node: &[u32; NODE], packed: &[u32; PACKED_NODE], all: &Corners) -> Option<&'static str> {
     let read = Unpacked::new(packed);
     let (leaf, figure) = (node[0] & !PAYLOAD == LEAF, |word: u32| f64::from(f32::from_bits(word)));
@@ -187,7 +189,7 @@ fn node_flaw(node: &[u32; NODE], packed: &[u32; PACKED_NODE], all: &Corners) -> 
     None
 }
 
-/// What R9 and R12 say of the answer and of the lent bytes that is not so after a call, if anything.
+/// What document 01 says of the answer and of the lent bytes that is not so after a call, if anything.
 fn flaw(case: &Case, before: &Lent<u8>, after: &Lent<u8>, answer: &Packed, numbers: &[u32]) -> Option<&'static str> {
     let count = case.nodes.len() / NODE_BYTES;
     let reserve = match answer {
@@ -292,8 +294,8 @@ pub fn packings(seed: u64, cases: u64) -> Tally {
     })
 }
 
-/// Each word of each node of some small trees that are packed, and each word of their boxes, replaced by each kind of wrong value in turn;
-/// and every length of the tray up to some bytes past the reserve.
+/// Each word of each node of some small trees that are packed, and each word of their boxes, replaced by each
+/// kind of wrong value in turn; and every length of the tray up to some bytes past the reserve.
 pub fn each_word(seed: u64, trees: u64) -> Tally {
     let mut random = Random::new(seed);
     let mut tally = Tally::new();

@@ -1,5 +1,5 @@
-//! Runs of the proved draws and chances against the oracle, over built trees and trees with words made wrong, counted by how each case
-//! ended.
+//! Runs of the proved draws and chances against the oracle, over built trees and trees with words made wrong,
+//! counted by how each case ended.
 
 use super::progress::Progress;
 use super::tally::{self, OWN, Tally};
@@ -127,7 +127,7 @@ impl Plot<'_> {
     }
 }
 
-const BY_LENGTH: &str = "oracle: the check of lengths, which the Rust has not";
+const BY_LENGTH: &str = "oracle: document 01's own check of lengths";
 const BY_REFERENCE: &str = "oracle: the reference itself";
 const BY_COPY: &str = "oracle: the copy of its loop, some word decodes to no node of the Rust";
 

@@ -1,4 +1,4 @@
-//! The errors of the reference and the numbers of docs/REQUIREMENTS.md R11 for them.
+//! The errors of the reference and document 01's numbers for them.
 
 use super::branches::mark_error;
 
@@ -16,13 +16,14 @@ macro_rules! refusals {
     ($($number:literal $($name:ident =)? $message:literal;)*) => {
         $($(pub const $name: &str = $message;)?)*
 
-        /// The number (R11) for each error that the functions here can give.
+        /// Document 01's number for each error that the functions here can give.
         pub const REFUSALS: &[(&str, u32)] = &[$(($message, $number)),*];
     };
 }
 
-// No words lead to two errors of the walks, "reached an invalid node" (it was weighed) and "has no right child", nor to two of the packing,
-// "node count exceeds" (there are at most 8,191) and "quantization overflowed" (a share is at most 1 or NaN).
+// No words lead to two errors of the walks, "reached an invalid node" (it was weighed) and "has no right
+// child", nor to two of the packing, "node count exceeds" (there are at most 8,191) and "quantization
+// overflowed" (a share is at most 1 or NaN).
 refusals! {
     5 "Light bounds contain a non-finite coordinate.";
     6 "Light bounds have min greater than max.";
@@ -51,7 +52,7 @@ refusals! {
     12 CHILDLESS_PARENT = "Light BVH PMF parent has no right child.";
     12 NOT_OWNED = "Light BVH PMF child is not owned by its parent.";
     12 SPENT_CHANCE = "Light BVH PMF exceeded its node limit.";
-    // ours alone (R11.12): no node of the Rust has such words
+    // document 01's own: no node of the Rust has such words
     12 UNKNOWN_NODE = "the node entered has an unknown kind";
     12 UNKNOWN_PARENT = "the parent has an unknown kind";
     12 UNKNOWN_SIDE = "the node weighed has an unknown side";
@@ -64,7 +65,7 @@ refusals! {
     13 "Light BVH payload exceeds the 31-bit packed index limit.";
     12 "Light BVH node {index} has an invalid parent.";
     12 "Light BVH nodes do not satisfy the DFS left-child invariant.";
-    // ours alone
+    // document 01's own
     12 PACKED_UNKNOWN_NODE = "a packed node has an unknown kind";
     12 PACKED_UNKNOWN_SIDE = "a packed node has an unknown side";
 }
@@ -89,10 +90,10 @@ pub(crate) fn lost(_: PbrtError) -> PbrtError {
 /// "a union's operand fails its check": any error of a union.
 pub const LOST_UNION: u32 = 10;
 
-/// "side unknown": ours alone (R11.1), since Rust's side is a bool. It comes before Rust's order.
+/// "side unknown": document 01's own, since Rust's side is a bool. It comes before Rust's order.
 pub const RAGGED: u32 = 1;
 
-/// "over 4,096 lamps by word 0, weights"; "a lent output or work slice is under its reserve": ours alone (R11.2, R11.3).
+/// "over 4,096 lamps by word 0, weights"; "a lent output or work slice is under its reserve": document 01's own.
 pub const CROWDED: u32 = 2;
 pub const SHORT_TRAY: u32 = 3;
 

@@ -1,4 +1,5 @@
-//! The reference's files, compiled twice: as the oracle, over the library functions of docs/REQUIREMENTS.md R2, and as they are, over Rust's own.
+//! The reference's files, compiled twice: as the oracle, over document 01's library functions, and as they
+//! are, over Rust's own.
 
 use super::branches::{Branch, mark};
 use super::errors::{PbrtError, invalid_box, lost, past_left, past_right};
@@ -11,7 +12,7 @@ pub struct Light;
 /// No node and no lamp.
 pub const INVALID_INDEX: u32 = u32::MAX;
 
-/// The library functions of R2 as methods, under the names that `substitution.rs` puts in.
+/// Document 01's library functions as methods, under the names that `substitution.rs` puts in.
 macro_rules! standins {
     ($($name:ident($($other:ident),*) -> $answer:ty: $function:expr;)*) => {
         trait Standin {
@@ -118,7 +119,7 @@ macro_rules! files {
     };
 }
 
-/// The reference over the library functions of R2.
+/// The reference over document 01's library functions.
 #[allow(dead_code, clippy::all)]
 pub mod oracle {
     pub use super::INVALID_INDEX;
