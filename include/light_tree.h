@@ -57,36 +57,33 @@ extern "C" {
 /* ---- refusals */
 
 enum light_refusals {
-    /* A length or a layout is wrong, a kind or a side is unknown in a list or a block, or the count
-       of light records is not the block's. */
+    /* a length or layout is wrong, a kind or side unknown, or lights and records differ in
+       number */
     LIGHT_RAGGED = 1,
-    /* Over LIGHT_MAX_LAMPS lamps by word 0, weights or table words, over LIGHT_MAX_NODES nodes, or
-       over LIGHT_MAX_WORDS words in a list or a block. */
+    /* over 4,096 lamps (columns: 512), weights or table words, 8,191 nodes, or 2^20 words */
     LIGHT_CROWDED = 2,
-    /* A slice that is lent for writing is shorter than its reserve. */
+    /* a slice that is lent for output or for work is shorter than its reserve */
     LIGHT_SHORT_TRAY = 3,
-    /* A handle is not its lamp's place. */
+    /* a handle is not its lamp's place */
     LIGHT_MISPLACED = 4,
-    /* A coordinate, a figure of a record, or the point or normal of a draw is infinite or NaN. */
+    /* a coordinate or a value of a record is infinite or NaN, such as a power that overflows */
     LIGHT_NOT_FINITE = 5,
-    /* A box has a min above its max. */
+    /* a box has a min above its max */
     LIGHT_INVERTED = 6,
-    /* A direction or a normal has no length, or one that cannot be divided by; or the point lies at
-       the centre of a box that is more than a point. */
+    /* a direction, normal or way from a box's centre to the point has no length to divide by */
     LIGHT_NO_DIRECTION = 7,
-    /* An emission, intensity, scale, weight, power or cosine is out of its range. */
+    /* an emission, intensity, scale, weight, power or cosine is out of its range */
     LIGHT_OUT_OF_RANGE = 8,
-    /* A triangle's area is not a finite number above 0, or a group has no triangle. */
+    /* a triangle's area is not a finite number above 0, or a group has no triangle */
     LIGHT_NO_AREA = 9,
-    /* Two records cannot be joined, since one of them fails the check of a record. */
+    /* bounds of lamps or triangles cannot be joined, since some fail their check */
     LIGHT_LOST_UNION = 10,
-    /* u is NaN, below 0 or above 1. */
+    /* u is not a number from 0 to 1 */
     LIGHT_BAD_U = 11,
-    /* The nodes are no tree: an unknown kind or side, an index past the end, a child that its
-       parent does not own, a walk without an end; in packing also a left child that is not the next
-       node, and nodes, k and box that disagree on whether there is a tree. */
+    /* the nodes are no tree (wrong kind, side, index or child, endless walk), or k or box
+       differs */
     LIGHT_BROKEN_TREE = 12,
-    /* A packed handle or child is above 2^31 - 1. */
+    /* a packed handle or child is above 2^31 - 1 */
     LIGHT_TOO_WIDE = 13
 };
 
@@ -389,7 +386,8 @@ static inline uint32_t light_pmf_refusal(uint64_t answer)
  * Answers how many words were packed, light_packed_words(n) (light_pack_words); 2^32 where there is
  * no tree: no nodes, k 0 and no box (light_pack_is_none); or 2^33 and the refusal's number
  * (light_pack_refusal): 2, 1, 3; 12 where nodes, k and box do not agree; 5 or 6 of the box; then by
- * the first node that is refused 12, 5 to 8, 13 or 12.
+ * the first node that is refused 12 of its kind or side, 5 to 8 of its record, 13, or 12 of its parent
+ * or of a left child that is not the next node.
  *
  * Writes `out`, BYTES, reserve light_packed_bytes(n): words, the lowest byte first. Eight of header,
  * box min 3, 0, box max 3, 0; then eight a node, the first of a pair in the lower bits:

@@ -1,8 +1,8 @@
-//! Links the proved functions, and prepares the reference files for `reference.rs`. The archives are made by Rattle, not by cargo.
+//! Links the proved functions, and prepares the reference files for `src/oracle/reference`. The archives are made by Rattle, not by cargo.
 
 use std::path::{Path, PathBuf};
 
-#[path = "src/substitution.rs"]
+#[path = "src/oracle/substitution.rs"]
 mod substitution;
 
 use substitution::*;
@@ -33,7 +33,7 @@ fn link(folder: &Path, name: &str) {
 fn substitute(text: &str, pairs: &[Pair]) -> String {
     pairs.iter().fold(text.to_string(), |text, (from, to)| {
         if !text.contains(from) {
-            stop(format!("the reference has no {from:?}: src/substitution.rs does not fit it"));
+            stop(format!("the reference has no {from:?}: src/oracle/substitution.rs does not fit it"));
         }
         text.replace(from, to)
     })
@@ -60,7 +60,7 @@ fn both(name: &str, text: &str, borrowed: &[&[Pair]], oracle: &[&[Pair]]) {
     let native = borrowed.iter().fold(text.to_string(), |text, pairs| substitute(&text, pairs));
     let oracle = oracle.iter().fold(native.clone(), |text, pairs| substitute(&text, pairs));
     if let Some(name) = methods(&oracle).find(|name| !METHODS.contains(name)) {
-        stop(format!("the oracle calls {name}, which src/substitution.rs does not know"));
+        stop(format!("the oracle calls {name}, which src/oracle/substitution.rs does not know"));
     }
     write(&format!("native_{name}.rs"), &native);
     write(&format!("oracle_{name}.rs"), &oracle);

@@ -4,9 +4,5 @@ pub mod Cones
 pub mod Side
 pub mod LightBounds
 pub mod Importance
-pub mod Weighing
-pub mod WeighingLaws
-pub mod RecordWords
-pub mod SideLaws
-pub mod RecordLaws
-pub mod BoundsLaws
+pub mod AsCoded
+pub mod Laws

@@ -3,6 +3,5 @@ pub mod bounds;
 pub mod cones;
 pub mod importance;
 pub mod light_bounds;
-pub mod record_words;
 pub mod side;
 pub mod vecmath;

@@ -1,41 +1,34 @@
-// A stretch of handles to the words of a tree (specs/Subtree.antt), over rows of a block. Recursion over the stretch, whose length falls: a stretch of n
-// handles fills exactly 2n - 1 nodes, so the right tree's place is known before the left is built, and no call touches another's nodes.
+// A stretch of handles to the words of a tree (specs/Subtree.antt), over rows of a block. Recursion over the stretch,
+// whose length falls: a stretch of n handles fills exactly 2n - 1 nodes, so the right tree's place is known before the
+// left is built, and no call touches another's nodes.
 ghost use mathlib.Core.Path.{_≡_};
 ghost use mathlib.Core.List.{List, _++_};
 ghost use Prim.Native.Nat.{ℕ, _+_, _*_, _^_, _≤_, _<_};
 ghost use lib.ListN.{length};
 ghost use Rattle.words.specs.Answers.{counted};
 ghost use Rattle.light_bounds.specs.LightBounds.{bounded};
-ghost use Rattle.light_nodes.specs.Nodes.{nodeWords};
-ghost use Rattle.light_bvh.specs.Subtree.{labelOf, buildSubtree, subtree, done, subtreeWords};
-ghost use Rattle.light_bvh.specs.Subtree.{splitCount, splitHandles, unionAt, joinedWords};
-use lamps::block::EXHAUSTIVE_BOUNDS_WORDS;
+ghost use Rattle.light_rows.specs.Nodes.{nodeWords};
+ghost use Rattle.light_bvh.specs.Subtree.{labelOf, buildSubtree};
+ghost use Rattle.light_bvh.specs.AsCoded.Stretches.{subtree, done, subtreeWords};
+ghost use Rattle.light_bvh.specs.AsCoded.Stretches.{splitCount, splitHandles, unionAt, joinedWords};
 use light_bounds::light_bounds::Bounded;
 use light_bounds::light_bounds::union;
-use light_bounds::record_words::record_or_zeros;
-use light_nodes::nodes::NODE_WORDS;
-use light_nodes::nodes::write_interior;
-use light_nodes::nodes::write_leaf;
-use light_split::lights::light;
+use light_rows::block::label;
+use light_rows::block::light;
+use light_rows::nodes::NODE_WORDS;
+use light_rows::nodes::bounds_in;
+use light_rows::nodes::write_interior;
+use light_rows::nodes::write_leaf;
 use light_split::partition::partition_handles;
 use light_split::split::Chosen;
 use light_split::split::choose_split;
 use words::answers::Counted;
-use words::places::wide;
-use words::places::word_or_zero;
 use words::refusals::Refusal;
 
 // Whether a stretch has its tree: a union's operand can fail its check.
 pub(crate) enum Subtree {
     Built,
     Lost,
-}
-
-// The label of a row.
-fn label(block: &[u32], handle: u32) -> u32
-    ensures { λ r. ⌜ r ≡ labelOf (now (block .entry)) handle ⌝ }
-{
-    word_or_zero(block, 1 + EXHAUSTIVE_BOUNDS_WORDS * wide(handle))
 }
 
 // Parts the stretch at its best cut: how many handles the left half has.
@@ -50,7 +43,8 @@ fn part_stretch(block: &[u32], handles: &mut [u32], work: &mut [u32]) -> Counted
     }
 }
 
-// The same. It is called in two places, of which one is for the many stretches of two, so that the compiler leaves its words out of the recursion's frame.
+// The same. It is called in two places, of which one is for the many stretches of two, so that the compiler leaves its
+// words out of the recursion's frame.
 fn split_stretch(block: &[u32], handles: &mut [u32], work: &mut [u32]) -> Counted
     requires { ⌜ length (now handles) ≤ length (now work) ⌝ }
     ensures { λ r. ⌜ counted r ≡ splitCount (now (block .entry)) (now (handles .entry)) ⌝ }
@@ -67,16 +61,18 @@ fn union_children(nodes: &[u32], right: usize) -> Bounded
     requires { ⌜ right < 2 ^ 30 ⌝ }
     ensures { λ r. ⌜ bounded r ≡ unionAt (now (nodes .entry)) right ⌝ }
 {
-    let left_bounds = record_or_zeros(nodes, NODE_WORDS + 3);
-    let right_bounds = record_or_zeros(nodes, NODE_WORDS * right + 3);
+    let left_bounds = bounds_in(nodes, 1);
+    let right_bounds = bounds_in(nodes, right);
     union(left_bounds, right_bounds)
 }
 
-// The node over two trees whose words stand behind it, the right one at node `right`: the record around both records, read back from their nodes.
+// The node over two trees whose words stand behind it, the right one at node `right`: the record around both records,
+// read back from their nodes.
 fn join_children(nodes: &mut [u32], right: usize, at: u32, parent: u32) -> Subtree
     requires { ⌜ at + right < 2 ^ 30 ⌝ }
     ensures { λ r. ⌜ subtree r ≡ done (unionAt (now (nodes .entry)) right) ⌝ }
-    ensures { λ _. ⌜ now (nodes .exit) ≡ joinedWords at parent right (now (nodes .entry)) (unionAt (now (nodes .entry)) right) ⌝ }
+    ensures { λ _. ⌜ now (nodes .exit) ≡
+        joinedWords at parent right (now (nodes .entry)) (unionAt (now (nodes .entry)) right) ⌝ }
 {
     match union_children(nodes, right) {
         Bounded::Bounds(bounds) => {

@@ -1,5 +1,5 @@
--- The records that a stretch of handles names, as `choose_split` and `partition_handles` of `light_bvh.rs` read them: a stretch is a list of rows of a block.
--- A row past the block's end is read as zeros. Definitions only. Assumes nothing.
+-- The records that a stretch of handles names, as `choose_split` and `partition_handles` of `light_bvh.rs` read them: a
+-- stretch is a list of rows of a block. A row past the block's end is read as zeros. Definitions only. Assumes nothing.
 use Prim.Native.Nat.{ℕ, zero, suc, _-_, min}
 use mathlib.Core.Bool.{true, false, cond}
 use mathlib.Core.List.{List}
@@ -8,12 +8,12 @@ use Rattle.words.specs.Lists.{folded}
 use Rattle.ieee.specs.Single.{_⊖_, _⊗_, _⊘_, single}
 use Rattle.ieee.specs.Whole.{toUsize}
 use Rattle.light_bounds.specs.Bounds.{boxUnion, centroid}
-use Rattle.light_bounds.specs.RecordWords.{readRecord}
+use Rattle.light_rows.specs.RecordWords.{readRecord}
 use Rattle.light_bounds.specs.Vecmath.{vec}
 use Rattle.light_bounds.specs.declared.bounds.Bounds3.{Bounds3}
 use Rattle.light_bounds.specs.declared.light_bounds.LightBounds.{LightBounds}
 use Rattle.light_bounds.specs.declared.vecmath.Vec3.{Vec3}
-use Rattle.lamps.specs.Block.{recordPlace}
+use Rattle.light_rows.specs.Block.{recordPlace}
 
 -- `light_bounds[handle]`
 abbrev pub lightOf : List ℕ → ℕ → LightBounds

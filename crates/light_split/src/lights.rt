@@ -1,34 +1,17 @@
 // The records that a stretch of handles names (specs/Lights.antt).
 ghost use mathlib.Core.Path.{_≡_};
-ghost use Rattle.light_split.specs.Lights.{lightOf, component as componentOf, centroidOf, widen as widenOf, centroidEnds, bucketIndex, bucketOf, nBuckets};
+ghost use Rattle.light_split.specs.Lights.{component as componentOf, widen as widenOf, centroidEnds};
+ghost use Rattle.light_split.specs.Lights.{bucketIndex, bucketOf, nBuckets};
 ghost use Prim.Native.Nat.{_<_};
 use floats::whole::to_usize;
-use lamps::block::EXHAUSTIVE_BOUNDS_WORDS;
 use light_bounds::bounds::Bounds3;
 use light_bounds::bounds::centroid;
 use light_bounds::bounds::union;
-use light_bounds::light_bounds::LightBounds;
-use light_bounds::record_words::box_at;
-use light_bounds::record_words::record_or_zeros;
 use light_bounds::vecmath::Vec3;
-use words::places::wide;
+use light_rows::block::light_box;
 
 // Buckets along an axis.
 pub const N_BUCKETS: usize = 12;
-
-// The record of a handle.
-pub fn light(block: &[u32], handle: u32) -> LightBounds
-    ensures { λ r. ⌜ r ≡ lightOf (now (block .entry)) handle ⌝ }
-{
-    record_or_zeros(block, 2 + EXHAUSTIVE_BOUNDS_WORDS * wide(handle))
-}
-
-// Its box alone.
-pub fn light_box(block: &[u32], handle: u32) -> Bounds3
-    ensures { λ r. ⌜ r ≡ lightOf (now (block .entry)) handle .bounds ⌝ }
-{
-    box_at(block, 2 + EXHAUSTIVE_BOUNDS_WORDS * wide(handle))
-}
 
 // A vector's figure along an axis.
 pub fn component(v: Vec3, dimension: usize) -> f32

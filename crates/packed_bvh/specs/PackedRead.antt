@@ -9,7 +9,7 @@ use lib.Ieee.{Float, binary32, ofInt}
 use lib.ListN.{getD}
 use Rattle.ieee.specs.Single.{_⊕_, _⊖_, _⊗_, _⊘_}
 use Rattle.light_bounds.specs.declared.bounds.Bounds3.{Bounds3}
-use Rattle.light_nodes.specs.Nodes.{LightBVHNode, leaf, interior}
+use Rattle.light_rows.specs.Nodes.{LightBVHNode, leaf, interior}
 use Rattle.packed_bvh.specs.Packed.{leafBit, packedPlace}
 use Rattle.packed_bvh.specs.Quantize.{lastStep, quantizeBounds}
 
@@ -31,7 +31,15 @@ pub record StepBox : Type 0 where
 -- of three words, two numbers of sixteen bits each
 unfoldable pub readBox : ℕ → ℕ → ℕ → StepBox
 readBox u v w =
-    record { min-x = u % 0x1_0000; min-y = u / 0x1_0000; min-z = v % 0x1_0000; max-x = v / 0x1_0000; max-y = w % 0x1_0000; max-z = w / 0x1_0000 }
+    record {
+      min-x = u % 0x1_0000;
+      min-y = u / 0x1_0000;
+      min-z = v % 0x1_0000;
+      max-x = v / 0x1_0000;
+      max-y = w %
+          0x1_0000;
+      max-z = w / 0x1_0000;
+    }
 
 -- of the node at a place of packed words
 abbrev pub boxAt : List ℕ → ℕ → StepBox

@@ -1,5 +1,5 @@
-// What only the differential runs and the benchmarks call, for C and Rust: plain numbers, slices as a pointer and a length, answers as words. What a renderer
-// calls is in light_c.
+// What only the differential runs and the benchmarks call, for C and Rust: plain numbers, slices as a pointer and a
+// length, answers as words. What a renderer calls is in light_c.
 ghost use mathlib.Core.Path.{_≡_};
 ghost use Prim.Native.Nat.{ℕ, _*_, _/_, _≤_};
 ghost use lib.Ieee.{binary32, binary64, ofBits, toBits};
@@ -16,24 +16,25 @@ ghost use Rattle.trig.specs.Trig.{cos as cosOf, sin as sinOf, acos as acosOf, a
 ghost use Rattle.light_bounds.specs.Bounds.{validity};
 ghost use Rattle.light_bounds.specs.Importance.{weight};
 ghost use Rattle.light_bounds.specs.LightBounds.{union as unionOf};
-ghost use Rattle.light_bounds.specs.RecordWords.{recordList, recordWords};
-ghost use Rattle.lamps.specs.Block.{blockCheck};
+ghost use Rattle.light_rows.specs.RecordWords.{recordList, recordWords};
+ghost use Rattle.light_rows.specs.Block.{blockCheck};
 ghost use Rattle.light_c.specs.Codes.{valueCode};
-ghost use Rattle.parts_c.specs.Codes.{countCode, validateWords, importanceWords, unionWords, queryOf};
-use lamps::block::check_block;
+ghost use Rattle.parts_c.specs.PartCodes.{countCode, validateWords, importanceWords, unionWords};
 use light_bounds::bounds::Validity;
-use light_bounds::importance::Query;
 use light_bounds::importance::Weight;
 use light_bounds::importance::importance;
 use light_bounds::light_bounds::Bounded;
 use light_bounds::light_bounds::LightBounds;
 use light_bounds::light_bounds::union;
 use light_bounds::light_bounds::validate;
-use light_bounds::record_words::Found;
-use light_bounds::record_words::RECORD_WORDS;
-use light_bounds::record_words::read_record;
-use light_bounds::record_words::vec_at;
-use light_bounds::record_words::write_record;
+use light_rows::block::check_handles;
+use light_rows::block::check_layout;
+use light_rows::query_words::QUERY_WORDS;
+use light_rows::query_words::query_of;
+use light_rows::record_words::Found;
+use light_rows::record_words::RECORD_WORDS;
+use light_rows::record_words::read_record;
+use light_rows::record_words::write_record;
 use words::answers::Counted;
 use words::answers::counted_code;
 use words::fill::zero_words;
@@ -217,7 +218,8 @@ pub extern "C" fn words_word_count(bytes: &[u8]) -> usize
 #[no_mangle]
 pub extern "C" fn words_words_of_bytes(bytes: &[u8], words: &mut [u32]) -> u32
     ensures { λ r. ⌜ r ≡ code (readWords (now (bytes .entry)) (length (now (words .entry)))) ⌝ }
-    ensures { λ _. ⌜ now (words .exit) ≡ tray (λ (n : ℕ). wordsOf (now (bytes .entry))) (length (now (bytes .entry)) / 4)
+    ensures { λ _. ⌜ now (words .exit) ≡
+        tray (λ (n : ℕ). wordsOf (now (bytes .entry))) (length (now (bytes .entry)) / 4)
         (readWords (now (bytes .entry)) (length (now (words .entry)))) (now (words .entry)) ⌝ }
 {
     counted_code(words::little_endian::words_of_bytes(bytes, words))
@@ -226,7 +228,8 @@ pub extern "C" fn words_words_of_bytes(bytes: &[u8], words: &mut [u32]) -> u32
 #[no_mangle]
 pub extern "C" fn words_bytes_of_words(words: &[u32], bytes: &mut [u8]) -> u32
     ensures { λ r. ⌜ r ≡ code (writtenWords (now (words .entry)) (length (now (bytes .entry)))) ⌝ }
-    ensures { λ _. ⌜ now (bytes .exit) ≡ tray (λ (n : ℕ). bytesOf (now (words .entry))) (4 * length (now (words .entry)))
+    ensures { λ _. ⌜ now (bytes .exit) ≡
+        tray (λ (n : ℕ). bytesOf (now (words .entry))) (4 * length (now (words .entry)))
         (writtenWords (now (words .entry)) (length (now (bytes .entry)))) (now (bytes .entry)) ⌝ }
 {
     counted_code(words::little_endian::bytes_of_words(words, bytes))
@@ -282,21 +285,12 @@ fn validity_code(answer: Validity) -> u32
     }
 }
 
-// Point, normal.
-fn query_of(words: &[u32]) -> Query
-    ensures { λ r. ⌜ r ≡ queryOf (now (words .entry)) ⌝ }
-{
-    let p = vec_at(words, 0);
-    let n = vec_at(words, 3);
-    Query { p, n }
-}
-
 // The importance's bits, or 2^32 and the refusal's number.
 #[no_mangle]
 pub extern "C" fn bounds_importance(record: &[u32], query: &[u32]) -> u64
     ensures { λ r. ⌜ r ≡ valueCode (importanceWords (now («record» .entry)) (now (query .entry))) ⌝ }
 {
-    if query.len() < 6 {
+    if query.len() < QUERY_WORDS {
         return 0x1_0000_0001;
     }
     match read_record(record, 0) {
@@ -336,7 +330,8 @@ fn write_union(a: LightBounds, b: LightBounds, out: &mut [u32]) -> u32
 #[no_mangle]
 pub extern "C" fn bounds_union(a: &[u32], b: &[u32], out: &mut [u32]) -> u32
     ensures { λ r. ⌜ r ≡ code (unionWords (now (a .entry)) (now (b .entry)) (length (now (out .entry)))) ⌝ }
-    ensures { λ _. ⌜ now (out .exit) ≡ tray recordList recordWords (unionWords (now (a .entry)) (now (b .entry)) (length (now (out .entry))))
+    ensures { λ _. ⌜ now (out .exit) ≡
+        tray recordList recordWords (unionWords (now (a .entry)) (now (b .entry)) (length (now (out .entry))))
         (now (out .entry)) ⌝ }
 {
     match read_record(a, 0) {
@@ -361,5 +356,8 @@ pub extern "C" fn bounds_union(a: &[u32], b: &[u32], out: &mut [u32]) -> u32
 pub extern "C" fn lamps_check_block(block: &[u32]) -> u32
     ensures { λ r. ⌜ r ≡ code (blockCheck (now (block .entry))) ⌝ }
 {
-    counted_code(check_block(block))
+    match check_layout(block) {
+        Counted::Count(_) => counted_code(check_handles(block)),
+        Counted::Refused(why) => refusal_number(why),
+    }
 }

@@ -10,7 +10,7 @@ use lib.ListN.{length, take, drop}
 use Rattle.words.specs.Answers.{Answer, given, refused, _then_}
 use Rattle.light_bounds.specs.LightBounds.{union}
 use Rattle.light_bounds.specs.declared.light_bounds.LightBounds.{LightBounds}
-use Rattle.light_nodes.specs.Tree.{Tree, leaf, fork, bounds}
+use Rattle.light_rows.specs.Tree.{Tree, leaf, fork, bounds}
 use Rattle.light_split.specs.Lights.{lightOf}
 use Rattle.light_split.specs.Partition.{lefts, rights}
 use Rattle.light_split.specs.Split.{chooseSplit}

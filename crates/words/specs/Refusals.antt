@@ -1,8 +1,10 @@
--- The thirteen rows of document 01's table "Refusals and trays": the number of each. Definitions only. Assumes nothing.
+-- The refusals of docs/REQUIREMENTS.md R11: the number of each. Definitions only. Assumes nothing.
+-- tools/refusals makes the lines below of src/refusals.rt.
 use Prim.Native.Nat.{ℕ}
 use Rattle.words.specs.declared.refusals.Refusal.{Refusal}
-use Rattle.words.specs.declared.refusals.Refusal.the-variants.{Ragged, Crowded, ShortTray, Misplaced, NotFinite, Inverted, NoDirection}
-use Rattle.words.specs.declared.refusals.Refusal.the-variants.{OutOfRange, NoArea, LostUnion, BadU, BrokenTree, TooWide}
+use Rattle.words.specs.declared.refusals.Refusal.the-variants.{Ragged, Crowded, ShortTray, Misplaced, NotFinite}
+use Rattle.words.specs.declared.refusals.Refusal.the-variants.{Inverted, NoDirection, OutOfRange, NoArea}
+use Rattle.words.specs.declared.refusals.Refusal.the-variants.{LostUnion, BadU, BrokenTree, TooWide}
 
 abbrev pub number : Refusal → ℕ
 number Ragged = 1

@@ -1,6 +1,6 @@
 // Words as little-endian bytes (specs/LittleEndian.antt).
 ghost use mathlib.Core.Path.{_≡_};
-ghost use Prim.Native.Nat.{ℕ, _*_, _/_};
+ghost use Prim.Native.Nat.{ℕ, _*_, _/_, _<_};
 ghost use lib.ListN.{getD, length};
 ghost use Rattle.words.specs.LittleEndian.{wordsOf, bytesOf, setWord, wordCount, readWords, writtenWords};
 ghost use Rattle.words.specs.Answers.{counted};
@@ -19,17 +19,25 @@ pub fn word_count(bytes: &[u8]) -> Counted
     }
 }
 
+// The word at a place that is known to be within the bytes.
+pub fn word_in(bytes: &[u8], place: usize) -> u32
+    requires { ⌜ place < length (now bytes) / 4 ⌝ }
+    ensures { λ r. ⌜ r ≡ getD (wordsOf (now (bytes .entry))) place 0 ⌝ }
+{
+    let at = 4 * place;
+    let a = bytes[at] as u32;
+    let b = bytes[at + 1] as u32;
+    let c = bytes[at + 2] as u32;
+    let d = bytes[at + 3] as u32;
+    a + 256 * b + 65536 * c + 16777216 * d
+}
+
 // The word at a place, and 0 past the last whole word.
 pub fn word_at(bytes: &[u8], place: usize) -> u32
     ensures { λ r. ⌜ r ≡ getD (wordsOf (now (bytes .entry))) place 0 ⌝ }
 {
     if place < bytes.len() / 4 {
-        let at = 4 * place;
-        let a = bytes[at] as u32;
-        let b = bytes[at + 1] as u32;
-        let c = bytes[at + 2] as u32;
-        let d = bytes[at + 3] as u32;
-        a + 256 * b + 65536 * c + 16777216 * d
+        word_in(bytes, place)
     } else {
         0
     }
@@ -48,10 +56,12 @@ pub fn set_word(bytes: &mut [u8], place: usize, w: u32)
     }
 }
 
-// Reads the words of bytes into a lent slice. A length that is no multiple of four is refusal 1, a slice that is too short for the words 3.
+// Reads the words of bytes into a lent slice. A length that is no multiple of four is refusal 1, a slice that is too
+// short for the words 3.
 pub fn words_of_bytes(bytes: &[u8], words: &mut [u32]) -> Counted
     ensures { λ r. ⌜ counted r ≡ readWords (now (bytes .entry)) (length (now (words .entry))) ⌝ }
-    ensures { λ _. ⌜ now (words .exit) ≡ tray (λ (n : ℕ). wordsOf (now (bytes .entry))) (length (now (bytes .entry)) / 4)
+    ensures { λ _. ⌜ now (words .exit) ≡
+        tray (λ (n : ℕ). wordsOf (now (bytes .entry))) (length (now (bytes .entry)) / 4)
         (readWords (now (bytes .entry)) (length (now (words .entry)))) (now (words .entry)) ⌝ }
 {
     if bytes.len() % 4 != 0 {
@@ -72,7 +82,8 @@ pub fn words_of_bytes(bytes: &[u8], words: &mut [u32]) -> Counted
 // Writes words as bytes into a lent slice, which is refused (3) where it is too short for them.
 pub fn bytes_of_words(words: &[u32], bytes: &mut [u8]) -> Counted
     ensures { λ r. ⌜ counted r ≡ writtenWords (now (words .entry)) (length (now (bytes .entry))) ⌝ }
-    ensures { λ _. ⌜ now (bytes .exit) ≡ tray (λ (n : ℕ). bytesOf (now (words .entry))) (4 * length (now (words .entry)))
+    ensures { λ _. ⌜ now (bytes .exit) ≡
+        tray (λ (n : ℕ). bytesOf (now (words .entry))) (4 * length (now (words .entry)))
         (writtenWords (now (words .entry)) (length (now (bytes .entry)))) (now (bytes .entry)) ⌝ }
 {
     let count = words.len();

@@ -1,38 +1,39 @@
 ghost use mathlib.Core.Path.{_≡_};
 ghost use Rattle.words.specs.Refusals.{number};
 
-// Why a call was refused: the rows of document 01's table "Refusals and trays", in their order.
-// `number` of specs/Refusals.antt gives each its number there.
+// Why a call was refused: name, number and sentence of each refusal of docs/REQUIREMENTS.md R11.
+// They are told here alone. tools/refusals makes `refusal_number`, specs/Refusals.antt and the tables in
+// include/light_tree.h, rust/light_tree/src/refusal.rs and README.md of them, and fails where one differs.
 pub enum Refusal {
-    // 1: a length or a layout is wrong, a kind or a side is unknown, or a record count is not the block's
-    Ragged,
-    // 2: more lamps, weights, nodes or words than the limits allow
-    Crowded,
-    // 3: a lent output or work slice is under its reserve
-    ShortTray,
-    // 4: a handle is not its place
-    Misplaced,
-    // 5: a coordinate or a value is not finite
-    NotFinite,
-    // 6: a box has a min above its max
-    Inverted,
-    // 7: a squared length is 0, or a length to divide by is 0 or not finite, or a normalised normal is not finite
-    NoDirection,
-    // 8: an emission, a scale, a weight, a phi or a cone cosine is out of its range
-    OutOfRange,
-    // 9: a triangle has no area, or a group has no triangle
-    NoArea,
-    // 10: an operand of a union fails its check
-    LostUnion,
-    // 11: u is outside 0 to 1 or NaN
-    BadU,
-    // 12: a tree's words do not hang together, or a walk over them is spent
-    BrokenTree,
-    // 13: a packed payload is over 2^31 - 1
-    TooWide,
+    // a length or layout is wrong, a kind or side unknown, or lights and records differ in number
+    Ragged = 1,
+    // over 4,096 lamps (columns: 512), weights or table words, 8,191 nodes, or 2^20 words
+    Crowded = 2,
+    // a slice that is lent for output or for work is shorter than its reserve
+    ShortTray = 3,
+    // a handle is not its lamp's place
+    Misplaced = 4,
+    // a coordinate or a value of a record is infinite or NaN, such as a power that overflows
+    NotFinite = 5,
+    // a box has a min above its max
+    Inverted = 6,
+    // a direction, normal or way from a box's centre to the point has no length to divide by
+    NoDirection = 7,
+    // an emission, intensity, scale, weight, power or cosine is out of its range
+    OutOfRange = 8,
+    // a triangle's area is not a finite number above 0, or a group has no triangle
+    NoArea = 9,
+    // bounds of lamps or triangles cannot be joined, since some fail their check
+    LostUnion = 10,
+    // u is not a number from 0 to 1
+    BadU = 11,
+    // the nodes are no tree (wrong kind, side, index or child, endless walk), or k or box differs
+    BrokenTree = 12,
+    // a packed handle or child is above 2^31 - 1
+    TooWide = 13,
 }
 
-// The refusal's number.
+// The refusal's number. The arms are made of the lines above.
 pub fn refusal_number(refusal: Refusal) -> u32
     ensures { λ r. ⌜ r ≡ number refusal ⌝ }
 {

@@ -146,8 +146,8 @@ fn refused_benches() {
       2     1     2  0.5            0.5            3f000000 3f000000      0  1.0000000
       3 refused 11: u is not a number from 0 to 1
       5     1     2  0.5            0.5            3f000000 3f000000      0  1.0000000
-      6 refused 5: a coordinate or another figure is not finite, or a power overflows
-      7 refused 7: a direction or a normal has no length, or one that is not finite, or the point is the centre of a box
+      6 refused 5: a coordinate or a value of a record is infinite or NaN, such as a power that overflows
+      7 refused 7: a direction, normal or way from a box's centre to the point has no length to divide by
       8     0     1  0.5            0.5            3f000000 3f000000      0  1.0000000
 # 7 benches: 4 drawn, 0 none, 3 refused
 # both chances are the same in every row
@@ -293,7 +293,7 @@ fn wrong_rooms() {
 fn refused_rooms() {
     let triangle = "| 0 0 0 1 0 0 0 1 0 0.5 0 0 1 ";
     let flat = "| 0 0 0 1 0 0 0 1 0 0 0 0 1 ";
-    let nine = "refused 9: a triangle has no area, or a group no triangle";
+    let nine = "refused 9: a triangle's area is not a finite number above 0, or a group has no triangle";
     wrong("point 1 2 3 1 1\n\nspot 1 2 3 0 0 0 1 1 0.5 0.4", "line 3: lamp 1, a spot: refused 7: ");
     let group = format!("group 1 1 one {triangle}{flat}{triangle}\npoint 0 0 0 -1 1");
     wrong(&group, &format!("line 1: lamp 0, a group, at its triangle 2: {nine}"));
@@ -304,7 +304,7 @@ fn refused_rooms() {
     wrong(&format!("group 1e38 1 one {}", bright.repeat(4)), "line 1: lamp 0, a group, at its triangle 3: refused 10: ");
     wrong(
         &"point 0 0 0 1 1\n".repeat(4097),
-        "refused 2: over 4,096 lamps or weights, or over 2^20 words: this room has 4097 lamps",
+        "refused 2: over 4,096 lamps (columns: 512), weights or table words, 8,191 nodes, or 2^20 words: this room has 4097 lamps",
     );
 
     // what only the tree refuses: a group's power that is infinite, by its line; powers that are so together, by the room

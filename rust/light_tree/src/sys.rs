@@ -1,11 +1,11 @@
-//! The functions of `liblight_c.a` behind safe ones: the only module with `unsafe`. `include/light_tree.h` tells what each takes and
-//! answers.
+//! The functions of `liblight_c.a` behind safe ones: the only module with `unsafe`. `include/light_tree.h` tells what
+//! each takes and answers.
 //!
-//! SAFETY, for every call: the declarations are the header's (`tests/header.rs`). Each slice is handed over as a pointer to
-//! its first element and its length, and the slices that are written to are `&mut`, so no two overlap. The functions read and write
-//! within these lengths alone, keep nothing, and are proved for every input. Where a slice is handed over as another type, both are
-//! plain 32-bit numbers or bytes without padding, for which every bit pattern is a value; bytes hold words little-endian, as the
-//! machine does.
+//! SAFETY, for every call: the declarations are the header's (`tests/header.rs`). Each slice is handed over as a pointer
+//! to its first element and its length, and the slices that are written to are `&mut`, so no two overlap. The functions
+//! read and write within these lengths alone, keep nothing, and are proved for every input. Where a slice is handed over
+//! as another type, both are plain 32-bit numbers or bytes without padding, for which every bit pattern is a value; bytes
+//! hold words little-endian, as the machine does.
 
 #![allow(unsafe_code)]
 
@@ -68,8 +68,9 @@ unsafe extern "C" {
     ) -> u32;
 }
 
+/// The refusal of a number. Another library may answer one that this crate does not know.
 fn refusal(number: u32) -> Refusal {
-    Refusal::from_number(number).unwrap_or_else(|| unreachable!("light_c has no refusal {number}"))
+    Refusal::from_number(number).unwrap_or(Refusal::Unknown(number))
 }
 
 /// 0, or a refusal's number.
@@ -168,4 +169,19 @@ pub(crate) fn alias_table(weights: &[f32], bins: &mut [PowerAliasBin], work: &mu
     let (work, work_len) = (work.as_mut_ptr().cast(), 3 * work.len());
     // SAFETY: as said above; `PowerAliasBin` is `repr(C)`, two floats and a word.
     done(unsafe { light_alias_table(weights.as_ptr().cast(), weights.len(), bins, bins_len, work, work_len) })
+}
+
+#[cfg(test)]
+mod tests {
+    use super::*;
+
+    /// A number is its refusal, whatever library answers it.
+    #[test]
+    fn unknown_numbers() {
+        assert_eq!([done(0), done(11), done(1000)], [Ok(()), Err(Refusal::BadU), Err(Refusal::Unknown(1000))]);
+        for number in 1..=1000 {
+            assert_eq!(refusal(number).number(), number);
+        }
+        assert!(refusal(1000).to_string().contains("another version"));
+    }
 }

@@ -1,4 +1,4 @@
-//! Cases known by hand: those that document 01 marks, limits, refusals and their sentences.
+//! Cases known by hand: those of docs/REQUIREMENTS.md R14, limits, refusals and their sentences.
 
 use light_tree::*;
 use std::error::Error;
@@ -224,7 +224,7 @@ fn threads() {
 /// Each refusal has a number, a sentence of its own on one line, and is an error.
 #[test]
 fn sentences() {
-    let refusals: Vec<Refusal> = (1..14).map(|number| Refusal::from_number(number).unwrap()).collect();
+    let refusals: Vec<Refusal> = (1..=1000).filter_map(Refusal::from_number).collect();
     let mut sentences: Vec<String> = refusals.iter().map(Refusal::to_string).collect();
     for (refusal, sentence) in refusals.iter().zip(&sentences) {
         assert_eq!(Refusal::from_number(refusal.number()), Some(*refusal));
@@ -233,9 +233,9 @@ fn sentences() {
         assert!(error.source().is_none());
         assert_eq!(&error.to_string(), sentence);
     }
-    assert_eq!(refusals[8].to_string(), "a triangle has no area, or a group no triangle");
+    assert_eq!(Refusal::BadU.to_string(), "u is not a number from 0 to 1");
     sentences.sort();
     sentences.dedup();
-    assert_eq!(sentences.len(), 13);
-    assert_eq!([0, 14, u32::MAX].map(Refusal::from_number), [None; 3]);
+    assert_eq!(sentences.len(), refusals.len());
+    assert_eq!([0, 1001, u32::MAX].map(Refusal::from_number), [None; 3]);
 }

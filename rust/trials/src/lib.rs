@@ -1,44 +1,17 @@
-//! The Rust side: the proved functions behind safe names, document 01's library functions written again in Rust,
-//! and what holds the two against each other and against Rust's own.
+//! The trials: what holds the proved functions to document 01 and to the reference, at any size and speed. Nothing here ships.
+//!
+//! - `proved`: the proved functions behind safe names, and the proved programs.
+//! - `oracle`: what they are held to: document 01's library functions in Rust, and the reference compiled over them.
+//! - `inputs`: what they are given.
+//! - `runs`: the one held to the other over many inputs; the tests and the program `run` call these.
+//! - `stored`: the oracle's answers in `answers/`, replayed where the reference is absent.
+//! - `src/bench` is a program of its own, `bench`: the proved functions timed beside Rust's.
+//!
+//! `cfg(reference)` is set where the build script finds the reference's files.
 
-pub mod absent;
-pub mod blocks;
-pub mod both;
-pub mod cases;
-pub mod functions;
-pub mod lent;
-pub mod light_c;
-pub mod light_runs;
-pub mod lists;
-#[cfg(reference)]
-pub mod pack_oracle;
-#[cfg(reference)]
-pub mod pack_runs;
-pub mod packing;
-pub mod programs;
+pub mod inputs;
+pub mod oracle;
+pub mod parts;
 pub mod proved;
-pub mod records;
-#[cfg(reference)]
-pub mod reference;
-pub mod rooms;
-#[cfg(reference)]
 pub mod runs;
-pub mod standins;
 pub mod stored;
-pub mod stored_alias;
-pub mod stored_bounds;
-pub mod stored_lamps;
-pub mod stored_packed;
-pub mod stored_trees;
-pub mod stored_walks;
-pub mod timing;
-#[cfg(reference)]
-pub mod tree_runs;
-pub mod trees;
-pub mod trig;
-#[cfg(reference)]
-pub mod walk_oracle;
-#[cfg(reference)]
-pub mod walk_runs;
-pub mod walks;
-pub mod weights;

@@ -1,9 +1,8 @@
-//! The differential runs of the gate: the proved alias table against the oracle, its stored answers, and the limits.
+//! The differential runs of the gate: the proved alias table against the oracle, and the limits.
 
-use coltoctober::lists::MOST_LAMPS;
-use coltoctober::proved::alias_build_power_alias_table;
-use coltoctober::stored::{check, PATTERN};
-use coltoctober::stored_alias::Stored;
+use trials::inputs::lists::MOST_LAMPS;
+use trials::proved::alias_build_power_alias_table;
+use trials::stored::PATTERN;
 
 /// The answer, and the bins and the work after the call.
 fn built(weights: &[f32], rooms: [usize; 2]) -> (Result<(), u32>, [Vec<u32>; 2]) {
@@ -31,13 +30,7 @@ fn bins(weights: &[f32]) -> Vec<[u32; 3]> {
     bins.as_chunks().0.to_vec()
 }
 
-/// The oracle's stored answers, with no need of the reference.
-#[test]
-fn stored_answers() {
-    check::<Stored>(2000);
-}
-
-/// Document 01's case and the corners of sums: no power, a weight -0, a sum past the largest f32.
+/// R14.9 and the corners of sums: no power, a weight -0, a sum past the largest f32.
 #[test]
 fn marked_weights() {
     let (half, one, none) = (0x3f00_0000, 0x3f80_0000, u32::MAX);
@@ -64,9 +57,9 @@ fn lengths() {
     assert!(bins(&most[1..]).iter().all(|bin| *bin == [0x3f80_0000, 0x3980_0000, u32::MAX]));
 }
 
-coltoctober::differential! {
+trials::differential! {
     fn alias_tables() {
-        let tally = coltoctober::runs::alias_tables(0, 300_000);
+        let tally = trials::runs::alias::alias_tables(0, 300_000);
         println!("alias tables: {tally}");
         tally.check(&[0, 2, 3, 8], &["alias", "weights", "room", "order", "bins", "error 8: Power"]);
     }

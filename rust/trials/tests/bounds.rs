@@ -1,11 +1,8 @@
-//! The differential runs of the gate: the proved cosines and arcs against document 01's, the proved bounds against the oracle, and
-//! the stored answers of both.
+//! The differential runs of the gate: the proved cosines and arcs against the stand-ins (R2.9 to R2.13), the proved bounds against the oracle.
 
-use coltoctober::cases::Random;
-use coltoctober::functions::Function;
-use coltoctober::proved;
-use coltoctober::stored::check;
-use coltoctober::stored_bounds::Stored;
+use trials::inputs::random::Random;
+use trials::proved;
+use trials::runs::functions::Function;
 
 const CASES: u64 = 1_000_000;
 
@@ -45,12 +42,6 @@ fn marked_angles() {
     assert_eq!(proved::asin(of(0x3f80_0000)).to_bits(), 0x3fc9_0fdb);
 }
 
-/// The oracle's stored answers, with no need of the reference.
-#[test]
-fn stored_answers() {
-    check::<Stored>(3000);
-}
-
 /// Lengths that are no record's, no query's and no tray's; 1 comes before 3, and neither writes.
 #[test]
 fn lengths() {
@@ -81,21 +72,21 @@ fn lengths() {
     (0..6).for_each(|short| assert_eq!(proved::bounds_importance(&record, &query[..short]), Err(1)));
 }
 
-coltoctober::differential! {
+trials::differential! {
     fn validate() {
-        let tally = coltoctober::runs::validates(0, CASES);
+        let tally = trials::runs::bounds::validates(0, CASES);
         println!("validate: {tally}");
         tally.check(&[0, 1, 5, 6, 7, 8], &[]);
     }
 
     fn union() {
-        let tally = coltoctober::runs::unions(0, CASES);
+        let tally = trials::runs::bounds::unions(0, CASES);
         println!("union: {tally}");
         tally.check(&[0, 1, 10], &["union", "cones", "lost", "joined"]);
     }
 
     fn importance() {
-        let tally = coltoctober::runs::importances(0, CASES);
+        let tally = trials::runs::bounds::importances(0, CASES);
         println!("importance: {tally}");
         tally.check(&[0, 1, 5, 6, 7, 8], &["importance", "weight", "refused"]);
     }

@@ -1,14 +1,14 @@
 //! The light report: the program columns on good, bad and cut input, its lines against those of the proved draw and chance by name.
 
-use coltoctober::blocks::block_of;
-use coltoctober::cases::Random;
-use coltoctober::lists::BLOCK_RECORD;
-use coltoctober::programs;
-use coltoctober::proved::{lamps_build_light_bounds, sampler_pmf, sampler_sample, tree_build_light_bvh};
-use coltoctober::records::{Query, Record};
-use coltoctober::rooms::Room;
-use coltoctober::trees::all_about;
-use coltoctober::walks::{bytes, Words};
+use trials::inputs::blocks::block_of;
+use trials::inputs::lists::BLOCK_RECORD;
+use trials::inputs::random::Random;
+use trials::inputs::records::{Query, Record};
+use trials::inputs::rooms::Room;
+use trials::inputs::trees::all_about;
+use trials::inputs::walks::{Words, bytes};
+use trials::proved::programs;
+use trials::proved::{lamps_build_light_bounds, sampler_pmf, sampler_sample, tree_build_light_bvh};
 
 const HEADER: &str = "lamp drawn named\n";
 /// The groups that the program reads at a time.

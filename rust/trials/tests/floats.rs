@@ -4,7 +4,7 @@ macro_rules! runs {
     ($($name:ident)*) => {
         $(#[test]
         fn $name() {
-            coltoctober::functions::Function::named(stringify!($name)).check(4_000_000);
+            trials::runs::functions::Function::named(stringify!($name)).check(4_000_000);
         })*
     };
 }

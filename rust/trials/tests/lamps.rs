@@ -1,13 +1,12 @@
-//! The differential runs of the gate: the proved lamp lists and blocks against the oracle, its stored answers, the limits, and the
-//! program that turns lists into blocks.
+//! The differential runs of the gate: the proved lamp lists and blocks against the oracle, the limits, and the program
+//! that turns lists into blocks.
 
-use coltoctober::blocks;
-use coltoctober::cases::Random;
-use coltoctober::lists::{list_of, wrapping_count, Kind, BLOCK_RECORD, KINDS, MOST_LAMPS, MOST_WORDS};
-use coltoctober::programs;
-use coltoctober::proved::{lamps_build_light_bounds, lamps_check_block};
-use coltoctober::stored::{check, PATTERN};
-use coltoctober::stored_lamps::Stored;
+use trials::inputs::lists::{BLOCK_RECORD, KINDS, Kind, MOST_LAMPS, MOST_WORDS, list_of, wrapping_count};
+use trials::inputs::random::Random;
+use trials::proved::programs;
+use trials::proved::{lamps_build_light_bounds, lamps_check_block};
+use trials::runs::blocks::blocks;
+use trials::stored::PATTERN;
 
 /// The answer, and the block of so many words after the call.
 fn built(list: &[u32], room: usize) -> (Result<(), u32>, Vec<u32>) {
@@ -36,12 +35,6 @@ fn triangle(area: f32) -> Vec<u32> {
 fn group(emission: f32, triangles: &[Vec<u32>]) -> Vec<u32> {
     let head = [3 << 30, emission.to_bits(), 1f32.to_bits(), 0, triangles.len() as u32];
     [&head[..], &triangles.concat()].concat()
-}
-
-/// The oracle's stored answers, with no need of the reference.
-#[test]
-fn stored_answers() {
-    check::<Stored>(2000);
 }
 
 /// Every cut and every room of a list of all kinds, and its order of refusals.
@@ -175,7 +168,7 @@ fn nan_coordinates() {
 /// Blocks, good and damaged.
 #[test]
 fn check_block() {
-    let counts = blocks::run(0, 200_000);
+    let counts = blocks(0, 200_000);
     println!("blocks: good {}, 1: {}, 2: {}, 4: {}, none differs", counts[0], counts[1], counts[2], counts[4]);
     [0, 1, 2, 4].into_iter().for_each(|n| assert!(counts[n] > 0, "no block ended in {n}"));
     assert_eq!(lamps_check_block(&[]), Err(1));
@@ -273,9 +266,9 @@ fn little_endian(words: &[u32]) -> Vec<u8> {
     words.iter().flat_map(|word| word.to_le_bytes()).collect()
 }
 
-coltoctober::differential! {
+trials::differential! {
     fn lists() {
-        let tally = coltoctober::runs::lists(0, 300_000);
+        let tally = trials::runs::lists::lists(0, 300_000);
         println!("lists: {tally}");
         let errors = [
             "error 4",

@@ -1,11 +1,11 @@
-//! The differential runs of the gate: the proved packing against the oracle over built and damaged words, and its stored answers.
-//! Document 01's marked cases and others known by hand are asked of the proved functions, and of the oracle where it is there.
+//! The differential runs of the gate: the proved packing against the oracle over built and damaged words.
+//! The marked cases (R14) and others known by hand are asked of the proved functions, and of the oracle where it is there.
 
-use coltoctober::both::{build_light_bvh, pack_light_bvh};
-use coltoctober::packing::{reserve, Case, Corners, Packed};
-use coltoctober::proved::packed_by_value;
-use coltoctober::trees::{all_about, INTERIOR};
-use coltoctober::walks::{words, Words, MOST_NODES, NODE_BYTES};
+use trials::inputs::packing::{Case, Corners, Packed, reserve};
+use trials::inputs::trees::{INTERIOR, all_about};
+use trials::inputs::walks::{MOST_NODES, NODE_BYTES, Words, words};
+use trials::proved::packed_by_value;
+use trials::runs::both::{build_light_bvh, pack_light_bvh};
 
 const NAN: u32 = 0x7fc0_0000;
 
@@ -24,7 +24,7 @@ impl Tree {
         Tree { words, k: k as usize, all }
     }
 
-    /// Document 01's pair.
+    /// The pair of R14.
     fn pair() -> Tree {
         Tree::new(&[([0.0; 3], 1.0), ([2.0, 0.0, 0.0], 1.0)])
     }
@@ -55,7 +55,7 @@ impl Tree {
     }
 }
 
-/// Document 01's marked cases.
+/// The marked cases (R14.5 to R14.7).
 #[test]
 fn marked_cases() {
     let pair = Tree::pair();
@@ -91,12 +91,6 @@ fn marked_cases() {
         let [x, y, z] = direction.map(f32::to_bits);
         assert_eq!(pair.changed(&[(1, 9, x), (1, 10, y), (1, 11, z)]).packed()[1][3], word, "{direction:?}");
     }
-}
-
-/// The oracle's stored answers, with no need of the reference.
-#[test]
-fn stored_answers() {
-    coltoctober::stored::check::<coltoctober::stored_packed::Stored>(68);
 }
 
 /// The C function's own: how the box is handed over. Any mark but 0 says that it is there; without it the corners are not read, and it
@@ -278,10 +272,10 @@ fn judged() {
     whole(&[(1, 0, 1 << 30 | 0x3fff_ffff)]);
 }
 
-coltoctober::differential! {
+trials::differential! {
     /// Random trees with words, box, k, lengths and tray changed: every refusal, every branch and every change is met.
     fn packings() {
-        let tally = coltoctober::pack_runs::packings(0, 20_000);
+        let tally = trials::runs::packing::packings(0, 20_000);
         println!("packings: {tally}");
         let records = ["error 5: Light bounds", "error 6: Light", "error 7: Light bounds", "error 8: Light bounds"];
         let boxes = ["error 5: Global", "error 6: Global", "error 12: Non-empty", "error 12: Light BVH global"];
@@ -293,18 +287,8 @@ coltoctober::differential! {
 
     /// Each word of each node and each word of the box replaced by each kind of wrong value; each length of the tray.
     fn each_word() {
-        let tally = coltoctober::pack_runs::each_word(0, 2);
+        let tally = trials::runs::packing::each_word(0, 2);
         println!("each word: {tally}");
         tally.check(&[0, 3, 5, 6, 7, 8, 12, 13], &["error 12: Light BVH node", "error 12: a packed", "room"]);
-    }
-
-    /// The cases that a program replays are the oracle's.
-    fn stored_sample() {
-        use coltoctober::stored::{cases, Answer, Case};
-        use coltoctober::stored_packed::{sample, Stored};
-        use coltoctober::{pack_oracle, reference};
-
-        let stored: Vec<Case> = sample(reference::build_light_bvh, pack_oracle::pack_light_bvh).iter().map(Answer::case).collect();
-        assert!(stored == cases(Stored::PART), "tools/answers makes them anew");
     }
 }

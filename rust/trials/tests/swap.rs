@@ -3,7 +3,7 @@
 //! blocks and builds the same alias tables.
 
 #[cfg(reference)]
-#[allow(dead_code)]
+#[allow(dead_code, clippy::all)]
 mod gpu {
     pub mod flat {
         pub use light_tree::pbrt::*;
@@ -59,7 +59,7 @@ mod util {
 /// What a renderer does, in its own words: bounds, tree, draws, chances, packed words.
 #[cfg(reference)]
 fn render(inputs: &[gpu::flat::LightBoundInput], p: [f32; 3], n: [f32; 3], u: f32) -> Result<bool, util::error::PbrtError> {
-    use gpu::flat::{build_light_bounds, build_light_bvh, bvh_light_sampler_pmf, bvh_light_sampler_sample, Light};
+    use gpu::flat::{Light, build_light_bounds, build_light_bvh, bvh_light_sampler_pmf, bvh_light_sampler_sample};
     use gpu::webgpu::{light_bvh, light_sampler};
 
     let bounds = build_light_bounds(inputs)?;
@@ -83,9 +83,9 @@ fn render(inputs: &[gpu::flat::LightBoundInput], p: [f32; 3], n: [f32; 3], u: f3
     Ok(theirs.is_empty())
 }
 
-coltoctober::differential! {
+trials::differential! {
     fn renderer() {
-        use coltoctober::cases::Random;
+        use trials::inputs::random::Random;
         use gpu::flat::{AreaTriangleInput, LightBoundInput};
 
         let mut random = Random::new(11);

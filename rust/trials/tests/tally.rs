@@ -1,9 +1,9 @@
 //! What ends a differential run.
 
-coltoctober::differential! {
+trials::differential! {
     /// A prefix that no label has, as well as a label, an answer without a case and a difference; each says which.
     fn check() {
-        use coltoctober::runs::Tally;
+        use trials::runs::tally::Tally;
 
         let labels = [("walk: up", 3), ("walk: down", 0)].map(|(label, count)| (label.into(), count)).into();
         let mut tally = Tally { cases: 3, labels, ..Tally::default() };

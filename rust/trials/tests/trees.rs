@@ -1,16 +1,16 @@
-//! The differential runs of the gate: the proved build against the oracle, its stored answers, and the stack of the deepest tree. What is
+//! The differential runs of the gate: the proved build against the oracle, and the stack of the deepest tree. What is
 //! known by hand is asked of the proved functions, and of the oracle where it is there.
 
-use coltoctober::blocks::{block_of, records};
-use coltoctober::both::{build_light_bounds, build_light_bvh, pmf, sample};
-use coltoctober::cases::Random;
-use coltoctober::lists::{BLOCK_RECORD, MOST_LAMPS, MOST_WORDS};
-use coltoctober::proved::tree_build_light_bvh;
-use coltoctober::records::{query_at, Record};
-use coltoctober::rooms::Room;
-use coltoctober::stored::PATTERN;
-use coltoctober::trees::{all_about, deepest, depth, lent, reserves, Built, ANSWER, INTERIOR, LEAF, NODE};
-use coltoctober::walks::{Chance, Drawn, Words};
+use trials::inputs::blocks::{block_of, records};
+use trials::inputs::lists::{BLOCK_RECORD, MOST_LAMPS, MOST_WORDS};
+use trials::inputs::random::Random;
+use trials::inputs::records::{Record, query_at};
+use trials::inputs::rooms::Room;
+use trials::inputs::trees::{ANSWER, Built, INTERIOR, LEAF, NODE, all_about, deepest, depth, lent, reserves};
+use trials::inputs::walks::{Chance, Drawn, Words};
+use trials::proved::tree_build_light_bvh;
+use trials::runs::both::{build_light_bounds, build_light_bvh, pmf, sample};
+use trials::stored::PATTERN;
 
 const NONE: u32 = u32::MAX;
 const HUGE: f32 = 3e38; // two of them overflow
@@ -64,7 +64,7 @@ fn tree(records: &[Record]) -> (Built, Vec<[u32; NODE]>, Vec<u32>) {
     assert_eq!(number, 0);
     trays.iter_mut().for_each(|words| assert_eq!(words.pop(), Some(PATTERN)));
     let [nodes, table, work, answer] = trays;
-    let answer = coltoctober::trees::built(&answer);
+    let answer = trials::inputs::trees::built(&answer);
     let (used, unused) = nodes.split_at(NODE * (2 * answer.0 as usize).saturating_sub(1));
     assert!(unused.iter().chain(&work).all(|word| *word == 0));
     (answer, used.as_chunks().0.to_vec(), table)
@@ -83,13 +83,7 @@ fn named(records: &[Record], p: [f32; 3], handle: u32) -> Chance {
     pmf(&Words::built(build_light_bvh, records).unwrap().tree(), &query_at(p, [0.0; 3]), handle)
 }
 
-/// The oracle's stored answers, with no need of the reference.
-#[test]
-fn stored_answers() {
-    coltoctober::stored::check::<coltoctober::stored_trees::Stored>(1500);
-}
-
-/// Document 01's pair, every word of its tree; and with the places exchanged.
+/// The pair of R14, every word of its tree; and with the places exchanged.
 #[test]
 fn pair() {
     let [first, second] = the_pair();
@@ -109,7 +103,7 @@ fn pair() {
     assert_eq!((answer.1.unwrap()[1], nodes[0][4]), (0, 1 << 31));
 }
 
-/// Document 01's draws of the pair, and with no nodes.
+/// The draws of the pair and with no nodes (R14.1 to R14.3).
 #[test]
 fn draws() {
     let (pair, p, half) = (the_pair(), [1.0, 0.0, 1.0], 0x3f00_0000);
@@ -203,7 +197,7 @@ fn order_of_refusals() {
     let mut most = vec![cube(0.0, 1.0); MOST_LAMPS + 1];
     refused(4097, &block_of(&most), reserves(4097), 2);
     most.pop();
-    assert_eq!(tree(&most).0 .0, 4096);
+    assert_eq!(tree(&most).0.0, 4096);
 }
 
 /// The answer's own: of every length from 0 to 8, what is written of it, left and zeroed, by trees, without lamps or power, and refused.
@@ -309,16 +303,16 @@ fn rooms() {
     }
 }
 
-coltoctober::differential! {
+trials::differential! {
     /// The deepest tree is the oracle's.
     fn deepest_tree() {
-        let nodes = coltoctober::tree_runs::on_deep_stack(|| tree(&deepest(MOST_LAMPS)).1);
+        let nodes = trials::runs::trees::on_deep_stack(|| tree(&deepest(MOST_LAMPS)).1);
         assert_eq!((nodes.len(), depth(nodes.as_flattened())), (8191, 4095));
     }
 
     /// The branches that the oracle takes in `middles` and in `lost_unions`.
     fn branches() {
-        use coltoctober::reference::{marked, Branch};
+        use trials::oracle::reference::{marked, Branch};
 
         let (_, branches) = marked(|| table(&at_one_point()));
         let taken = [Branch::AxisLeftOut, Branch::DefaultSplit, Branch::OneBucket, Branch::MiddleCut];
@@ -334,7 +328,7 @@ coltoctober::differential! {
 
     /// Random blocks: every refusal and every branch is met, but for a branch that no block reaches and for unions of no power.
     fn trees() {
-        let tally = coltoctober::tree_runs::trees(0, 40_000);
+        let tally = trials::runs::trees::trees(0, 40_000);
         println!("trees: {tally}");
         let errors = ["error 5: Light", "error 6: Light", "error 7: Light bounds", "error 8: Light bounds", "error 10"];
         let branches = ["cones", "tree", "split", "bucket", "cost", "refused", "order", "room", "answer"];
@@ -342,36 +336,5 @@ coltoctober::differential! {
         [9, 11, 12, 13].into_iter().for_each(|number| assert_eq!(tally.answers[number], 0, "{number}"));
         let unmet = tally.labels.iter().filter(|(label, _)| label.starts_with("never") || label.starts_with("union"));
         unmet.for_each(|(label, count)| assert_eq!(*count, 0, "{label}"));
-    }
-
-    /// The cases that a program replays are the oracle's.
-    fn stored_sample() {
-        use coltoctober::reference;
-        use coltoctober::stored::{cases, Answer, Case};
-        use coltoctober::stored_trees::{sample, Stored};
-
-        let stored: Vec<Case> = sample(reference::build_light_bvh).iter().map(Answer::case).collect();
-        assert!(stored == cases(Stored::PART), "tools/answers makes them anew");
-    }
-
-    /// The walk that the benchmark takes its nodes from is the reference's.
-    fn walk_of_the_benchmark() {
-        use coltoctober::reference::native::light_bvh::bvh_light_sampler_sample;
-        use coltoctober::reference::native_tree;
-        use coltoctober::rooms::walk;
-
-        let mut random = Random::new(1);
-        for lamps in [1, 2, 12, 512, 4096] {
-            let room = Room::new(&mut random, lamps);
-            let mut block = vec![0; 1 + BLOCK_RECORD * lamps];
-            build_light_bounds(&room.list, &mut block).unwrap();
-            let tree = native_tree(&block).unwrap();
-            for _ in 0..500 {
-                let (query, u) = (room.query(&mut random), random.within(1.0).abs());
-                let [p, n] = [0, 3].map(|from| [0, 1, 2].map(|i| f32::from_bits(query[from + i])));
-                let drawn = bvh_light_sampler_sample(&tree, p, n, u).unwrap();
-                assert_eq!(walk(&tree, &query, u).1, drawn.map(|(handle, _)| handle));
-            }
-        }
     }
 }

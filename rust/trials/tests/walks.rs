@@ -1,23 +1,17 @@
-//! The differential runs of the gate: the proved draws and chances by name against the oracle over built trees and damaged words, their
-//! stored answers; and the search for a violation of demand 3. What is known by hand is asked of the proved functions, and of the
+//! The differential runs of the gate: the proved draws and chances by name against the oracle over built trees and damaged words; and
+//! the search for a violation of demand 3. What is known by hand is asked of the proved functions, and of the
 //! oracle where it is there.
 
-use coltoctober::both::{build_light_bvh, importance, pmf, sample};
-use coltoctober::light_runs::{Search, Slip, Violation, SLIPS};
-use coltoctober::records::{query_at, Query, Record};
-use coltoctober::trees::all_about;
-use coltoctober::walks::{Chance, Drawn, Tree, Words, MOST_NODES, NODE_BYTES};
-
-/// The oracle's stored answers, with no need of the reference.
-#[test]
-fn stored_answers() {
-    coltoctober::stored::check::<coltoctober::stored_walks::Stored>(616);
-}
+use trials::inputs::records::{Query, Record, query_at};
+use trials::inputs::trees::all_about;
+use trials::inputs::walks::{Chance, Drawn, MOST_NODES, NODE_BYTES, Tree, Words};
+use trials::runs::both::{build_light_bvh, importance, pmf, sample};
+use trials::runs::demand3::{SLIPS, Search, Slip, Violation};
 
 /// No violation on the proved build, draw and chance; one in each broken copy of the draw, of the kind that its slip makes.
 #[test]
 fn demand_3() {
-    let search = Search::run(&coltoctober::proved::sampler_sample, 0, 60_000, false);
+    let search = Search::run(&trials::proved::sampler_sample, 0, 60_000, false);
     println!("demand 3: {search}");
     assert!(search.found.is_empty() && search.trees == 60_000);
     let met = [search.lone, search.infinite_roots, search.none, search.draws_refused, search.mixed, search.nan_chances];
@@ -40,10 +34,10 @@ fn demand_3() {
 /// What the search says of a tree that is not whole: of each head, child and parent word, each box and each table word.
 #[test]
 fn shapes() {
-    use coltoctober::light_runs::shape_flaw;
+    use trials::runs::demand3::shape_flaw;
 
     let records = [0.0, 1.0, 3.0, 7.0].map(|x| all_about([x; 3], [x + 1.0; 3], if x == 3.0 { 0.0 } else { 1.0 }));
-    let sound = Words::built(coltoctober::proved::tree_build_light_bvh, &records).unwrap();
+    let sound = Words::built(trials::proved::tree_build_light_bvh, &records).unwrap();
     assert_eq!((sound.nodes.len(), shape_flaw(&records, &sound)), (5, None));
     let flawed = |change: &dyn Fn(&mut Words)| {
         let mut words = sound.clone();
@@ -56,8 +50,8 @@ fn shapes() {
             // a leaf's right child is not read
             assert!(flawed(&|words| words.nodes[place][word] ^= 1 << bit) || word == 1 && !fork, "{place} {word} {bit}");
         }
-        for word in 3..9 {
-            let inward = f32::from_bits(node[word]) + if word < 6 { 0.5 } else { -0.5 };
+        for (word, end) in node.iter().enumerate().take(9).skip(3) {
+            let inward = f32::from_bits(*end) + if word < 6 { 0.5 } else { -0.5 };
             assert!(!fork || flawed(&|words| words.nodes[place][word] = inward.to_bits()), "{place} {word}");
         }
     }
@@ -82,7 +76,7 @@ fn words(records: &[Record]) -> Words {
     Words::built(build_light_bvh, records).unwrap()
 }
 
-/// Document 01's pair.
+/// The pair of R14.
 fn the_pair() -> Words {
     words(&[point([0.0; 3], 1.0), point([2.0, 0.0, 0.0], 1.0)])
 }
@@ -115,7 +109,7 @@ fn refused(words: &Words, query: &Query, u: u32, handle: u32, number: u32) {
     named(&words.tree(), query, handle, Err(number));
 }
 
-/// Document 01's pair, and no nodes.
+/// The pair of R14, and no nodes.
 #[test]
 fn pair() {
     let (pair, query) = (the_pair().tree(), query_at([1.0, 0.0, 1.0], [0.0; 3]));
@@ -297,10 +291,10 @@ fn cycles() {
     assert!(answers[0] && !answers[256] && answers.iter().filter(|given| **given).count() > 128);
 }
 
-coltoctober::differential! {
+trials::differential! {
     /// Random trees, sound and damaged: every refusal, every branch and every damage is met.
     fn draws() {
-        let tally = coltoctober::walk_runs::draws(0, 200_000);
+        let tally = trials::runs::walks::draws(0, 200_000);
         println!("draws: {tally}");
         let records = ["error 5: Light bounds", "error 6: Light", "error 7: Light bounds", "error 8: Light bounds"];
         let errors = ["error 5: Imp", "error 7: Light direction", "error 11"];
@@ -311,7 +305,7 @@ coltoctober::differential! {
     }
 
     fn chances() {
-        let tally = coltoctober::walk_runs::chances(0, 200_000);
+        let tally = trials::runs::walks::chances(0, 200_000);
         println!("chances: {tally}");
         let records = ["error 5: Light bounds", "error 6: Light", "error 7: Light bounds", "error 8: Light bounds"];
         let errors = ["error 5: Imp", "error 7: Light direction"];
@@ -320,21 +314,58 @@ coltoctober::differential! {
         [3, 4, 9, 10, 11, 13].into_iter().for_each(|number| assert_eq!(tally.answers[number], 0, "{number}"));
     }
 
-    /// The cases that a program replays are the oracle's.
-    fn stored_sample() {
-        use coltoctober::stored::{cases, Answer, Case};
-        use coltoctober::stored_walks::{sample, Stored};
-        use coltoctober::walk_oracle::ORACLE;
-
-        let stored: Vec<Case> = sample(&ORACLE).iter().map(Answer::case).collect();
-        assert!(stored == cases(Stored::PART), "tools/answers makes them anew");
-    }
-
     /// Each word of each node replaced by each kind of wrong value.
     fn each_word() {
-        let [draws, chances] = coltoctober::walk_runs::each_word(0, 3);
+        let [draws, chances] = trials::runs::walks::each_word(0, 3);
         println!("each word, draws: {draws}each word, chances: {chances}");
         draws.check(&[0, 5, 6, 7, 8, 12], &["oracle: the"]);
         chances.check(&[0, 5, 6, 7, 8, 12], &["oracle: the"]);
+    }
+
+    /// What the walks tell: a draw enters the nodes from the root to its lamp's leaf, and weighs at each but the last; the chance of that
+    /// lamp enters and weighs the same, leaf first.
+    fn told() {
+        use trials::inputs::random::Random;
+        use trials::oracle::walks::Decoded;
+
+        let mut random = Random::new(1);
+        let (mut told, mut forks) = (0, 0);
+        while told < 20_000 {
+            let words = random.grown(build_light_bvh, 64);
+            let (decoded, query) = (Decoded::new(&words.tree()), random.walk_query(&words));
+            for u in [0.0, 0.25, 0.5, 0.75, 1.0] {
+                let drawn = decoded.descent(&query, u);
+                let Ok(Some((handle, _))) = drawn.ended else { continue };
+                let named = decoded.ascent(&query, handle);
+                let of_forks: Vec<usize> = drawn.forks.iter().map(|fork| fork.place).collect();
+                assert_eq!((drawn.places[0], drawn.places.last()), (0, Some(&(words.table[handle as usize] as usize))));
+                assert_eq!(of_forks, drawn.places[..drawn.places.len() - 1]);
+                assert!(drawn.places.iter().rev().eq(&named.places) && of_forks.iter().rev().eq(named.forks.iter().map(|fork| &fork.place)));
+                (told, forks) = (told + 1, forks + of_forks.len());
+            }
+        }
+        println!("told: {told} lamps drawn and named, {forks} forks passed");
+    }
+
+    /// The draw's loop over Rust's own library functions, which the benchmark takes its nodes from, is the reference's.
+    fn own_loop() {
+        use trials::inputs::random::Random;
+        use trials::inputs::records::vectors;
+        use trials::inputs::rooms::Room;
+        use trials::oracle::loops::Own;
+        use trials::oracle::reference::native::light_bvh::bvh_light_sampler_sample;
+        use trials::oracle::reference::{build_light_bounds, native_tree};
+
+        let mut random = Random::new(1);
+        for lamps in [1, 2, 12, 512, 4096] {
+            let room = Room::new(&mut random, lamps);
+            let tree = native_tree(&room.block(build_light_bounds)).unwrap();
+            let own = Own::new(&tree);
+            for _ in 0..500 {
+                let (query, u) = (room.query(&mut random), random.within(1.0).abs());
+                let [p, n] = vectors(&query);
+                assert_eq!(own.descent(&query, u).ended, bvh_light_sampler_sample(&tree, p, n, u));
+            }
+        }
     }
 }

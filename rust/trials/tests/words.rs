@@ -1,9 +1,9 @@
 //! The differential runs of the gate: words in slices, proved against std's, with all that lies about a slice held in view.
 
-use coltoctober::cases::Random;
-use coltoctober::lent::{byte, word, Lent};
-use coltoctober::proved;
 use std::fmt::Debug;
+use trials::inputs::lent::{Lent, byte, word};
+use trials::inputs::random::Random;
+use trials::proved;
 
 const CASES: usize = 1_000_000;
 
@@ -95,43 +95,47 @@ fn fill() {
     });
 }
 
-#[test]
-fn words_of_bytes() {
+/// What a place of a slice holds, of random bits.
+type Unit<T> = fn(u64) -> T;
+
+/// A slice copied to one of other units, whose room is about what is needed, at most so much more or less.
+fn copied<T: Copy, U: Copy + PartialEq + Debug>(
+    name: &str,
+    (from, to): (Unit<T>, Unit<U>),
+    (needed, about): (fn(usize) -> usize, usize),
+    proved: fn(&[T], &mut [U]) -> Result<(), u32>,
+    expected: fn(&[T], &mut [U]) -> Result<(), u32>,
+) {
     lengths(|random, len| {
-        let mut lent = Lent::new(random, len, byte);
-        let bytes = &*lent.slice();
-        let room = (len / 4 + random.below(5) as usize).saturating_sub(2);
+        let mut lent = Lent::new(random, len, from);
+        let given = &*lent.slice();
+        let room = (needed(len) + random.below(2 * about as u64 + 1) as usize).saturating_sub(about);
         same(
-            Lent::new(random, room, word),
-            |words| proved::words_of_bytes(bytes, words),
-            |words| {
-                if len % 4 != 0 {
-                    return Err(1);
-                }
-                let read = words.get_mut(..len / 4).ok_or(3u32)?;
-                read.iter_mut().enumerate().for_each(|(i, word)| *word = word_at(bytes, i));
-                Ok(())
-            },
-            || format!("words_of_bytes({len} bytes, {room} words)"),
+            Lent::new(random, room, to),
+            |taken| proved(given, taken),
+            |taken| expected(given, taken),
+            || format!("{name}({len} to {room})"),
         );
     });
 }
 
 #[test]
+fn words_of_bytes() {
+    copied("words_of_bytes", (byte, word), (|bytes| bytes / 4, 2), proved::words_of_bytes, |bytes, words| {
+        if bytes.len() % 4 != 0 {
+            return Err(1);
+        }
+        let read = words.get_mut(..bytes.len() / 4).ok_or(3u32)?;
+        read.iter_mut().enumerate().for_each(|(i, word)| *word = word_at(bytes, i));
+        Ok(())
+    });
+}
+
+#[test]
 fn bytes_of_words() {
-    lengths(|random, len| {
-        let mut lent = Lent::new(random, len, word);
-        let words = &*lent.slice();
-        let room = (4 * len + random.below(17) as usize).saturating_sub(8);
-        same(
-            Lent::new(random, room, byte),
-            |bytes| proved::bytes_of_words(words, bytes),
-            |bytes| {
-                let written = bytes.get_mut(..4 * len).ok_or(3u32)?;
-                words.iter().enumerate().for_each(|(i, &word)| set_word(written, i, word));
-                Ok(())
-            },
-            || format!("bytes_of_words({len} words, {room} bytes)"),
-        );
+    copied("bytes_of_words", (word, byte), (|words| 4 * words, 8), proved::bytes_of_words, |words, bytes| {
+        let written = bytes.get_mut(..4 * words.len()).ok_or(3u32)?;
+        words.iter().enumerate().for_each(|(i, &word)| set_word(written, i, word));
+        Ok(())
     });
 }

@@ -12,7 +12,7 @@ use Rattle.words.specs.Answers.{given, counted}
 use Rattle.words.specs.Refusals.{number}
 use Rattle.light_bounds.specs.Bounds.{validity}
 use Rattle.light_bounds.specs.declared.bounds.Bounds3.{Bounds3}
-use Rattle.light_nodes.specs.Nodes.{maxNodes}
+use Rattle.light_rows.specs.Nodes.{maxNodes}
 use Rattle.packed_bvh.specs.Packed.{packCheck, packedReserve}
 use Rattle.packed_bvh.proofs.PackLaws.{check-known, filled-none, agreed-empty, agreed-dark, agreed-valid}
 use Rattle.packed_bvh.proofs.PackLaws.{agreed-refused, agreed-nothing, agreed-lamps}

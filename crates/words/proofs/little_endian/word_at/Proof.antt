@@ -1,35 +1,15 @@
--- `words::little_endian::word_at` meets its contract: the word of four bytes fits, and past the last word there is none. Assumes nothing.
-use Prim.Native.Nat.{ℕ, _+_, _*_, _<_}
+-- `words::little_endian::word_at`: past the last whole word there is none. Assumes nothing.
 use mathlib.Core.Path.{sym}
 use borrow.Author.Needs.{needs}
-use native.Mathlib.Omega.{arith}
-use mir.Facts.{fits-widen}
-use lib.ListN.{getD, List·getD-eq-default}
+use lib.ListN.{List·getD-eq-default}
 use Rattle.words.specs.LittleEndian.{wordsOf}
-use Rattle.words.proofs.LittleEndianLaws.{length-wordsOf, wordsOf-at}
+use Rattle.words.proofs.LittleEndianLaws.{length-wordsOf}
 use Rattle.words.proofs.little_endian.word_at.Statement.{statement}
 use Rattle.words.proofs.little_endian.word_at.Tie as tie
 
-module _ (c : tie.After-shared-slice-known4) where
-  abbrev at : ℕ
-  at = 4 * c .before .before .before .before .before .args .place
-
-  abbrev byte : ℕ → ℕ
-  byte i = getD (c .before .before .before .before .before .args .bytes .now) i 0
-
-  small : (byte at < 256) × (byte (at + 1) < 256) × (byte (at + 2) < 256) × (byte (at + 3) < 256)
-  small =
-      let known = c .shared-slice-known4 .given in
-      (known at .fits, known (at + 1) .fits, known (at + 2) .fits, known (at + 3) .fits)
-
 returns-2 : tie.Need-returns-2
-returns-2 c = sym (List·getD-eq-default (wordsOf (c .before .args .bytes .now)) 0 (rw length-wordsOf (c .if1 .left)))
+returns-2 c =
+    sym (List·getD-eq-default (wordsOf (c .before .before .args .bytes .now)) 0 (rw length-wordsOf (c .if1 .left)))
 
 pub word-at-spec : {M : Type 1} → statement M
-word-at-spec =
-    tie.close (tie.spec (λ c. search needs) (λ c. search needs) (λ c. fits-widen tt (c .shared-slice-known .given _)) (λ c. search needs)
-    (λ c. search needs) (λ c. fits-widen tt (c .shared-slice-known2 .given _)) (λ c. search needs) (λ c. search needs)
-    (λ c. fits-widen tt (c .shared-slice-known3 .given _)) (λ c. search needs) (λ c. search needs)
-    (λ c. fits-widen tt (c .shared-slice-known4 .given _)) (λ c. omega (arith, small c)) (λ c. omega (arith, small c))
-    (λ c. omega (arith, small c)) (λ c. omega (arith, small c)) (λ c. omega (arith, small c)) (λ c. omega (arith, small c))
-    (λ c. sym (wordsOf-at _ _ (c .before .before .before .before .if1 .taken))) returns-2)
+word-at-spec = tie.close (tie.spec (λ c κs. search needs) (λ c. search needs) returns-2)

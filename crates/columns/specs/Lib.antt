@@ -1,5 +1,0 @@
-pub mod Lines
-pub mod Report
-pub mod ReportLaws
-pub mod TreeLaws
-pub mod WrittenLaws

@@ -1,2 +1,0 @@
-pub mod ListToBlock
-pub mod ListToBlockLaws

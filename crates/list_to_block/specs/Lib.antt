@@ -1,0 +1,2 @@
+pub mod ListToBlock
+pub mod Laws

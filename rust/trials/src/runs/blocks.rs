@@ -1,0 +1,19 @@
+//! Runs of the proved check of a block against the one written here again.
+
+use super::progress::turns;
+use crate::inputs::blocks::check_block;
+use crate::inputs::random::Random;
+use crate::proved;
+
+/// Counts the cases by their number.
+pub fn blocks(seed: u64, cases: u64) -> [u64; 14] {
+    let mut random = Random::new(seed);
+    let mut counts = [0; 14];
+    for _ in turns("blocks", cases) {
+        let block = random.block();
+        let expected = check_block(&block);
+        assert_eq!(proved::lamps_check_block(&block), expected, "{} words: {:08x?}", block.len(), &block[..block.len().min(60)]);
+        counts[expected.err().unwrap_or(0) as usize] += 1;
+    }
+    counts
+}
