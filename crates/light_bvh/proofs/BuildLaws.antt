@@ -19,7 +19,7 @@ use Rattle.words.specs.Rows.{below}
 use Rattle.words.specs.Tray.{tray}
 use Rattle.words.specs.Laws.TrayLaws.{tray-early}
 use Rattle.words.proofs.AnswerLaws.{Early, Late, only-given, only-refused, only-cond}
-use Rattle.words.proofs.AnswerLaws.{only-then, only-number, then-given, given-injective, not-both}
+use Rattle.words.proofs.AnswerLaws.{only-then, only-number, then-given, not-both, cond-given, cond-kept}
 use Rattle.words.proofs.LimitLaws.{few-lamps}
 use Rattle.words.proofs.Reserves.{tray-zeroed}
 use Rattle.light_bounds.specs.declared.bounds.Bounds3.{Bounds3}
@@ -69,14 +69,6 @@ module _ (m nodes table work : ℕ) where
       (ltb-false nodes (nodesReserve m) n, ltb-false table m t, ltb-false work (workReserve m) w)
 
 -- ---- what the checks give
-
-cond-given : (b : Bool) (m n k : ℕ) → cond b (given m) (refused n) ≡ given k → (b ≡ true) × (m ≡ k)
-cond-given true m n k e = (refl, given-injective e)
-cond-given false m n k e = absurd (not-both e refl)
-
-cond-kept : (b : Bool) (m n k : ℕ) → cond b (refused n) (given m) ≡ given k → (b ≡ false) × (m ≡ k)
-cond-kept true m n k e = absurd (not-both e refl)
-cond-kept false m n k e = (refl, given-injective e)
 
 and-left : (a b : Bool) → a && b ≡ true → a ≡ true
 and-left true b e = refl

@@ -4,7 +4,7 @@
 -- root is read back from its words as it is (`union-read`, `joined-read`). Assumes nothing.
 use Prim.Native.Nat.{ℕ, zero, suc, _+_, _-_, _*_, _/_, _^_, _≤_, _<_}
 use mathlib.Core.Path.{_≡_, refl, ap, sym, _∙_}
-use mathlib.Core.Bool.{Bool, true, false, cond, _&&_}
+use mathlib.Core.Bool.{Bool, true, false, _&&_}
 use mathlib.Core.List.{List, [], _∷_, _++_, append-nil, append-assoc}
 use mathlib.Core.Logic.{_⊎_, inl, inr}
 use native.Mathlib.Omega.{arith}
@@ -16,7 +16,7 @@ use borrow.Rule.Slice.PartMut.{midOf, putMid, mid-len, same-len-mid}
 use Rattle.words.specs.Answers.{Answer, given, refused, _then_}
 use Rattle.words.proofs.AnswerLaws.{Gives, gives, gives-none, gives-any, gives-then}
 use Rattle.words.proofs.AnswerLaws.{gives-value, given-injective, refused-injective, then-given, not-both}
-use Rattle.words.proofs.AnswerLaws.{only-number}
+use Rattle.words.proofs.AnswerLaws.{only-number, then-same, then-refused, then-is, gives-of, cond-given}
 use Rattle.light_bounds.specs.Laws.BoundsLaws.{union-given}
 use Rattle.light_bounds.specs.LightBounds.{union}
 use Rattle.light_rows.specs.Laws.RecordLaws.{RecordFits, join-fits, record-fits-read}
@@ -82,19 +82,6 @@ module _ (ws hs : List ℕ) (s : Split) where
       record { left = within .0; right = omega arith; sum = sum′ }
 
 -- ---- the depth
-
-then-same : {A B : Type 0} (x : Answer A) (f g : A → Answer B) → ((a : A) → f a ≡ g a) → x then f ≡ x then g
-unfolding _then_
-then-same (given a) f g h = h a
-then-same (refused n) f g h = refl
-
-then-refused : {A B : Type 0} (x : Answer A) (f : A → Answer B) (n : ℕ) → x ≡ refused n → x then f ≡ refused n
-unfolding _then_
-then-refused x f n e = rw e
-
-then-is : {A B : Type 0} (x : Answer A) (f : A → Answer B) (a : A) → x ≡ given a → x then f ≡ f a
-unfolding _then_
-then-is x f a e = rw e
 
 -- builds that agree on shorter stretches
 abbrev Agree : ℕ → (List ℕ → Answer Tree) → (List ℕ → Answer Tree) → Type 0
@@ -176,10 +163,6 @@ pub record Sized (n : ℕ) (t : Tree) : Type 0 where
   pub size : leaves t ≡ n
   pub fits : RecordFits (bounds t)
 
-gives-of : {A : Type 0} {P : A → Type 0} (x : Answer A) → ((a : A) → x ≡ given a → P a) → Gives P x
-gives-of (given a) h = gives (h a refl)
-gives-of (refused n) h = gives-none
-
 union-fits : (a b : LightBounds) → RecordFits a → RecordFits b → Gives RecordFits (union a b)
 union-fits a b h k = gives-of (union a b) (λ r e. rw (union-given a b r e .2) (join-fits a b h k))
 
@@ -212,15 +195,11 @@ build-fits ws n hs t e = gives-value (build-sized ws n hs) e .fits
 
 -- ---- read back from the words
 
-cond-given : {A : Type 0} (t : Bool) (a b : A) (n : ℕ) → cond t (given a) (refused n) ≡ given b → a ≡ b
-cond-given true a b n e = given-injective e
-cond-given false a b n e = absurd (not-both e refl)
-
 bounds-read-back : (ws : List ℕ) (i : ℕ) (b : LightBounds) → boundsAt ws i ≡ given b → readRecord ws (boundsPlace i) ≡ b
 unfolding boundsAt recordAt
 bounds-read-back ws i b e =
     cond-given (leb (boundsPlace i + recordWords) (length ws) && sideKnown (getD ws (sidePlace (boundsPlace i)) 0))
-    (readRecord ws (boundsPlace i)) b 12 e
+    (readRecord ws (boundsPlace i)) 12 b e .1
 
 -- any words of a node, then two trees
 abbrev pub laidOut : List ℕ → ℕ → Tree → Tree → List ℕ

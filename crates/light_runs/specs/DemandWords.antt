@@ -10,7 +10,6 @@ use Rattle.ieee.specs.Single.{zerof, onef}
 use Rattle.words.specs.Answers.{given}
 use Rattle.words.specs.LittleEndian.{bytesOf}
 use Rattle.light_bounds.specs.declared.importance.Query.{Query}
-use Rattle.light_rows.specs.Nodes.{LightBVHNode, leaf, interior, invalidIndex, nodeAt, boundsAt}
 use Rattle.light_bvh.specs.Build.{LightBVH, nodesWritten, tableWritten}
 use Rattle.light_sampler.specs.Sampler.{sampleWalk, sample, pmfWalk}
 

@@ -12,6 +12,20 @@ unfolding _then_
 then-assoc (given a) f g = refl
 then-assoc (refused n) f g = refl
 
+-- steps that are the same on whatever is given
+pub then-same : {A B : Type 0} (x : Answer A) (f g : A → Answer B) → ((a : A) → f a ≡ g a) → x then f ≡ x then g
+unfolding _then_
+then-same (given a) f g h = h a
+then-same (refused n) f g h = refl
+
+pub then-refused : {A B : Type 0} (x : Answer A) (f : A → Answer B) (n : ℕ) → x ≡ refused n → x then f ≡ refused n
+unfolding _then_
+then-refused x f n e = rw e
+
+pub then-is : {A B : Type 0} (x : Answer A) (f : A → Answer B) (a : A) → x ≡ given a → x then f ≡ f a
+unfolding _then_
+then-is x f a e = rw e
+
 -- ---- which refusals
 
 -- a refusal, if any, has the property
@@ -85,6 +99,10 @@ pub gives-any : {A : Type 0} (x : Answer A) → Gives (λ (a : A). Unit {0}) x
 gives-any (given a) = gives tt
 gives-any (refused n) = gives-none
 
+pub gives-of : {A : Type 0} {P : A → Type 0} (x : Answer A) → ((a : A) → x ≡ given a → P a) → Gives P x
+gives-of (given a) h = gives (h a refl)
+gives-of (refused n) h = gives-none
+
 -- ---- given and refused apart
 
 abbrev pub Given : {A : Type 0} → Answer A → Type 0
@@ -115,6 +133,17 @@ pub then-given : {A B : Type 0} (x : Answer A) (f : A → Answer B) (b : B) → 
 unfolding _then_
 then-given (given a) f b e = (a, refl, e)
 then-given (refused n) f b e = absurd (not-both e refl)
+
+-- by a test: where it gives, and where it refuses
+pub cond-given : {A : Type 0} (b : Bool) (x : A) (n : ℕ) (y : A) → cond b (given x) (refused n) ≡ given y
+    → (b ≡ true) × (x ≡ y)
+cond-given true x n y e = (refl, given-injective e)
+cond-given false x n y e = absurd (not-both e refl)
+
+pub cond-kept : {A : Type 0} (b : Bool) (x : A) (n : ℕ) (y : A) → cond b (refused n) (given x) ≡ given y
+    → (b ≡ false) × (x ≡ y)
+cond-kept true x n y e = absurd (not-both e refl)
+cond-kept false x n y e = (refl, given-injective e)
 
 -- ---- counts
 

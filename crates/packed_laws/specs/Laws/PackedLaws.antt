@@ -14,7 +14,7 @@ use lib.ListN.{length, getD, take, length-append, List·getD-append}
 use lib.Seq.{getD-append-add}
 use Rattle.words.specs.Answers.{Answer, given, refused, _then_}
 use Rattle.words.specs.LittleEndian.{wordsOf}
-use Rattle.words.proofs.AnswerLaws.{then-given, given-injective, not-both}
+use Rattle.words.proofs.AnswerLaws.{then-given, given-injective, not-both, cond-given, cond-kept}
 use Rattle.light_bounds.specs.Bounds.{boxCheck}
 use Rattle.light_bounds.specs.LightBounds.{validate}
 use Rattle.light_bounds.specs.Vecmath.{normalizeByDivision}
@@ -35,21 +35,11 @@ use Rattle.packed_bvh.specs.PackedRead.{readNode, readBox, boxAt, boxSteps}
 
 payload-small : (n : LightBVHNode) → payloadCheck n ≡ given tt → payload n ≤ indexMax
 unfolding payloadCheck
-payload-small n e = go (ltb indexMax (payload n)) refl e
-  where
-    go : (b : Bool) → ltb indexMax (payload n) ≡ b
-        → _≡_ {A = Answer (Unit {0})} (cond b (refused 13) (given tt)) (given tt) → payload n ≤ indexMax
-    go true f e = absurd (not-both e refl)
-    go false f e = ltb-false indexMax (payload n) f
+payload-small n e = ltb-false indexMax (payload n) (cond-kept (ltb indexMax (payload n)) tt 13 tt e .0)
 
 left-next : (i l r p : ℕ) → leftCheck i (interior l r p) ≡ given tt → l ≡ i + 1
 unfolding leftCheck
-left-next i l r p e = go (eqb l (i + 1)) refl e
-  where
-    go : (b : Bool) → eqb l (i + 1) ≡ b → _≡_ {A = Answer (Unit {0})} (cond b (given tt) (refused 12)) (given tt)
-        → l ≡ i + 1
-    go true f e = eqb-true l (i + 1) f
-    go false f e = absurd (not-both e refl)
+left-next i l r p e = eqb-true l (i + 1) (cond-given (eqb l (i + 1)) tt 12 tt e .0)
 
 -- a node that passed its checks is read from its payload's word and its parent
 node-back : (i : ℕ) (n : LightBVHNode) → payloadCheck n ≡ given tt → leftCheck i n ≡ given tt
@@ -207,11 +197,7 @@ unfolding packCheck
 check-count nodes room n e =
     let (m, counted, e₁) =
     then-given (nodeCount nodes) (λ (m : ℕ). cond (ltb room (4 * packedReserve m)) (refused 3) (given m)) n e in
-    count-known nodes m counted .1 ∙ go m (ltb room (4 * packedReserve m)) e₁
-  where
-    go : (m : ℕ) (b : Bool) → cond b (refused 3) (given m) ≡ given n → m ≡ n
-    go m true e = absurd (not-both e refl)
-    go m false e = given-injective e
+    count-known nodes m counted .1 ∙ cond-kept (ltb room (4 * packedReserve m)) m 3 n e₁ .1
 
 -- what is agreed on is the box that was handed over
 agreed-is : (n k : ℕ) (all box : Option Bounds3) → agreed n k all ≡ given box → all ≡ box

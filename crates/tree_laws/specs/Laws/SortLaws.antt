@@ -9,8 +9,9 @@ use mathlib.Core.Logic.{inl, inr}
 use borrow.Author.Tests.{eqb-true}
 use lib.Dec.{eqb}
 use lib.ListN.{length, take, drop}
-use Rattle.words.specs.Answers.{Answer, given, refused, _then_}
-use Rattle.light_rows.specs.Tree.{Tree, fork, bounds}
+use Rattle.words.specs.Answers.{Answer, refused}
+use Rattle.words.proofs.AnswerLaws.{then-same}
+use Rattle.light_rows.specs.Tree.{Tree}
 use Rattle.light_split.specs.Partition.{lefts, rights, partitionHandles}
 use Rattle.light_split.specs.Split.{chooseSplit}
 use Rattle.light_split.specs.declared.split.Split.{Split}
@@ -24,12 +25,6 @@ use Rattle.words.specs.Lists.{sorted}
 use Rattle.tree_laws.specs.Laws.StretchLaws.{partition-ascends, bounded-ascends}
 use Rattle.tree_laws.specs.SortingBuild.{partitionSorting, forkedSorting, treeBySorting, subtreeSorting}
 use Rattle.tree_laws.specs.SortingBuild.{treeSorting, builtSorting, buildSorting}
-
--- steps that are the same on whatever is given
-then-same : {A B : Type 0} (a : Answer A) {f g : A → Answer B} → ((x : A) → f x ≡ g x) → a then f ≡ a then g
-unfolding _then_
-then-same (given x) h = h x
-then-same (refused n) h = refl
 
 module _ (ws : List ℕ) where
   pub partition-sorting : (hs : List ℕ) (s : Split) → Ascends hs → partitionSorting ws hs s ≡ partitionHandles ws hs s
@@ -56,10 +51,10 @@ module _ (ws : List ℕ) where
     forked-sorting : (hs : List ℕ) → Ascends hs → forkedSorting ws hs f ≡ forked ws hs g
     unfolding forkedSorting forked
     forked-sorting hs h =
-        then-same (chooseSplit ws hs) (λ (s : Split).
+        then-same (chooseSplit ws hs) _ _ (λ (s : Split).
         let (low, high) = partition-ascends ws hs s h in
         rw (partition-sorting hs s h, same (partitionHandles ws hs s .0) low)
-        (then-same (g (partitionHandles ws hs s .0)) (λ (l : Tree). rw (same (partitionHandles ws hs s .1) high))))
+        (then-same (g (partitionHandles ws hs s .0)) _ _ (λ (l : Tree). rw (same (partitionHandles ws hs s .1) high))))
 
     tree-sorting : (hs : List ℕ) → Ascends hs → treeBySorting ws hs f ≡ treeBy ws hs g
     unfolding treeBySorting treeBy
@@ -88,4 +83,4 @@ pub build-sorting : (lights : ℕ) (ws : List ℕ) (nodes table work : ℕ)
     → buildSorting lights ws nodes table work ≡ buildLightBvh lights ws nodes table work
 unfolding buildSorting buildLightBvh
 build-sorting lights ws nodes table work =
-    then-same (buildCheck lights ws nodes table work) (λ (m : ℕ). then-same (validated ws m) (λ _. built-sorting ws m))
+    then-same (buildCheck lights ws nodes table work) _ _ (λ (m : ℕ). then-same (validated ws m) _ _ (λ _. built-sorting ws m))
