@@ -1,7 +1,7 @@
 -- The lines of the report, in ASCII, as R13.4 has them: what a group of seven
 -- words draws, and how it is written. Chances are written as their words' eight hexadecimal digits, handles and
 -- refusals in decimal. Definitions only. Assumes nothing.
-use Prim.Native.Nat.{ℕ, zero, suc, _*_, _/_, _%_}
+use Prim.Native.Nat.{ℕ, zero, suc, _+_, _*_, _/_, _%_}
 use mathlib.Core.Bool.{cond}
 use mathlib.Core.List.{List, [], _∷_, _++_}
 use mathlib.Core.Option.{Option, none, some}
@@ -12,7 +12,7 @@ use Rattle.ieee.specs.Single.{single}
 use Rattle.words.specs.Answers.{Answer, given, refused, _then_}
 use Rattle.words.specs.LittleEndian.{wordsOf}
 use Rattle.words.specs.Refusals.{number}
-use Rattle.light_rows.specs.RecordWords.{vecAt}
+use Rattle.light_rows.specs.QueryWords.{queryOf, queryWords}
 use Rattle.light_bounds.specs.declared.importance.Query.{Query}
 use Rattle.light_sampler.specs.Sampler.{sample, pmf}
 use Rattle.light_sampler.specs.Walks.{Draw}
@@ -36,13 +36,10 @@ shown nodes table q u = sample nodes q u then named nodes table q
 
 -- a group's words: p, n, u
 abbrev pub groupWords : ℕ
-groupWords = 7
-
-abbrev pub groupQuery : List ℕ → Query
-groupQuery ws = record { p = vecAt ws 0; n = vecAt ws 3 }
+groupWords = queryWords + 1
 
 abbrev pub groupShown : List ℕ → List ℕ → List ℕ → Answer Shown
-groupShown nodes table ws = shown nodes table (groupQuery ws) (single (getD ws 6 0))
+groupShown nodes table ws = shown nodes table (queryOf ws) (single (getD ws queryWords 0))
 
 -- ---- how it is written
 

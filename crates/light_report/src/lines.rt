@@ -2,16 +2,16 @@
 ghost use mathlib.Core.Path.{_≡_};
 ghost use Prim.Native.Nat.{_+_, _*_, _/_, _≤_};
 ghost use mathlib.Core.Option.{some};
-ghost use lib.ListN.{length, getD};
+ghost use lib.ListN.{length};
 ghost use lib.Seq.{sets};
-ghost use Rattle.ieee.specs.Single.{single};
 ghost use Rattle.words.specs.Answers.{given};
 ghost use Rattle.words.specs.LittleEndian.{wordsOf};
 ghost use Rattle.text.specs.AsCoded.Puts.{Put};
-ghost use Rattle.light_report.specs.Lines.{line, lineBytes, chanceBytes, groupQuery, groupShown};
+ghost use Rattle.light_report.specs.Lines.{line, lineBytes, chanceBytes, groupShown};
 ghost use Rattle.light_report.specs.Lines.{groupLine, reportLines};
-use light_bounds::importance::Query;
-use light_bounds::vecmath::Vec3;
+use light_rows::query_words::QUERY_WORDS;
+use light_rows::query_words::float_at;
+use light_rows::query_words::query_of_bytes;
 use light_sampler::pmf::Chance;
 use light_sampler::pmf::bvh_light_sampler_pmf;
 use light_sampler::sample::Drawn;
@@ -20,9 +20,7 @@ use text::put_decimal;
 use text::put_hex;
 use text::put_refused;
 use text::put_text;
-use words::floats::f32_of_word;
 use words::floats::word_of_f32;
-use words::little_endian::word_at;
 use words::refusals::Refusal;
 
 // What a line shows: a lamp with its chance as drawn and its chance by name, that there is none, or why not.
@@ -33,38 +31,16 @@ pub enum Line {
 }
 
 // The bytes of a group. A line has at most 29: ten digits, a space, eight digits, a space, eight digits, the end.
-pub const GROUP_BYTES: usize = 28;
+pub const GROUP_BYTES: usize = 4 * (QUERY_WORDS + 1);
 
 // ---- what a group draws
-
-fn float_at(group: &[u8], place: usize) -> f32
-    ensures { λ r. ⌜ r ≡ single (getD (wordsOf (now (group .entry))) place 0) ⌝ }
-{
-    f32_of_word(word_at(group, place))
-}
-
-fn group_query(group: &[u8]) -> Query
-    ensures { λ r. ⌜ r ≡ groupQuery (wordsOf (now (group .entry))) ⌝ }
-{
-    let p = Vec3 {
-        x: float_at(group, 0),
-        y: float_at(group, 1),
-        z: float_at(group, 2),
-    };
-    let n = Vec3 {
-        x: float_at(group, 3),
-        y: float_at(group, 4),
-        z: float_at(group, 5),
-    };
-    Query { p, n }
-}
 
 // Words past a group's end are read as 0.
 fn draw_group(nodes: &[u8], table: &[u8], group: &[u8]) -> Line
     ensures { λ r. ⌜ line r ≡ groupShown (now (nodes .entry)) (now (table .entry)) (wordsOf (now (group .entry))) ⌝ }
 {
-    let query = group_query(group);
-    match bvh_light_sampler_sample(nodes, query, float_at(group, 6)) {
+    let query = query_of_bytes(group);
+    match bvh_light_sampler_sample(nodes, query, float_at(group, QUERY_WORDS)) {
         Drawn::Light(handle, drawn) => match bvh_light_sampler_pmf(nodes, table, query, handle) {
             Chance::Pmf(named) => Line::Lamp(handle, drawn, named),
             Chance::Refused(why) => Line::Refused(why),

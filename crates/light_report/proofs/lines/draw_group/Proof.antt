@@ -10,51 +10,29 @@ unfolding shown named _then_
 returns c =
     let draw = c .before .before .before .before .before .before .before in
     let chance = c .before .before .before in
-    rw (
-      ← draw .before .before .group-query .ensures,
-      ← draw .before .float-at .ensures,
-      ←
-          draw .bvh-light-sampler-sample .ensures,
-    )
-    (rw (chance .before .before .handle .given .1)
-    (rw (← chance .bvh-light-sampler-pmf .ensures, c .before .named .given .1)))
+    rw (← draw .before .before .query-of-bytes .ensures, ← draw .before .float-at .ensures, ← draw .bvh-light-sampler-sample .ensures)
+    (rw (chance .before .before .handle .given .1) (rw (← chance .bvh-light-sampler-pmf .ensures, c .before .named .given .1)))
 
 returns-2 : tie.Need-returns-2
 unfolding shown named _then_
 returns-2 c =
     let draw = c .before .before .before .before .before .before .before in
     let chance = c .before .before .before in
-    rw (
-      ← draw .before .before .group-query .ensures,
-      ← draw .before .float-at .ensures,
-      ←
-          draw .bvh-light-sampler-sample .ensures,
-    )
-    (rw (chance .before .before .handle .given .1)
-    (rw (← chance .bvh-light-sampler-pmf .ensures, c .before .why .given .1)))
+    rw (← draw .before .before .query-of-bytes .ensures, ← draw .before .float-at .ensures, ← draw .bvh-light-sampler-sample .ensures)
+    (rw (chance .before .before .handle .given .1) (rw (← chance .bvh-light-sampler-pmf .ensures, c .before .why .given .1)))
 
 returns-3 : tie.Need-returns-3
 unfolding shown named _then_
 returns-3 c =
     let draw = c .before .before in
-    rw (
-      ← draw .before .before .group-query .ensures,
-      ← draw .before .float-at .ensures,
-      ←
-          draw .bvh-light-sampler-sample .ensures,
-    )
+    rw (← draw .before .before .query-of-bytes .ensures, ← draw .before .float-at .ensures, ← draw .bvh-light-sampler-sample .ensures)
     (rw (c .enum-told .given .1))
 
 returns-4 : tie.Need-returns-4
 unfolding shown named _then_
 returns-4 c =
     let draw = c .before .before .before in
-    rw (
-      ← draw .before .before .group-query .ensures,
-      ← draw .before .float-at .ensures,
-      ←
-          draw .bvh-light-sampler-sample .ensures,
-    )
+    rw (← draw .before .before .query-of-bytes .ensures, ← draw .before .float-at .ensures, ← draw .bvh-light-sampler-sample .ensures)
     (rw (c .before .why2 .given .1))
 
 pub draw-group-spec : {M : Type 1} → statement M
