@@ -1,6 +1,6 @@
-// The importance of a record for a point and a normal (specs/Importance.antt, specs/AsCoded/Weighing.antt), as pbrt-r4's
-// LightBounds has it. A walk weighs many records for one query, so what hangs on the query alone is worked out
-// once (`prepare`), and a root that decides nothing is not taken. In an archive `weigh_prepared` belongs into the
+// The importance of a record for a point and a normal (specs/Importance.antt, specs/AsCoded/Weighing.antt), as
+// pbrt-r4's LightBounds has it. A walk weighs many records for one query, so what hangs on the query alone is worked
+// out once (`prepare`), and a root that decides nothing is not taken. In an archive `weigh_prepared` belongs into the
 // walk: the compiler lays a function that is called in one place into its caller.
 ghost use mathlib.Core.Path.{_≡_};
 ghost use Rattle.light_bounds.specs.Cones.{cosSubClamped};

@@ -9,14 +9,12 @@ returns : tie.Need-returns
 returns c =
     rw (
       ← c .before .before .before .before .before .word-of-f32 .ensures,
-      ←
-          c .before .before .before .before .word-of-f322 .ensures,
+      ← c .before .before .before .before .word-of-f322 .ensures,
     )
     (rw (
       ← c .before .before .before .word-of-f323 .ensures,
       ← c .before .before .word-of-f324 .ensures,
-      ←
-          c .before .word-of-f325 .ensures,
+      ← c .before .word-of-f325 .ensures,
     )
     (rw (← c .word-of-f326 .ensures)))
 

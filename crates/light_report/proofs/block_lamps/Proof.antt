@@ -15,8 +15,7 @@ returns-2 c =
     rw (
       le-ltb _ 4 (c .before .before .before .if1 .left),
       ← c .before .before .word-at .ensures,
-      ←
-          c .before .wide .ensures,
+      ← c .before .wide .ensures,
     )
     (rw (lt-ltb _ _ (c .if2 .taken)))
 

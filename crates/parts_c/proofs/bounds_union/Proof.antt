@@ -17,8 +17,7 @@ returns c =
     rw (← c .before .before .before .before .before .before .before .before .read-record .ensures)
     (rw (
       c .before .before .before .before .before .before .first .given .1,
-      ←
-          c .before .before .before .before .read-record2 .ensures,
+      ← c .before .before .before .before .read-record2 .ensures,
     )
     (rw (c .before .before .second .given .1)
     (rw (lt-leb 13 (length (now (c .before .before .before .before .before .before .before .before .before .before .before .before .args .out))) (omega arith))

@@ -83,4 +83,5 @@ pub build-sorting : (lights : ℕ) (ws : List ℕ) (nodes table work : ℕ)
     → buildSorting lights ws nodes table work ≡ buildLightBvh lights ws nodes table work
 unfolding buildSorting buildLightBvh
 build-sorting lights ws nodes table work =
-    then-same (buildCheck lights ws nodes table work) _ _ (λ (m : ℕ). then-same (validated ws m) _ _ (λ _. built-sorting ws m))
+    then-same (buildCheck lights ws nodes table work) _ _
+    (λ (m : ℕ). then-same (validated ws m) _ _ (λ _. built-sorting ws m))

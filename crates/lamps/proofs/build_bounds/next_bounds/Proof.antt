@@ -11,8 +11,7 @@ returns c =
     rw (← c .before .before .before .before .before .before .before .before .before .next .ensures)
     (rw (
       c .before .before .before .before .before .before .before .reading .given .1,
-      ←
-          c .before .before .before .before .triangles .ensures,
+      ← c .before .before .before .before .triangles .ensures,
     )
     (rw (← c .before .before .before .light-bounds-for-input .ensures, c .before .«record» .given .1)))
 
@@ -22,8 +21,7 @@ returns-2 c =
     rw (← c .before .before .before .before .before .before .before .before .before .next .ensures)
     (rw (
       c .before .before .before .before .before .before .before .reading .given .1,
-      ←
-          c .before .before .before .before .triangles .ensures,
+      ← c .before .before .before .before .triangles .ensures,
     )
     (rw (← c .before .before .before .light-bounds-for-input .ensures, c .before .why .given .1)))
 

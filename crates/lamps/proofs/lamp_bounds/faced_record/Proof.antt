@@ -12,8 +12,7 @@ returns c =
     rw (← c .before .before .before .before .before .before .before .normalize .ensures)
     (rw (
       c .before .before .before .before .before .direction .given .1,
-      ←
-          c .before .before .before .is-finite-vec .ensures,
+      ← c .before .before .before .is-finite-vec .ensures,
     )
     (rw (c .before .before .if1 .taken, cos-half-pi, ← c .before .of-lamp .ensures) (c .checked .ensures)))
 

@@ -10,8 +10,7 @@ returns c =
     rw (
       ← c .before .before .before .before .acos .ensures,
       ← c .before .before .before .acos2 .ensures,
-      ←
-          c .before .before .cos .ensures,
+      ← c .before .before .cos .ensures,
     )
     (rw (← c .before .too-narrow .ensures, c .if1 .taken))
 
@@ -21,8 +20,7 @@ returns-2 c =
     rw (
       ← c .before .before .before .before .acos .ensures,
       ← c .before .before .before .acos2 .ensures,
-      ←
-          c .before .before .cos .ensures,
+      ← c .before .before .cos .ensures,
     )
     (rw (← c .before .too-narrow .ensures, c .if1 .left))
 

@@ -32,8 +32,7 @@ returns-2 c =
     (length (now (args .triangles)) / 13) (omega arith))
     (rw (
       ← c .before .before .before .before .before .triangle-at .ensures,
-      ←
-          c .before .before .before .before .triangle-record .ensures,
+      ← c .before .before .before .before .triangle-record .ensures,
     )
     (rw (c .before .before .first .given .1) (c .union-rest .ensures)))))
 
@@ -47,8 +46,7 @@ returns-3 c =
     (length (now (args .triangles)) / 13) (omega arith))
     (rw (
       ← c .before .before .before .before .triangle-at .ensures,
-      ←
-          c .before .before .before .triangle-record .ensures,
+      ← c .before .before .before .triangle-record .ensures,
       c .before .why .given .1,
     ))))
 

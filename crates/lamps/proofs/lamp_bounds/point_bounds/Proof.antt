@@ -14,15 +14,13 @@ returns c =
     (rw (c .before .before .before .before .before .before .before .enum-told .given .1)
     (rw (
       ← c .before .before .before .before .before .before .point-box .ensures,
-      ←
-          c .before .before .before .before .before .check .ensures,
+      ← c .before .before .before .before .before .check .ensures,
     )
     (rw (
       c .before .before .before .enum-told2 .given .1,
       cos-half-pi,
       ← c .before .before .point-phi .ensures,
-      ←
-          c .before .of-lamp .ensures,
+      ← c .before .of-lamp .ensures,
     )
     (c .checked .ensures))))
 
@@ -32,8 +30,7 @@ returns-2 c =
     rw (← c .before .before .before .before .before .before .before .validate-emission .ensures)
     (rw (
       c .before .before .before .before .before .enum-told .given .1,
-      ←
-          c .before .before .before .before .point-box .ensures,
+      ← c .before .before .before .before .point-box .ensures,
     )
     (rw (← c .before .before .before .check .ensures, c .before .why .given .1)))
 

@@ -12,8 +12,7 @@ returns c =
     (rw (
       ← c .before .before .before .are-cosines .ensures,
       c .before .before .if1 .taken,
-      ←
-          c .before .point-phi .ensures,
+      ← c .before .point-phi .ensures,
     ) (c .spot-record .ensures))
 
 returns-2 : tie.Need-returns-2
@@ -22,8 +21,7 @@ returns-2 c =
     rw (
       ← c .before .before .before .before .validate-emission .ensures,
       c .before .before .enum-told .given .1,
-      ←
-          c .before .are-cosines .ensures,
+      ← c .before .are-cosines .ensures,
     )
     (rw (c .if1 .left))
 

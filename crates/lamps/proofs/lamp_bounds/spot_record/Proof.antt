@@ -26,8 +26,7 @@ unfolding spotRecord _then_
 returns-3 c =
     rw (
       ← c .before .before .before .before .point-box .ensures,
-      ←
-          c .before .before .before .check .ensures,
+      ← c .before .before .before .check .ensures,
       c .before .why2 .given .1,
     )
 

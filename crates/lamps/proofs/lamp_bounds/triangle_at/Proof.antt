@@ -9,8 +9,7 @@ unfolding triangleAt
 returns c =
     rw (
       ← c .before .before .before .before .before .vec-at .ensures,
-      ←
-          c .before .before .before .before .vec-at2 .ensures,
+      ← c .before .before .before .before .vec-at2 .ensures,
     )
     (rw (← c .before .before .before .vec-at3 .ensures, ← c .vec-at4 .ensures, ← c .before .f32-of-word .ensures))
 

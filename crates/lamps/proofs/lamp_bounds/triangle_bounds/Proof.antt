@@ -10,8 +10,7 @@ returns c =
     rw (
       ← c .before .before .before .lesser .ensures,
       ← c .before .before .lesser2 .ensures,
-      ←
-          c .before .greater .ensures,
+      ← c .before .greater .ensures,
       ← c .greater2 .ensures,
     )
 

@@ -10,8 +10,7 @@ unfolding triangleRecord _then_
 returns c =
     rw (
       ← c .before .before .before .before .before .triangle-bounds .ensures,
-      ←
-          c .before .before .before .before .check .ensures,
+      ← c .before .before .before .before .check .ensures,
     )
     (rw (c .before .before .enum-told .given .1, ← c .before .has-no-area .ensures, c .if1 .taken))
 
@@ -23,8 +22,7 @@ returns-2 c =
     (rw (
       ← c .before .before .before .has-no-area .ensures,
       c .before .before .if1 .left,
-      ←
-          c .before .group-phi .ensures,
+      ← c .before .group-phi .ensures,
     )
     (c .faced-record .ensures)))
 
@@ -33,8 +31,7 @@ unfolding triangleRecord _then_
 returns-3 c =
     rw (
       ← c .before .before .before .before .triangle-bounds .ensures,
-      ←
-          c .before .before .before .check .ensures,
+      ← c .before .before .before .check .ensures,
       c .before .why .given .1,
     )
 

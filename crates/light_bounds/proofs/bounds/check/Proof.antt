@@ -15,8 +15,7 @@ returns-2 c =
     rw (← c .before .before .before .is-finite-box .ensures)
     (rw (
       not-false (c .before .before .before .is-finite-box .result) (c .before .before .if1 .left),
-      ←
-          c .before .is-inverted .ensures,
+      ← c .before .is-inverted .ensures,
     )
     (rw (c .if2 .taken)))
 
@@ -26,8 +25,7 @@ returns-3 c =
     rw (← c .before .before .before .is-finite-box .ensures)
     (rw (
       not-false (c .before .before .before .is-finite-box .result) (c .before .before .if1 .left),
-      ←
-          c .before .is-inverted .ensures,
+      ← c .before .is-inverted .ensures,
       c .if2 .left,
     ))
 

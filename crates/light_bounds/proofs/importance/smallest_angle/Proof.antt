@@ -26,8 +26,7 @@ returns-2 c =
     (rw (
       kept-cos (sine w) w (sine o) o (c .before .before .before .if1 .left),
       ← c .before .before .sine .ensures,
-      ←
-          c .before .sine2 .ensures,
+      ← c .before .sine2 .ensures,
     )
     (c .less-the-box2 .ensures))
 

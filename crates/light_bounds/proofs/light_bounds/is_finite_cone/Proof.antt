@@ -9,8 +9,7 @@ returns c =
     (rw (
       ← c .before .before .before .before .is-finite .ensures,
       c .before .before .before .if2 .taken,
-      ←
-          c .before .before .is-finite2 .ensures,
+      ← c .before .before .is-finite2 .ensures,
     )
     (rw (c .before .if3 .taken) (c .is-finite3 .ensures)))
 
@@ -20,8 +19,7 @@ returns-2 c =
     (rw (
       ← c .before .before .before .is-finite .ensures,
       c .before .before .if2 .taken,
-      ←
-          c .before .is-finite2 .ensures,
+      ← c .before .is-finite2 .ensures,
       c .if3 .left,
     ))
 
@@ -30,8 +28,7 @@ returns-3 c =
     rw (
       ← c .before .before .before .is-finite-vec .ensures,
       c .before .before .if1 .taken,
-      ←
-          c .before .is-finite .ensures,
+      ← c .before .is-finite .ensures,
       c .if2 .left,
     )
 

@@ -24,8 +24,7 @@ returns-3 c =
     (rw (
       ← c .before .before .before .before .before .union .ensures,
       ← c .before .before .min .ensures,
-      ←
-          c .before .either .ensures,
+      ← c .before .either .ensures,
     ))))
 
 pub join-spec : {M : Type 1} → statement M

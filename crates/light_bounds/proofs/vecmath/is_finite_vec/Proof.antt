@@ -10,8 +10,7 @@ returns c =
     rw (
       ← c .before .before .before .before .is-finite .ensures,
       c .before .before .before .if1 .taken,
-      ←
-          c .before .before .is-finite2 .ensures,
+      ← c .before .before .is-finite2 .ensures,
     )
     (rw (c .before .if2 .taken) (c .is-finite3 .ensures))
 
@@ -21,8 +20,7 @@ returns-2 c =
     rw (
       ← c .before .before .before .is-finite .ensures,
       c .before .before .if1 .taken,
-      ←
-          c .before .is-finite2 .ensures,
+      ← c .before .is-finite2 .ensures,
       c .if2 .left,
     )
 

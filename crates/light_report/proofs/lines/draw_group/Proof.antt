@@ -11,7 +11,8 @@ returns c =
     let draw = c .before .before .before .before .before .before .before in
     let chance = c .before .before .before in
     rw (← draw .before .before .query-of-bytes .ensures, ← draw .before .float-at .ensures, ← draw .bvh-light-sampler-sample .ensures)
-    (rw (chance .before .before .handle .given .1) (rw (← chance .bvh-light-sampler-pmf .ensures, c .before .named .given .1)))
+    (rw (chance .before .before .handle .given .1)
+    (rw (← chance .bvh-light-sampler-pmf .ensures, c .before .named .given .1)))
 
 returns-2 : tie.Need-returns-2
 unfolding shown named _then_
@@ -19,7 +20,8 @@ returns-2 c =
     let draw = c .before .before .before .before .before .before .before in
     let chance = c .before .before .before in
     rw (← draw .before .before .query-of-bytes .ensures, ← draw .before .float-at .ensures, ← draw .bvh-light-sampler-sample .ensures)
-    (rw (chance .before .before .handle .given .1) (rw (← chance .bvh-light-sampler-pmf .ensures, c .before .why .given .1)))
+    (rw (chance .before .before .handle .given .1)
+    (rw (← chance .bvh-light-sampler-pmf .ensures, c .before .why .given .1)))
 
 returns-3 : tie.Need-returns-3
 unfolding shown named _then_

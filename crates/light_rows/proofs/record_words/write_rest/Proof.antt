@@ -18,8 +18,7 @@ returns c =
       e2,
       add-one at,
       ← c .before .before .before .word-of-f32 .ensures,
-      ←
-          c .before .before .word-of-f322 .ensures,
+      ← c .before .before .word-of-f322 .ensures,
     )
     (rw (← c .before .word-of-f323 .ensures, ← c .side-word .ensures))
 

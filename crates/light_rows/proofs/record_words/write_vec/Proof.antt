@@ -17,8 +17,7 @@ returns c =
       add-one at,
       ← c .before .before .word-of-f32 .ensures,
       ← c .before .word-of-f322 .ensures,
-      ←
-          c .word-of-f323 .ensures,
+      ← c .word-of-f323 .ensures,
     )
 
 pub write-vec-spec : {M : Type 1} → statement M

@@ -29,8 +29,7 @@ unfolding pmfCheck _then_
 returns-4 c =
     rw (
       le-ltb _ _ (c .before .before .before .before .if1 .left),
-      ←
-          c .before .before .before .node-count .ensures,
+      ← c .before .before .before .node-count .ensures,
       c .before .why .given .1,
     )
 

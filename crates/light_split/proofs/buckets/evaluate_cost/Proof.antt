@@ -9,8 +9,7 @@ unfolding evaluateCost
 returns c = (
   rw (
     ← c .before .before .diagonal .ensures,
-    ←
-        c .before .component .ensures,
+    ← c .before .component .ensures,
     c .if1 .taken,
   ),
   c .before .before .before .pre,
@@ -21,8 +20,7 @@ unfolding evaluateCost
 returns-2 c = (
   rw (
     ← c .before .before .before .before .before .before .before .diagonal .ensures,
-    ←
-        c .before .before .before .before .before .before .component .ensures,
+    ← c .before .before .before .before .before .before .component .ensures,
   )
       (rw (
         c .before .before .before .before .before .if1 .left,

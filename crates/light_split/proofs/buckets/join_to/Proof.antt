@@ -14,8 +14,7 @@ unfolding joinTo _then_
 returns c =
     rw (
       c .before .before .before .before .if1 .taken,
-      ←
-          c .before .before .before .union .ensures,
+      ← c .before .before .before .union .ensures,
       c .before .bounds .given .1,
     )
 

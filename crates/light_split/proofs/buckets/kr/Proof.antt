@@ -11,8 +11,7 @@ returns c =
       ← c .before .before .before .max .ensures,
       ← c .before .before .max2 .ensures,
       ← c .before .max3 .ensures,
-      ←
-          c .component .ensures,
+      ← c .component .ensures,
     )
 
 pub kr-spec : {M : Type 1} → statement M

@@ -21,8 +21,7 @@ unfolding axis _then_
 returns-3 c =
     rw (
       ← c .before .before .before .before .before .component .ensures,
-      ←
-          c .before .before .before .before .component2 .ensures,
+      ← c .before .before .before .before .component2 .ensures,
     )
     (rw (c .before .before .before .if1 .left, ← c .before .before .fill-buckets .ensures, c .before .if2 .left)
     (c .best-cut .ensures))

@@ -15,8 +15,7 @@ returns c =
     rw (
       choose-axes (now (args .block)) (now (args .handles)),
       ← at .before .before .centroid-ends .ensures,
-      ←
-          at .before .combined-bounds .ensures,
+      ← at .before .combined-bounds .ensures,
     )
     (rw (← at .three-axes .ensures, c .before .before .found .given .1))
 
@@ -28,8 +27,7 @@ returns-2 c =
     rw (
       choose-axes (now (args .block)) (now (args .handles)),
       ← at .before .before .centroid-ends .ensures,
-      ←
-          at .before .combined-bounds .ensures,
+      ← at .before .combined-bounds .ensures,
     )
     (rw (← at .three-axes .ensures, c .enum-told .given .1))
 

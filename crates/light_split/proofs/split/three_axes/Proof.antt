@@ -12,8 +12,7 @@ returns c =
     rw (
       ← first .axis .ensures,
       second .before .before .best .given .1,
-      ←
-          second .axis2 .ensures,
+      ← second .axis2 .ensures,
       c .before .before .best2 .given .1,
     ) (c .axis3 .ensures)
 
@@ -25,8 +24,7 @@ returns-2 c =
     rw (
       ← first .axis .ensures,
       second .before .before .best .given .1,
-      ←
-          second .axis2 .ensures,
+      ← second .axis2 .ensures,
       c .enum-told .given .1,
     )
 

@@ -28,8 +28,7 @@ returns c =
     rw (
       ← told .before .before .before .node-count .ensures,
       told .before .n .given .1,
-      ←
-          c .before .reserve .ensures,
+      ← c .before .reserve .ensures,
       lt-ltb _ _ (c .if1 .taken),
     )
 
@@ -40,8 +39,7 @@ returns-2 c =
     rw (
       ← told .before .before .before .node-count .ensures,
       told .before .n .given .1,
-      ←
-          c .before .reserve .ensures,
+      ← c .before .reserve .ensures,
       le-ltb _ _ (c .if1 .left),
     )
 

@@ -13,8 +13,7 @@ returns c =
     rw (
       ← at .before .before .bounds-at .ensures,
       at .bounds .given .1,
-      ←
-          valid .validate .ensures,
+      ← valid .validate .ensures,
       c .before .enum-told .given .1,
     )
     (c .pack-bounds .ensures)
@@ -27,8 +26,7 @@ returns-2 c =
     rw (
       ← at .before .before .bounds-at .ensures,
       at .bounds .given .1,
-      ←
-          valid .validate .ensures,
+      ← valid .validate .ensures,
       c .before .why .given .1,
     )
 
