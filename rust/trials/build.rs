@@ -1,4 +1,5 @@
-//! Links the proved functions, and prepares the reference files for `src/oracle/reference`. The archives are made by Rattle, not by cargo.
+//! Links the proved functions, and prepares the reference files for `src/oracle/reference`. The archives are
+//! made by Rattle, not by cargo.
 
 use std::path::{Path, PathBuf};
 

@@ -1,4 +1,5 @@
--- The game's loops: the turns on their way to the last state; the start, bin by bin; and what is left over. Assumes nothing.
+-- The game's loops: the turns on their way to the last state; the start, bin by bin; and what is left over. Assumes
+-- nothing.
 use Prim.Native.Nat.{ℕ, zero, suc, _+_, _-_, _*_, _≤_, _<_}
 use mathlib.Core.Path.{_≡_, refl, sym, _∙_}
 use mathlib.Core.Bool.{Bool, true, false, cond}
@@ -16,9 +17,11 @@ use Rattle.ieee.specs.Single.{_⊕_, _⊖_, _⊗_, _⊘_, single, zerof, onef}
 use Rattle.words.proofs.RowLaws.{Written, written-none, written-one}
 use Rattle.alias_table.specs.AliasTable.{Bin, Entry, State, none, total, bin, push, pushAll, start}
 use Rattle.alias_table.specs.AliasTable.{update, settle, turned, turn, turns, leftover, binRow, binWords}
-use Rattle.alias_table.specs.GameLaws.{turns-stay, push-bins, start-bins, length-update}
-use Rattle.alias_table.specs.Stacks.{stackAt, put, top, Stack, Stacks, Game, Room, Started, Playing, Played, Left, Wholed}
-use Rattle.alias_table.proofs.StackLaws.{bin-width, length-binWords, settle-words, stacks-push, stacks-none, popped, stack-top}
+use Rattle.alias_table.specs.Laws.GameLaws.{turns-stay, push-bins, start-bins, length-update}
+use Rattle.alias_table.specs.AsCoded.Stacks.{stackAt, put, top, Stack, Stacks, Game}
+use Rattle.alias_table.specs.AsCoded.Stacks.{Room, Started, Playing, Played, Left, Wholed}
+use Rattle.alias_table.proofs.StackLaws.{bin-width, length-binWords, settle-words, stacks-push}
+use Rattle.alias_table.proofs.StackLaws.{stacks-none, popped, stack-top}
 
 -- ---- the turns
 
@@ -35,19 +38,33 @@ left work u o = single (getD work u 0) ⊕ single (getD work o 0) ⊖ onef
 
 -- the settled bin's words
 abbrev pub settled : List ℕ → List ℕ → ℕ → ℕ → List ℕ
-settled bins work u o = set (set bins (3 * getD work (u + 1) 0) (getD work u 0)) (3 * getD work (u + 1) 0 + 2) (getD work (o + 1) 0)
+settled bins work u o =
+    set (set bins (3 * getD work (u + 1) 0) (getD work u 0)) (3 * getD work (u + 1) 0 + 2) (getD work (o + 1) 0)
 
-module _ {m : ℕ} {binsRest workRest : List ℕ} {s : State} {bins work : List ℕ} {un ov : ℕ} (g : Game m binsRest workRest s bins work un ov)
+module _ {m : ℕ} {binsRest workRest : List ℕ} {s : State} {bins work : List ℕ} {un ov : ℕ}
+    (g : Game m binsRest workRest s bins work un ov)
     (u : 0 < un) (o : 0 < ov) where
   bs : List Bin
-  bs = update (s .bins) (getD work (underTop un + 1) 0) (settle (single (getD work (underTop un) 0)) (getD work (overTop m ov + 1) 0))
+  bs =
+      update (s .bins) (getD work (underTop un + 1) 0)
+      (settle (single (getD work (underTop un) 0)) (getD work (overTop m ov + 1) 0))
 
-  turned-is : turn s ≡ push (record { weight = left work (underTop un) (overTop m ov); index = getD work (overTop m ov + 1) 0 })
+  turned-is : turn s ≡ push (record
+      { weight = left work (underTop un) (overTop m ov); index = getD work (overTop m ov + 1) 0 })
       (record { bins = bs; under = stackAt 0 work (un - 1); over = stackAt (2 * m) work (ov - 1) })
   unfolding bs turned
-  turned-is = rw (← g .stacks .under-is .are, ← g .stacks .over-is .are, stack-top 0 work un u, stack-top (2 * m) work ov o, zero-add)
+  turned-is =
+      rw (
+        ← g .stacks .under-is .are,
+        ← g .stacks .over-is .are,
+        stack-top 0 work un u,
+        stack-top (2 * m) work ov
+            o,
+        zero-add,
+      )
 
-  sound : (getD work (underTop un + 1) 0 < m) × (toBits binary32 (single (getD work (underTop un) 0)) ≡ getD work (underTop un) 0)
+  sound : (getD work (underTop un + 1) 0 < m) ×
+      (toBits binary32 (single (getD work (underTop un) 0)) ≡ getD work (underTop un) 0)
   sound = rw zero-add at (g .stacks .under-is .sound (un - 1) (omega arith))
 
   pub settle-in : 3 * getD work (underTop un + 1) 0 + 2 < length bins
@@ -55,22 +72,27 @@ module _ {m : ℕ} {binsRest workRest : List ℕ} {s : State} {bins work : List 
 
   pub turn-next : (below : Bool) → lt (left work (underTop un) (overTop m ov)) onef ≡ below
       → Game m binsRest workRest (turn s) (settled bins work (underTop un) (overTop m ov))
-      (put work (top m (un - 1) (ov - 1) below) (left work (underTop un) (overTop m ov)) (getD work (overTop m ov + 1) 0))
+      (put work (top m (un - 1) (ov - 1) below) (left work (underTop un) (overTop m ov))
+      (getD work (overTop m ov + 1) 0))
       (cond below un (un - 1)) (cond below (ov - 1) ov)
   unfolding bs
   turn-next below l =
       let back : (un - 1 + 1 ≡ un) × (ov - 1 + 1 ≡ ov) = (omega arith, omega arith) in
-      let words = settle-words 0 (s .bins) (getD work (underTop un + 1) 0) (single (getD work (underTop un) 0)) (getD work (overTop m ov + 1) 0) binsRest in
+      let words = settle-words 0 (s .bins) (getD work (underTop un + 1) 0) (single (getD work (underTop un) 0))
+      (getD work (overTop m ov + 1) 0) binsRest in
       rw turned-is
       (record {
         bins-are = rw (push-bins, g .bins-are) (rw (sound .1) at (words (rw (g .count) (sound .0))));
         count = rw (push-bins, length-update) (g .count);
         stacks =
-            rw (back .0, back .1) at (stacks-push (popped (g .stacks) bs) (left work (underTop un) (overTop m ov)) (getD work (overTop m ov + 1) 0)
-            (sub-fits binary32 _ onef) (g .stacks .over-is .sound (ov - 1) (omega arith) .0) (omega (arith, g .stacks .together)) below l);
+            rw (back .0, back .1) at (stacks-push (popped (g .stacks) bs) (left work (underTop un) (overTop m ov))
+            (getD work (overTop m ov + 1) 0)
+            (sub-fits binary32 _ onef) (g .stacks .over-is .sound (ov - 1) (omega arith) .0)
+            (omega (arith, g .stacks .together)) below l);
       })
 
--- The turns' loop. Whatever the game was where it began, it has gone on to a state from which the turns to go lead to its last.
+-- The turns' loop. Whatever the game was where it began, it has gone on to a state from which the turns to go lead to
+-- its last.
 pub record Going (m : ℕ) (bins₀ work₀ : List ℕ) (under over : ℕ) (bins work : List ℕ) (un ov : ℕ) : Type 0 where
   pub together : un + ov ≤ m
   pub room : 4 * m ≤ length work
@@ -81,7 +103,8 @@ pub record Going (m : ℕ) (bins₀ work₀ : List ℕ) (under over : ℕ) (bins
   pub on : (binsRest workRest : List ℕ) (s : State) → Game m binsRest workRest s bins₀ work₀ under over
       → (t : State) × (turns to-go t ≡ turns m s) × Game m binsRest workRest t bins work un ov
 
-pub going-none : {m : ℕ} {bins work : List ℕ} {under over : ℕ} → Playing m bins work under over → Going m bins work under over bins work under over
+pub going-none : {m : ℕ} {bins work : List ℕ} {under over : ℕ} → Playing m bins work under over →
+    Going m bins work under over bins work under over
 going-none {m} (binsRest, workRest, s, g) =
     record {
       together = g .stacks .together;
@@ -98,15 +121,19 @@ unfolding turns
 turns-one zero s h = absurd (omega arith)
 turns-one (suc n) s h = let e : suc n - 1 ≡ n = omega arith in rw e
 
-module _ {m : ℕ} {bins₀ work₀ : List ℕ} {under over : ℕ} {bins work : List ℕ} {un ov : ℕ} (g : Going m bins₀ work₀ under over bins work un ov) where
-  pub going-in : Playing m bins₀ work₀ under over → 0 < un → 0 < ov → 3 * getD work (underTop un + 1) 0 + 2 < length bins
+module _ {m : ℕ} {bins₀ work₀ : List ℕ} {under over : ℕ} {bins work : List ℕ} {un ov : ℕ}
+    (g : Going m bins₀ work₀ under over bins work un ov) where
+  pub going-in : Playing m bins₀ work₀ under over → 0 < un → 0 < ov →
+      3 * getD work (underTop un + 1) 0 + 2 < length bins
   going-in (binsRest, workRest, s, p) u o = settle-in (g .on binsRest workRest s p .2) u o
 
   -- a turn, by what its steps promise: x is what is left, and it goes on the stack that b says
-  pub going-next : {x : Float} {bins′ work′ : List ℕ} {b : Bool} → 0 < un → 0 < ov → x ≡ left work (underTop un) (overTop m ov)
+  pub going-next : {x : Float} {bins′ work′ : List ℕ} {b : Bool} → 0 < un → 0 < ov →
+      x ≡ left work (underTop un) (overTop m ov)
       → bins′ ≡ settled bins work (underTop un) (overTop m ov)
       → (b ≡ lt x onef) × (work′ ≡ put work (top m (un - 1) (ov - 1) (lt x onef)) x (getD work (overTop m ov + 1) 0))
-      → (below : Bool) → b ≡ below → Going m bins₀ work₀ under over bins′ work′ (cond below un (un - 1)) (cond below (ov - 1) ov)
+      → (below : Bool) → b ≡ below → Going m bins₀ work₀ under over bins′ work′ (cond below un (un - 1))
+      (cond below (ov - 1) ov)
   going-next u o x-is bins-are (b-is, work-is) below e =
       let l = rw x-is at (sym b-is ∙ e) in
       rw (bins-are, work-is, x-is, l)
@@ -131,7 +158,8 @@ module _ {m : ℕ} {bins₀ work₀ : List ℕ} {under over : ℕ} {bins work : 
   going-last h binsRest workRest s p =
       let (t, then, game) = g .on binsRest workRest s p in
       let over : (t .under ≡ []) ⊎ (t .over ≡ []) =
-      ⊎-elim (λ e. inl (sym (game .stacks .under-is .are) ∙ rw e)) (λ e. inr (sym (game .stacks .over-is .are) ∙ rw e)) h in
+      ⊎-elim (λ e. inl (sym (game .stacks .under-is .are) ∙ rw e)) (λ e. inr (sym (game .stacks .over-is .are) ∙ rw e))
+      h in
       rw (sym (turns-stay (g .to-go) t over) ∙ then) at game
 
 -- ---- the start
@@ -145,17 +173,18 @@ unfolding toBits ofBits
 zero-word = refl
 
 -- the first i bins written and pushed
-pub record Starting (m : ℕ) (ws : List Float) (sum : Float) (bins₀ work₀ bins work : List ℕ) (under over i : ℕ) : Type 0 where
-  pub len : length ws ≡ m
-  pub room : Room m bins₀ work₀
-  pub all : under + over ≡ i
-  pub some : i ≤ m
-  pub bins-are : Written binRow 3 bin-width [] (take i (map (bin sum) ws)) bins₀ bins
-  pub same : length work ≡ length work₀
-  pub state : State
-  pub stacks : Stacks m (drop (4 * m) work₀) state work under over
-  pub then : pushAll (count m) i (drop i (map (bin sum) ws)) state
-      ≡ pushAll (count m) 0 (map (bin sum) ws) (record { bins = map (bin sum) ws; under = []; over = [] })
+pub record Starting (m : ℕ) (ws : List Float) (sum : Float) (bins₀ work₀ bins work : List ℕ) (under over i : ℕ) : Type 0
+  where
+    pub len : length ws ≡ m
+    pub room : Room m bins₀ work₀
+    pub all : under + over ≡ i
+    pub some : i ≤ m
+    pub bins-are : Written binRow 3 bin-width [] (take i (map (bin sum) ws)) bins₀ bins
+    pub same : length work ≡ length work₀
+    pub state : State
+    pub stacks : Stacks m (drop (4 * m) work₀) state work under over
+    pub then : pushAll (count m) i (drop i (map (bin sum) ws)) state
+        ≡ pushAll (count m) 0 (map (bin sum) ws) (record { bins = map (bin sum) ws; under = []; over = [] })
 
 pub starting-none : {m : ℕ} (ws : List Float) (sum : Float) {bins work : List ℕ} → length ws ≡ m → Room m bins work
     → Starting m ws sum bins work bins work 0 0 0
@@ -177,7 +206,8 @@ module _ {m : ℕ} {ws : List Float} {sum : Float} {bins₀ work₀ bins work : 
   -- one bin more, by what its steps promise: w is its weight, and it goes on the stack that b says
   pub starting-next : {w : Float} {bins′ work′ : List ℕ} {b : Bool} → i < m → w ≡ getD ws i zerof
       → bins′ ≡ sets bins (3 * i) (0 ∷ toBits binary32 (w ⊘ sum) ∷ none ∷ [])
-      → (b ≡ lt (w ⊘ sum ⊗ count m) onef) × (work′ ≡ put work (top m under over (lt (w ⊘ sum ⊗ count m) onef)) (w ⊘ sum ⊗ count m) i)
+      → (b ≡ lt (w ⊘ sum ⊗ count m) onef) ×
+      (work′ ≡ put work (top m under over (lt (w ⊘ sum ⊗ count m) onef)) (w ⊘ sum ⊗ count m) i)
       → (below : Bool) → b ≡ below
       → Starting m ws sum bins₀ work₀ bins′ work′ (cond below (under + 1) under) (cond below over (over + 1)) (i + 1)
   unfolding pushAll
@@ -195,7 +225,8 @@ module _ {m : ℕ} {ws : List Float} {sum : Float} {bins₀ work₀ bins work : 
         all = more below;
         some = omega arith;
         bins-are =
-            rw (add-one i, take-suc xs i (bin sum zerof) long, is) (rw zero-word at (written-one binRow 3 bin-width (bin sum (getD ws i zerof)) (3 * i)
+            rw (add-one i, take-suc xs i (bin sum zerof) long, is)
+            (rw zero-word at (written-one binRow 3 bin-width (bin sum (getD ws i zerof)) (3 * i)
             (g .bins-are) (omega arith) (omega (arith, g .room .bins-room))));
         same = simp length-set (g .same);
         state = push (record { weight = hat; index = i }) (g .state);
@@ -225,7 +256,8 @@ module _ {m : ℕ} {ws : List Float} {sum : Float} {bins₀ work₀ bins work : 
 -- ---- what is left over
 
 -- all that a stack still holds
-module _ {m base n : ℕ} {work bins : List ℕ} {es : List Entry} (bs : List Bin) (rest : List ℕ) (k : Stack m base work n es)
+module _ {m base n : ℕ} {work bins : List ℕ} {es : List Entry} (bs : List Bin) (rest : List ℕ)
+    (k : Stack m base work n es)
     (is : bins ≡ binWords bs ++ rest) (count : length bs ≡ m) where
   pub left-of : base + 2 * n ≤ length work → Left bins work base n
   left-of room = (bs, rest, is, rw count (k .sound), room)

@@ -1,4 +1,5 @@
--- Weights and their sums: which weight ends the pass, both sums on the way and at its end, and the weights that are played. Assumes nothing.
+-- Weights and their sums: which weight ends the pass, both sums on the way and at its end, and the weights that are
+-- played. Assumes nothing.
 use Prim.Native.Nat.{ℕ, _+_, _≤_, _<_}
 use mathlib.Core.Path.{_≡_, refl, sym, subst, _∙_}
 use mathlib.Core.Bool.{Bool, true, false, cond, not, or-true}
@@ -12,7 +13,7 @@ use lib.ListN.{length, getD, drop, length-map, length-replicate, List·getD-map,
 use lib.Seq.{drop-cons}
 use Rattle.ieee.specs.Single.{single, zerof, onef}
 use Rattle.alias_table.specs.AliasTable.{bad, anyBad, sumFrom}
-use Rattle.alias_table.specs.Stacks.{sumsFrom, sumsOf, weighted}
+use Rattle.alias_table.specs.AsCoded.Stacks.{sumsFrom, sumsOf, weighted}
 use Rattle.alias_table.specs.declared.Sums.the-variants.{Of, Bad}
 
 -- ---- a bad weight
@@ -45,7 +46,8 @@ module _ {words : List ℕ} {i : ℕ} {s d : Float} (g : Summing words i s d) wh
     from : drop i (map single words) ≡ x ∷ drop (i + 1) (map single words)
     from = drop-cons (map single words) i zerof (rw length-map h) ∙ rw (add-one, is, ← List·getD-map single words i 0)
 
-    pub sums-next : lt x (inf false) ≡ true → lt x zerof ≡ false → Summing words (i + 1) (add binary32 s x) (add binary64 d x)
+    pub sums-next : lt x (inf false) ≡ true → lt x zerof ≡ false →
+        Summing words (i + 1) (add binary32 s x) (add binary64 d x)
     unfolding sumsFrom anyBad sumFrom
     sums-next a b = record { within = omega arith; then = rw (from, good-between x a b) at (g .then) }
 
@@ -68,7 +70,8 @@ pub sums-are : (ws : List Float) (s d : Float) → Of s d ≡ sumsOf ws → Summ
 unfolding sumsFrom
 sums-are ws s d e = go (anyBad ws) refl e
   where
-    go : (b : Bool) → anyBad ws ≡ b → Of s d ≡ cond b Bad (Of (sumFrom binary32 zerof ws) (sumFrom binary64 zerof ws)) → Summed ws s d
+    go : (b : Bool) → anyBad ws ≡ b → Of s d ≡ cond b Bad (Of (sumFrom binary32 zerof ws) (sumFrom binary64 zerof ws)) →
+        Summed ws s d
     go true a h = let z : _≡_ {A = ℕ} 0 1 = cc in absurd (omega arith)
     go false a h = record { good = a; single-sum = cc; double-sum = cc }
 

@@ -1,5 +1,5 @@
--- The power alias table, step by step as `build_power_alias_table` of `light_sampler.rs` has it. A weight is a word, its value an f32; a bin is
--- three words: q, p, alias. Definitions only. Assumes nothing.
+-- The power alias table, step by step as `build_power_alias_table` of `light_sampler.rs` has it. A weight is a word,
+-- its value an f32; a bin is three words: q, p, alias. Definitions only. Assumes nothing.
 use Prim.Native.Nat.{ℕ, zero, suc, _*_}
 use mathlib.Core.Bool.{Bool, false, cond, not, _||_, _&&_}
 use mathlib.Core.List.{List, [], _∷_, map}

@@ -1,4 +1,3 @@
 pub mod AliasTable
-pub mod GameLaws
-pub mod AliasLaws
-pub mod Stacks
+pub mod AsCoded
+pub mod Laws

@@ -1,5 +1,6 @@
-// The power alias table (specs/AliasTable.antt): `build_power_alias_table` of pbrt-r4's light_sampler.rs over lent slices. The two stacks of the
-// Rust stand in the lent work, each entry a weight's word and a place: `under` from word 0 on, `over` from word 2m on.
+// The power alias table (specs/AliasTable.antt): `build_power_alias_table` of pbrt-r4's light_sampler.rs over lent
+// slices. The two stacks of the Rust stand in the lent work, each entry a weight's word and a place: `under` from word
+// 0 on, `over` from word 2m on.
 ghost use mathlib.Core.Path.{_≡_};
 ghost use mathlib.Core.Bool.{cond};
 ghost use mathlib.Core.List.{List, [], _∷_, map, _++_};
@@ -12,7 +13,8 @@ ghost use Rattle.ieee.specs.Narrow.{narrow as narrowed};
 ghost use Rattle.words.specs.Answers.{count, counted};
 ghost use Rattle.words.specs.Tray.{tray};
 ghost use Rattle.alias_table.specs.AliasTable.{Bin, sumFrom, total as totalOf, buildPowerAliasTable, binWords};
-ghost use Rattle.alias_table.specs.Stacks.{sumsOf, weighted, played, put, top, Room, Started, Playing, Played, Left, Wholed};
+ghost use Rattle.alias_table.specs.AsCoded.Stacks.{sumsOf, weighted, played, put, top, Room};
+ghost use Rattle.alias_table.specs.AsCoded.Stacks.{Started, Playing, Played, Left, Wholed};
 use floats::narrow::narrow;
 use floats::narrow::widen;
 use words::answers::Counted;
@@ -34,14 +36,17 @@ struct Heights {
     over: usize,
 }
 
-// Bins of three words (q, p, alias) into `bins`, with `work` of four words a weight, and how many bins. Over MAX_LAMPS weights is refusal 2, short
-// bins or work 3, a weight that is NaN, infinite or below zero 8.
+// Bins of three words (q, p, alias) into `bins`, with `work` of four words a weight, and how many bins. Over MAX_LAMPS
+// weights is refusal 2, short bins or work 3, a weight that is NaN, infinite or below zero 8.
 pub fn build_power_alias_table(weights: &[u32], bins: &mut [u32], work: &mut [u32]) -> Counted
-    ensures { λ r. ⌜ counted r ≡ count (buildPowerAliasTable (now (weights .entry)) (length (now (bins .entry))) (length (now (work .entry)))) ⌝ }
+    ensures { λ r. ⌜ counted r ≡ count
+        (buildPowerAliasTable (now (weights .entry)) (length (now (bins .entry))) (length (now (work .entry)))) ⌝ }
     ensures { λ _. ⌜ now (bins .exit) ≡ tray binWords (3 * length (now (weights .entry)))
-        (buildPowerAliasTable (now (weights .entry)) (length (now (bins .entry))) (length (now (work .entry)))) (now (bins .entry)) ⌝ }
+        (buildPowerAliasTable (now (weights .entry)) (length (now (bins .entry))) (length (now (work .entry))))
+        (now (bins .entry)) ⌝ }
     ensures { λ _. ⌜ now (work .exit) ≡ tray (λ (bs : List Bin). []) (4 * length (now (weights .entry)))
-        (buildPowerAliasTable (now (weights .entry)) (length (now (bins .entry))) (length (now (work .entry)))) (now (work .entry)) ⌝ }
+        (buildPowerAliasTable (now (weights .entry)) (length (now (bins .entry))) (length (now (work .entry))))
+        (now (work .entry)) ⌝ }
 {
     let m = weights.len();
     if m > MAX_LAMPS {
@@ -120,9 +125,11 @@ fn build(weights: &[u32], flat: bool, sum: f32, bins: &mut [u32], work: &mut [u3
     requires { ⌜ Room (length (now weights)) (now bins) (now work) ⌝ }
     requires { ⌜ sum ≡ totalOf (weighted flat (now weights)) ⌝ }
     ensures { λ _. ⌜ now (bins .exit)
-        ≡ binWords (played (weighted flat (now (weights .entry)))) ++ drop (3 * length (now (weights .entry))) (now (bins .entry)) ⌝ }
+        ≡ binWords (played (weighted flat (now (weights .entry)))) ++
+        drop (3 * length (now (weights .entry))) (now (bins .entry)) ⌝ }
     ensures { λ _. ⌜ now (work .exit)
-        ≡ replicate (4 * length (now (weights .entry))) 0 ++ drop (4 * length (now (weights .entry))) (now (work .entry)) ⌝ }
+        ≡ replicate (4 * length (now (weights .entry))) 0 ++
+        drop (4 * length (now (weights .entry))) (now (work .entry)) ⌝ }
 {
     let count = weights.len();
     let first = start(weights, flat, sum, bins, work);
@@ -136,7 +143,8 @@ fn build(weights: &[u32], flat: bool, sum: f32, bins: &mut [u32], work: &mut [u3
 fn start(weights: &[u32], flat: bool, sum: f32, bins: &mut [u32], work: &mut [u32]) -> Heights
     requires { ⌜ Room (length (now weights)) (now bins) (now work) ⌝ }
     requires { ⌜ sum ≡ totalOf (weighted flat (now weights)) ⌝ }
-    ensures { λ r. ⌜ Started (length (now (weights .entry))) (weighted flat (now (weights .entry))) (now (bins .entry)) (now (work .entry))
+    ensures { λ r. ⌜ Started (length (now (weights .entry))) (weighted flat (now (weights .entry))) (now (bins .entry))
+        (now (work .entry))
         (now (bins .exit)) (now (work .exit)) (r .under) (r .over) ⌝ }
 {
     let m = weights.len();
@@ -195,7 +203,8 @@ fn put_entry(work: &mut [u32], at: usize, weight: f32, index: u32)
 // Turns, while neither stack is empty. Each takes one bin out of the game.
 fn play(m: usize, bins: &mut [u32], work: &mut [u32], under: usize, over: usize) -> Heights
     requires { ⌜ Playing m (now bins) (now work) under over ⌝ }
-    ensures { λ r. ⌜ Played m (now (bins .entry)) (now (work .entry)) under over (now (bins .exit)) (now (work .exit)) (r .under) (r .over) ⌝ }
+    ensures { λ r. ⌜ Played m (now (bins .entry)) (now (work .entry)) under over (now (bins .exit)) (now (work .exit))
+        (r .under) (r .over) ⌝ }
 {
     let mut nu = under;
     let mut no = over;

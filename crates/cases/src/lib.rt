@@ -1,1 +1,1 @@
-// Document 01's marked cases, proved by computing the definitions: specs/Marked.antt. No code.
+// The marked cases (docs/REQUIREMENTS.md R14), proved by computing the definitions: specs/Laws/Marked.antt. No code.

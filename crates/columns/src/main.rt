@@ -1,4 +1,4 @@
-// The light report of document 01; all of it is in light_report.
+// The light report (docs/REQUIREMENTS.md R13); all of it is in light_report.
 fn main() {
     light_report::columns();
 }

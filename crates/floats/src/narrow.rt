@@ -34,7 +34,8 @@ fn narrow_word(w: u64) -> u32
     if a >= 0x47f0_0000_0000_0000 {
         return sign + 0x7f80_0000;
     }
-    // normal: 2^-126 and up. 29 digits go; a carry runs into the exponent, and from the largest exponent into the infinity's pattern
+    // normal: 2^-126 and up. 29 digits go; a carry runs into the exponent, and from the largest exponent into the
+    // infinity's pattern
     if a >= 0x3810_0000_0000_0000 {
         return sign + shifted_to_even(a - 0x3800_0000_0000_0000, 29) as u32;
     }

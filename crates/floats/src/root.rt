@@ -1,16 +1,17 @@
-// Integer square roots: of a number below 2^54, of 24 digits to the nearest, and of one below 2^54 followed by 54 zero digits.
+// Integer square roots: of a number below 2^54, of 24 digits to the nearest, and of one below 2^54 followed by 54 zero
+// digits.
 ghost use mathlib.Core.Path.{_≡_};
 ghost use Prim.Native.Nat.{_+_, _*_, _^_, _≤_, _<_};
 ghost use lib.Ieee.Nearest.{closest};
 ghost use Rattle.ieee.specs.Sqrt.{isqrt};
-ghost use Rattle.ieee.specs.SqrtNear.{isNearest};
-ghost use Rattle.ieee.specs.SqrtWords.{sticky};
+ghost use Rattle.ieee.specs.Laws.SqrtNear.{isNearest};
+ghost use Rattle.ieee.specs.Laws.SqrtWords.{sticky};
 use super::shift::shifted_to_even;
 use words::floats::f64_of_word;
 use words::floats::word_of_f64;
 
-// A float near the root of normal * 2^odd / 2^52, to 28 digits, for normal from 2^52 up to 2^53: a polynomial near the root of x from 1 up to 2, times the
-// root of 2 where odd is 1. Nothing rests on how near it is.
+// A float near the root of normal * 2^odd / 2^52, to 28 digits, for normal from 2^52 up to 2^53: a polynomial near the
+// root of x from 1 up to 2, times the root of 2 where odd is 1. Nothing rests on how near it is.
 fn near_root(normal: u64, odd: u64) -> f64
     requires { ⌜ normal < 2 ^ 53 ⌝ }
     requires { ⌜ odd < 2 ⌝ }
@@ -45,8 +46,8 @@ fn nearer_root(normal: u64, odd: u64) -> f64
     low * scale + (middle + high * x4) * (x4 * scale)
 }
 
-// A number near the root of n, and below 2^27, for n from 2^52 up to 2^54. The sum with 2^26 leaves whole numbers in the float's last digits; it is cut a little
-// late, so that a root that is whole is met.
+// A number near the root of n, and below 2^27, for n from 2^52 up to 2^54. The sum with 2^26 leaves whole numbers in
+// the float's last digits; it is cut a little late, so that a root that is whole is met.
 fn guess(n: u64) -> u64
     requires { ⌜ n < 2 ^ 54 ⌝ }
     ensures { λ r. ⌜ r < 2 ^ 27 ⌝ }
@@ -133,7 +134,8 @@ fn beside(n: u64, q: u64) -> u64
     kept_root(n)
 }
 
-// What is kept of the root of n, where n = normal * 2^odd: the float near it, which the sum with 2^29 rounds to 24 digits, where that is the nearest.
+// What is kept of the root of n, where n = normal * 2^odd: the float near it, which the sum with 2^29 rounds to 24
+// digits, where that is the nearest.
 pub(crate) fn nearest_root(n: u64, normal: u64, odd: u64) -> u64
     requires { ⌜ n < 2 ^ 54 ⌝ }
     requires { ⌜ normal < 2 ^ 53 ⌝ }
@@ -148,7 +150,8 @@ pub(crate) fn nearest_root(n: u64, normal: u64, odd: u64) -> u64
     if is_nearest(n, q) { q } else { beside(n, q) }
 }
 
-// The same for n * 2^54: the root's upper half is the root of n, a division by it finds the lower half or one more, and the rest tells which.
+// The same for n * 2^54: the root's upper half is the root of n, a division by it finds the lower half or one more, and
+// the rest tells which.
 pub(crate) fn wide_sticky_root(n: u64) -> u64
     requires { ⌜ 2 ^ 52 ≤ n ⌝ }
     requires { ⌜ n < 2 ^ 54 ⌝ }

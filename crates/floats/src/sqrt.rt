@@ -1,11 +1,12 @@
-// Square roots. A pattern's significand is normalised by its leading zeros, so that subnormals take the same way; its exponent is made even; the whole root of
-// the digits has digits beyond the format's, and what it leaves over counts as one digit more. One rounding makes the result.
+// Square roots. A pattern's significand is normalised by its leading zeros, so that subnormals take the same way; its
+// exponent is made even; the whole root of the digits has digits beyond the format's, and what it leaves over counts as
+// one digit more. One rounding makes the result.
 ghost use mathlib.Core.Path.{_≡_};
 ghost use Prim.Native.Nat.{_+_, _*_, _^_, _≤_, _<_};
 ghost use lib.Ieee.{binary32, binary64, ofBits, toBits};
 ghost use lib.Ieee.Nearest.{closest};
 ghost use Rattle.ieee.specs.Sqrt.{sqrt as rooted, rootOf};
-ghost use Rattle.ieee.specs.SqrtWords.{sticky};
+ghost use Rattle.ieee.specs.Laws.SqrtWords.{sticky};
 use super::root::kept_root;
 use super::root::nearest_root;
 use super::root::wide_sticky_root;
@@ -84,7 +85,8 @@ struct Scaled {
     odd: u64,
 }
 
-// The number d * 2^e so: d is shifted until its leading digit is at place 52, and once more where the exponent is then odd.
+// The number d * 2^e so: d is shifted until its leading digit is at place 52, and once more where the exponent is then
+// odd.
 fn normalised(d: u64, e: u64) -> Scaled
     requires { ⌜ 0 < d ⌝ }
     requires { ⌜ d < 2 ^ 53 ⌝ }

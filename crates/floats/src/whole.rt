@@ -1,5 +1,5 @@
-// Functions to whole numbers. A magnitude pattern a below 2^31 has the exponent's field a >> 23; from 150 on the value is whole, and from 127 to
-// 149 its last 150 - field digits are the fraction.
+// Functions to whole numbers. A magnitude pattern a below 2^31 has the exponent's field a >> 23; from 150 on the value
+// is whole, and from 127 to 149 its last 150 - field digits are the fraction.
 ghost use mathlib.Core.Path.{_≡_};
 ghost use lib.Ieee.{binary32, ofBits, toBits};
 ghost use Rattle.ieee.specs.Whole.{nextWhole, floor as floored, ceil as ceiled, roundAway, toU16, toU32, toUsize};

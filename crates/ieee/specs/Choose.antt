@@ -1,11 +1,12 @@
--- Document 01's functions that choose among their arguments, min, max, clamp, abs, and the sign of the word that a float is stored as.
--- Definitions only. Assumes nothing.
+-- The functions that choose among their arguments (R2.4, R2.5), min, max, clamp, abs, and the sign of the word that a
+-- float is stored as. Definitions only. Assumes nothing.
 use Prim.Native.Nat.{_^_}
 use mathlib.Core.Bool.{Bool, cond, false}
 use lib.Dec.{leb}
 use lib.Ieee.{Float, nan, inf, fin, binary32, lt, isNan, toBits}
 
--- "min, max: NaN loses to the other value; equal values give the first." A NaN y is neither below nor above x, so x is given.
+-- "min, max: NaN loses to the other value; equal values give the first." A NaN y is neither below nor above x, so x is
+-- given.
 unfoldable pub fmin : Float → Float → Float
 fmin x y = cond (isNan x) y (cond (lt y x) y x)
 

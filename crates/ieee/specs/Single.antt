@@ -1,4 +1,5 @@
--- f32 arithmetic, one rounding each, as infix operators, and constants by their bits. Definitions only. Assumes nothing.
+-- f32 arithmetic, one rounding each, as infix operators, and constants by their bits. Definitions only. Assumes
+-- nothing.
 use Prim.Native.Nat.{ℕ}
 use lib.Ieee.{Float, binary32, ofBits, add, sub, mul, div}
 

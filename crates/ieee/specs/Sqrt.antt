@@ -1,7 +1,8 @@
--- Document 01's square root: "nearest float, ties to even; of -0, -0; below zero or NaN, NaN; of infinity, infinity". Over the format.
--- The root of m * 2 ^ e is taken as a whole number, in units of 2 ^ -k with k one more than the format's smallest value has places, so that every value of
--- the format is an even number of units. What the whole root leaves over counts as half a unit, which is on the same side of any value of the format.
--- Definitions only. Assumes nothing.
+-- The square root (R2.1): the nearest float, ties to even; of -0, -0; below zero or NaN, NaN; of infinity, infinity.
+-- Over the format. The root of m * 2 ^ e is taken as a whole number, in units of 2 ^ -k with k one more than the
+-- format's smallest value has places, so that every value of the format is an even number of units. What the whole root
+-- leaves over counts as half a unit, which is on the same side of any value of the format. Definitions only. Assumes
+-- nothing.
 use Prim.Native.Nat.{ℕ, zero, suc, _+_, _*_, _/_, _^_}
 use mathlib.Core.Bool.{cond, false}
 use lib.Dec.{eqb, leb}

@@ -1,5 +1,6 @@
--- Document 01's functions to whole numbers: "floor, ceil and round are exact, round's halves away from zero"; "casts to whole numbers saturate,
--- NaN to 0". Each is taken of the magnitude m * 2 ^ e, and the result keeps the sign, a zero's too. Definitions only. Assumes nothing.
+-- The functions to whole numbers (R2.6, R2.14): floor, ceil and round are exact, round's halves away from zero; casts
+-- saturate, NaN to 0". Each is taken of the magnitude m * 2 ^ e, and the result keeps the sign, a zero's too.
+-- Definitions only. Assumes nothing.
 use Prim.Native.Nat.{ℕ, _+_, _*_, _/_, _%_}
 use mathlib.Core.Bool.{Bool, false, cond, not, _&&_}
 use lib.IntN.{ℤ}

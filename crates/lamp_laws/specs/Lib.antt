@@ -1,2 +1,1 @@
-pub mod LampFits
-pub mod ListLaws
+pub mod Laws

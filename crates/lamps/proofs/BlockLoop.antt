@@ -1,4 +1,5 @@
--- The loop that takes the bounds of each lamp and writes their rows behind the count: its state, one lamp more, and what is left at its end. Assumes nothing.
+-- The loop that takes the bounds of each lamp and writes their rows behind the count: its state, one lamp more, and
+-- what is left at its end. Assumes nothing.
 use Prim.Native.Nat.{ℕ, suc, _+_, _*_, _≤_, _<_}
 use mathlib.Core.Path.{_≡_, refl, ap, sym, _∙_}
 use mathlib.Core.List.{List, [], _∷_, _++_, append-nil}
@@ -10,12 +11,14 @@ use Rattle.words.specs.Answers.{given, refused, count}
 use Rattle.words.specs.Fill.{filled}
 use Rattle.words.specs.Limits.{maxLamps}
 use Rattle.words.specs.Tray.{tray}
-use Rattle.words.specs.TrayLaws.{tray-full}
+use Rattle.words.specs.Laws.TrayLaws.{tray-full}
 use Rattle.words.proofs.Reserves.{tray-zeroed}
-use Rattle.words.proofs.RowLaws.{Written, written-none, written-one, written-under, written-behind, Walked, walked-none, walked-one, walked-refused, walked-all}
+use Rattle.words.proofs.RowLaws.{Written, written-none, written-one, written-under, written-behind}
+use Rattle.words.proofs.RowLaws.{Walked, walked-none, walked-one, walked-refused, walked-all}
 use Rattle.light_bounds.specs.declared.light_bounds.LightBounds.{LightBounds}
 use Rattle.light_rows.specs.Block.{boundsWords, boundsRow, blockWords, handlePlace, rowWritten, packExhaustiveBounds}
-use Rattle.lamps.specs.Build.{Passed, nextBounds, buildLightBounds}
+use Rattle.lamps.specs.BuildBounds.{buildLightBounds}
+use Rattle.lamps.specs.AsCoded.Passed.{Passed, nextBounds}
 use Rattle.lamps.specs.LampList.{lampList}
 use Rattle.lamps.proofs.BuildLaws.{list-counted, build-refused, build-given, row-width, length-block}
 use Rattle.lamps.proofs.WalkLaws.{boundsWalk}
@@ -29,7 +32,8 @@ pub record Taking (list : List ℕ) (m : ℕ) (block₀ block : List ℕ) (place
   pub walked : Walked (boundsWalk list) m 1 place at done
   pub written : Written boundsRow boundsWords row-width (m ∷ []) done block₀ block
 
-pub taking-none : (list : List ℕ) (m : ℕ) (d : List ℕ) → m ≤ maxLamps → blockWords m ≤ length d → Taking list m (set d 0 m) (set d 0 m) 0 1
+pub taking-none : (list : List ℕ) (m : ℕ) (d : List ℕ) → m ≤ maxLamps → blockWords m ≤ length d →
+    Taking list m (set d 0 m) (set d 0 m) 0 1
 taking-none list m d few room =
     record {
       few = few;
@@ -38,7 +42,8 @@ taking-none list m d few room =
       done = [];
       walked = walked-none (boundsWalk list) m 1;
       written =
-          rw set-set at (written-none boundsRow boundsWords row-width (m ∷ []) (set d 0 m) (rw length-set (omega arith)));
+          rw set-set at (written-none boundsRow boundsWords row-width (m ∷ []) (set d 0 m)
+          (rw length-set (omega arith)));
     }
 
 -- a row that fits is written
@@ -65,7 +70,8 @@ module _ {list : List ℕ} {m : ℕ} {block₀ block : List ℕ} {place at : ℕ
         written = rw put (rw n at row);
       }
 
-module _ (d : List ℕ) {list l : List ℕ} {m place at : ℕ} (t : Taking list m (set d 0 m) l place at) (counted : count (lampList list) ≡ given m)
+module _ (d : List ℕ) {list l : List ℕ} {m place at : ℕ} (t : Taking list m (set d 0 m) l place at)
+    (counted : count (lampList list) ≡ given m)
     (enough : blockWords m ≤ length d) where
   under : Written boundsRow boundsWords row-width (m ∷ []) (t .done) d l
   under = written-under boundsRow boundsWords row-width d (t .written) (omega arith)
@@ -76,10 +82,13 @@ module _ (d : List ℕ) {list l : List ℕ} {m place at : ℕ} (t : Taking list 
   -- a lamp that is refused: its number, and zeros
   pub taking-refused : (n : ℕ) → place < m → nextBounds list at ≡ refused n
       → (refused n ≡ count (buildLightBounds list (length d)))
-      × (filled l 0 (blockWords m) 0 ≡ tray packExhaustiveBounds (blockWords (getD list 0 0)) (buildLightBounds list (length d)) d)
+      × (filled l 0 (blockWords m) 0 ≡
+      tray packExhaustiveBounds (blockWords (getD list 0 0)) (buildLightBounds list (length d)) d)
   taking-refused n h e =
-      let (is, late) = build-refused list (length d) m counted enough n (walked-refused (boundsWalk list) (t .walked) h e) in
-      let behind = written-behind boundsRow boundsWords row-width (blockWords m) under (omega (arith, t .walked .size)) in
+      let (is, late) = build-refused list (length d) m counted enough n
+      (walked-refused (boundsWalk list) (t .walked) h e) in
+      let behind = written-behind boundsRow boundsWords row-width (blockWords m) under (omega (arith, t .walked .size))
+      in
       rw (is, same) (refl, tray-zeroed packExhaustiveBounds (blockWords m) d l n (t .room) behind late)
 
   -- all of them: the count, and the block
@@ -89,6 +98,10 @@ module _ (d : List ℕ) {list l : List ℕ} {m place at : ℕ} (t : Taking list 
   unfolding packExhaustiveBounds
   taking-all h =
       let n : length (t .done) ≡ m = omega (arith, t .walked .size, t .within) in
-      let is = build-given list (length d) m counted enough (t .done) (walked-all (boundsWalk list) (t .walked) h ∙ ap given (append-nil (t .done))) in
-      rw (is, same)
-      (ap given (sym n), under .is ∙ rw n (rw n at (sym (tray-full packExhaustiveBounds (blockWords m) d (t .done) (length-block (t .done) ∙ rw n)))))
+      let is = build-given list (length d) m counted enough (t .done)
+      (walked-all (boundsWalk list) (t .walked) h ∙ ap given (append-nil (t .done))) in
+      rw (is, same) (
+        ap given (sym n),
+        under .is ∙ rw n
+            (rw n at (sym (tray-full packExhaustiveBounds (blockWords m) d (t .done) (length-block (t .done) ∙ rw n)))),
+      )

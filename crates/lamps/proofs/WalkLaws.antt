@@ -1,5 +1,5 @@
--- The two walks over a lamp list as the code takes them: the first reads the lamps and judges their handles, the second takes the bounds of each. What each
--- state of a walk comes to, in the words of LampList and Build. Assumes nothing.
+-- The two walks over a lamp list as the code takes them: the first reads the lamps and judges their handles, the second
+-- takes the bounds of each. What each state of a walk comes to, in the words of LampList and Build. Assumes nothing.
 use Prim.Native.Nat.{ℕ, zero, suc, _+_, _≤_, _<_}
 use mathlib.Core.Path.{_≡_, refl, ap, sym, _∙_}
 use mathlib.Core.Bool.{Bool, true, false, cond, _&&_, and-true, and-assoc}
@@ -8,11 +8,12 @@ use native.Mathlib.Omega.{arith}
 use lib.Dec.{eqb}
 use lib.ListN.{length, getD}
 use Rattle.words.specs.Answers.{Answer, given, refused, _then_}
-use Rattle.words.specs.Rows.{Walk, gathered}
+use Rattle.words.specs.AsCoded.Walks.{Walk, gathered}
 use Rattle.words.proofs.AnswerLaws.{not-both, given-injective, then-given}
 use Rattle.words.proofs.RowLaws.{behind, Walked, walked-refused, walked-all}
 use Rattle.light_bounds.specs.declared.light_bounds.LightBounds.{LightBounds}
-use Rattle.lamps.specs.Build.{Passed, boundsOf, allBounds, nextBounds}
+use Rattle.lamps.specs.BuildBounds.{boundsOf, allBounds}
+use Rattle.lamps.specs.AsCoded.Passed.{Passed, nextBounds}
 use Rattle.lamps.specs.LampList.{lampAt, lampsFrom, handle, inPlace, placedLamps}
 use Rattle.lamps.specs.declared.lamp_list.Reading.{Reading}
 
@@ -31,10 +32,12 @@ lampsFrom-gathered : (m : ℕ) (ws : List ℕ) (at : ℕ) → lampsFrom m ws at 
 unfolding lampsFrom gathered
 lampsFrom-gathered zero ws at = refl
 lampsFrom-gathered (suc m) ws at =
-    ap (λ (next : Reading → Answer (List Reading)). lampAt ws at then next) (λ i r. lampsFrom-gathered m ws (r .next .at) i then λ rs. given (r ∷ rs))
+    ap (λ (next : Reading → Answer (List Reading)). lampAt ws at then next)
+    (λ i r. lampsFrom-gathered m ws (r .next .at) i then λ rs. given (r ∷ rs))
 
 -- the handles of those gathered and of one more
-pub inPlace-snoc : (k : ℕ) (done : List Reading) (r : Reading) → inPlace k (done ++ r ∷ []) ≡ inPlace k done && eqb (handle (r .lamp)) (k + length done)
+pub inPlace-snoc : (k : ℕ) (done : List Reading) (r : Reading) →
+    inPlace k (done ++ r ∷ []) ≡ inPlace k done && eqb (handle (r .lamp)) (k + length done)
 unfolding inPlace
 inPlace-snoc k [] r = let e : k + 0 ≡ k = omega arith in rw e (and-true (eqb (handle (r .lamp)) k))
 inPlace-snoc k (d ∷ done) r =
@@ -48,7 +51,8 @@ ends false e = absurd (not-both e refl)
 
 -- a list that was read, taken apart
 lampsFrom-suc : (m : ℕ) (ws : List ℕ) (at : ℕ) (rs : List Reading) → lampsFrom (suc m) ws at ≡ given rs
-    → (r : Reading) × (ys : List Reading) × (lampAt ws at ≡ given r) × (lampsFrom m ws (r .next .at) ≡ given ys) × (r ∷ ys ≡ rs)
+    → (r : Reading) × (ys : List Reading) × (lampAt ws at ≡ given r) × (lampsFrom m ws (r .next .at) ≡ given ys) ×
+    (r ∷ ys ≡ rs)
 unfolding lampsFrom
 lampsFrom-suc m ws at rs e =
     let (r, er, e′) = then-given (lampAt ws at) (λ r. lampsFrom m ws (r .next .at) then λ ys. given (r ∷ ys)) rs e in
@@ -81,7 +85,8 @@ module _ (ws : List ℕ) {i at : ℕ} {done : List Reading} (w : LampsRead ws i 
   placed-ragged h e = rw (all h, e)
 
   -- read to the end: the handles decide
-  pub placed-all : getD ws 0 0 ≤ i → eqb at (length ws) ≡ true → placedLamps ws ≡ cond (inPlace 0 done) (given done) (refused 4)
+  pub placed-all : getD ws 0 0 ≤ i → eqb at (length ws) ≡ true →
+      placedLamps ws ≡ cond (inPlace 0 done) (given done) (refused 4)
   unfolding placedLamps _then_
   placed-all h e = rw (all h, e, append-nil done)
 
@@ -89,24 +94,33 @@ module _ (ws : List ℕ) {i at : ℕ} {done : List Reading} (w : LampsRead ws i 
 
 abbrev pub boundsWalk : List ℕ → Walk Passed LightBounds
 boundsWalk ws =
-    record { step = nextBounds ws; item = λ (p : Passed). p .bounds; past = λ (p : Passed). p .next .at; end = λ (end : ℕ). given [] }
+    record {
+      step = nextBounds ws;
+      item = λ (p : Passed). p .bounds;
+      past = λ (p : Passed). p .next .at;
+      end = λ
+          (end : ℕ). given [];
+    }
 
 -- on lamps that were read, the second walk takes the bounds of each
-pub boundsWalk-all : (m : ℕ) (ws : List ℕ) (at : ℕ) (rs : List Reading) → lampsFrom m ws at ≡ given rs → gathered (boundsWalk ws) m at ≡ allBounds ws rs
+pub boundsWalk-all : (m : ℕ) (ws : List ℕ) (at : ℕ) (rs : List Reading) → lampsFrom m ws at ≡ given rs →
+    gathered (boundsWalk ws) m at ≡ allBounds ws rs
 unfolding lampsFrom gathered nextBounds allBounds _then_
 boundsWalk-all zero ws at rs e = rw (ends (eqb at (length ws)) e)
 boundsWalk-all (suc m) ws at rs e =
     let (r, ys, er, ey, same) = lampsFrom-suc m ws at rs e in
     rw er (each r ys (boundsWalk-all m ws (r .next .at) ys ey) (boundsOf ws r)) ∙ ap (allBounds ws) same
   where
-    each : (r : Reading) (ys : List Reading) → gathered (boundsWalk ws) m (r .next .at) ≡ allBounds ws ys → (z : Answer LightBounds) →
+    each : (r : Reading) (ys : List Reading) → gathered (boundsWalk ws) m (r .next .at) ≡ allBounds ws ys →
+        (z : Answer LightBounds) →
         (z then λ b. given (record { bounds = b; next = r .next })) then
         (λ (p : Passed). gathered (boundsWalk ws) m (p .next .at) then λ bs. given (p .bounds ∷ bs))
         ≡ z then λ b. allBounds ws ys then λ bs. given (b ∷ bs)
     each r ys h (given b) = ap (λ (x : Answer (List LightBounds)). x then λ bs. given (b ∷ bs)) h
     each r ys h (refused n) = refl
 
-pub allBounds-length : (ws : List ℕ) (rs : List Reading) (bs : List LightBounds) → allBounds ws rs ≡ given bs → length bs ≡ length rs
+pub allBounds-length : (ws : List ℕ) (rs : List Reading) (bs : List LightBounds) → allBounds ws rs ≡ given bs →
+    length bs ≡ length rs
 unfolding allBounds
 allBounds-length ws [] bs e = ap length (sym (given-injective e))
 allBounds-length ws (r ∷ rs) bs e =

@@ -1,4 +1,5 @@
--- The bounds of one lamp: `light_bounds_for_input` of `light_bounds.rs`, step by step, its refusals in its order. Definitions only. Assumes nothing.
+-- The bounds of one lamp: `light_bounds_for_input` of `light_bounds.rs`, step by step, its refusals in its order.
+-- Definitions only. Assumes nothing.
 use Prim.Native.Nat.{ℕ, zero, suc, _+_, _/_}
 use mathlib.Core.Bool.{Bool, false, cond, _&&_, _||_, not}
 use mathlib.Core.List.{List}
@@ -53,7 +54,8 @@ unfoldable pub pointBounds : Vec3 → Float → Float → Answer LightBounds
 pointBounds position intensity scale =
     validateEmission intensity scale then λ _.
     boxCheck (pointBox position) then λ _.
-    checked (lampRecord (pointBox position) (vec zerof zerof onef) (pointPhi intensity scale) minusOne (cos halfPi) false)
+    checked (lampRecord (pointBox position) (vec zerof zerof onef) (pointPhi intensity scale) minusOne (cos halfPi)
+    false)
 
 -- the angle's cosine rounds to 1, and yet there is a falloff
 abbrev pub tooNarrow : Float → Float → Float → Bool
@@ -91,7 +93,8 @@ triangleAt ts i =
 
 -- min and max drop a NaN, so a coordinate is NaN only where all three vertices have it so
 unfoldable pub triangleBounds : AreaTriangleInput → Bounds3
-triangleBounds t = record { min = leastOf (leastOf (t .a) (t .b)) (t .c); max = greatestOf (greatestOf (t .a) (t .b)) (t .c) }
+triangleBounds t =
+    record { min = leastOf (leastOf (t .a) (t .b)) (t .c); max = greatestOf (greatestOf (t .a) (t .b)) (t .c) }
 
 -- NaN and infinite areas are refused with those not above zero
 abbrev pub noArea : Float → Bool

@@ -1,6 +1,7 @@
--- The lamp list, document 01's form of `LightBoundInput`: words, lamp by lamp behind a count. A lamp's head has its kind in the top two bits (01
--- point, 10 spot, 11 group) and its handle in the low thirty. Reading comes before any figure is judged: over the limits is 2, a list whose words are
--- not laid out as it says 1, a handle that is not its place 4. Definitions only. Assumes nothing.
+-- The lamp list (R4.1 to R4.3), our form of `LightBoundInput`: words, lamp by lamp behind a count. A lamp's head has
+-- its kind in the top two bits (01 point, 10 spot, 11 group) and its handle in the low thirty. Reading comes before any
+-- figure is judged: over the limits is 2, a list whose words are not laid out as it says 1, a handle that is not its
+-- place 4. Definitions only. Assumes nothing.
 use Prim.Native.Nat.{ℕ, zero, suc, _+_, _*_, _-_}
 use mathlib.Core.Bool.{Bool, true, cond, _&&_}
 use mathlib.Core.List.{List, [], _∷_}
@@ -75,7 +76,9 @@ groupEnd ws at = at + groupWords + triangleWords * getD ws (at + 4) 0
 abbrev pub groupAt : List ℕ → ℕ → Reading
 groupAt ws at =
     record {
-      lamp = AreaGroup (handleOf (getD ws at 0)) (single (getD ws (at + 1) 0)) (single (getD ws (at + 2) 0)) (listSideOf (getD ws (at + 3) 0));
+      lamp =
+          AreaGroup (handleOf (getD ws at 0)) (single (getD ws (at + 1) 0)) (single (getD ws (at + 2) 0))
+          (listSideOf (getD ws (at + 3) 0));
       triangles = at + groupWords;
       next = record { at = groupEnd ws at };
     }

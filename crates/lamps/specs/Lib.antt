@@ -1,3 +1,4 @@
 pub mod LampList
 pub mod LampBounds
-pub mod Build
+pub mod BuildBounds
+pub mod AsCoded

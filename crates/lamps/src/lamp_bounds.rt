@@ -6,9 +6,12 @@ ghost use Rattle.words.specs.Answers.{given, _then_};
 ghost use Rattle.light_bounds.specs.Bounds.{validity};
 ghost use Rattle.light_bounds.specs.LightBounds.{bounded};
 ghost use Rattle.lamps.specs.LampList.{triangleWords};
-ghost use Rattle.lamps.specs.LampBounds.{lightBoundsForInput, emissionBad, validateEmission, checked as checkedOf, pointBox, pointPhi};
-ghost use Rattle.lamps.specs.LampBounds.{pointBounds, tooNarrow, falloff as falloffOf, spotBounds, triangleAt, triangleBounds, noArea};
-ghost use Rattle.lamps.specs.LampBounds.{triangleRecord, groupPhi, joinNext, unionFrom, groupBounds, spotRecord, facedRecord};
+ghost use Rattle.lamps.specs.LampBounds.{lightBoundsForInput, emissionBad, validateEmission};
+ghost use Rattle.lamps.specs.LampBounds.{checked as checkedOf, pointBox, pointPhi};
+ghost use Rattle.lamps.specs.LampBounds.{pointBounds, tooNarrow, falloff as falloffOf, spotBounds};
+ghost use Rattle.lamps.specs.LampBounds.{triangleAt, triangleBounds, noArea};
+ghost use Rattle.lamps.specs.LampBounds.{triangleRecord, groupPhi, joinNext, unionFrom};
+ghost use Rattle.lamps.specs.LampBounds.{groupBounds, spotRecord, facedRecord};
 use super::lamp_list::Lamp;
 use super::lamp_list::TRIANGLE_WORDS;
 use light_bounds::bounds::Bounds3;
@@ -331,7 +334,8 @@ fn union_rest(
 ) -> Bounded
     requires { ⌜ triangleWords * n ≤ length (now triangles) ⌝ }
     requires { ⌜ 1 ≤ n ⌝ }
-    ensures { λ r. ⌜ bounded r ≡ unionFrom «emission_max» scale «two_sided» (now (triangles .entry)) triangleWords (n - 1) (given first) ⌝ }
+    ensures { λ r. ⌜ bounded r ≡ unionFrom «emission_max» scale «two_sided» (now (triangles .entry)) triangleWords
+        (n - 1) (given first) ⌝ }
 {
     let mut result = first;
     let mut k: usize = 1;

@@ -5,8 +5,10 @@ ghost use Prim.Native.Nat.{_+_, _≤_};
 ghost use lib.Dec.{leb, eqb};
 ghost use lib.ListN.{length, getD};
 ghost use Rattle.words.specs.Answers.{given, refused, count, counted};
-ghost use Rattle.lamps.specs.LampList.{firstLamp, lampAt, step, trianglesOf, handle, pointWords, spotWords, groupWords, groupEnd, groupFits};
-ghost use Rattle.lamps.specs.LampList.{alone as aloneOf, pointAt, spotAt, groupAt, listSideKnown, lampList, placedLamps};
+ghost use Rattle.lamps.specs.LampList.{firstLamp, lampAt, step, trianglesOf, handle};
+ghost use Rattle.lamps.specs.LampList.{pointWords, spotWords, groupWords, groupEnd, groupFits};
+ghost use Rattle.lamps.specs.LampList.{alone as aloneOf, pointAt, spotAt, groupAt};
+ghost use Rattle.lamps.specs.LampList.{listSideKnown, lampList, placedLamps};
 use light_bounds::vecmath::Vec3;
 use light_rows::record_words::vec_at;
 use words::answers::Counted;
@@ -58,7 +60,8 @@ pub enum Lamp {
     },
 }
 
-// A lamp, the place where its triangles start, and the cursor past it. A point or a spot has no triangles: they start where the next lamp does.
+// A lamp, the place where its triangles start, and the cursor past it. A point or a spot has no triangles: they start
+// where the next lamp does.
 pub struct Reading {
     pub lamp: Lamp,
     pub triangles: usize,
@@ -156,7 +159,8 @@ fn alone(lamp: Lamp, end: usize) -> Reading
 }
 
 fn point_at(list: &[u32], at: usize) -> Step
-    ensures { λ r. ⌜ step r ≡ cond (leb (at + pointWords) (length (now (list .entry)))) (given (pointAt (now (list .entry)) at)) (refused 1) ⌝ }
+    ensures { λ r. ⌜ step r ≡ cond (leb (at + pointWords) (length (now (list .entry))))
+        (given (pointAt (now (list .entry)) at)) (refused 1) ⌝ }
 {
     if fits(list.len(), at, POINT_WORDS) {
         return Step::Read(read_point(list, at));
@@ -178,7 +182,8 @@ fn read_point(list: &[u32], at: usize) -> Reading
 }
 
 fn spot_at(list: &[u32], at: usize) -> Step
-    ensures { λ r. ⌜ step r ≡ cond (leb (at + spotWords) (length (now (list .entry)))) (given (spotAt (now (list .entry)) at)) (refused 1) ⌝ }
+    ensures { λ r. ⌜ step r ≡ cond (leb (at + spotWords) (length (now (list .entry))))
+        (given (spotAt (now (list .entry)) at)) (refused 1) ⌝ }
 {
     if fits(list.len(), at, SPOT_WORDS) {
         return Step::Read(read_spot(list, at));
@@ -203,7 +208,8 @@ fn read_spot(list: &[u32], at: usize) -> Reading
 }
 
 fn group_at(list: &[u32], at: usize) -> Step
-    ensures { λ r. ⌜ step r ≡ cond (leb (at + groupWords) (length (now (list .entry))) && groupFits (now (list .entry)) at)
+    ensures { λ r. ⌜ step r ≡ cond (leb (at + groupWords) (length (now (list .entry))) && groupFits (now (list .entry))
+        at)
         (given (groupAt (now (list .entry)) at)) (refused 1) ⌝ }
 {
     if fits(list.len(), at, GROUP_WORDS) {
@@ -214,7 +220,8 @@ fn group_at(list: &[u32], at: usize) -> Step
 
 fn whole_group(list: &[u32], at: usize) -> Step
     requires { ⌜ at + groupWords ≤ length (now list) ⌝ }
-    ensures { λ r. ⌜ step r ≡ cond (groupFits (now (list .entry)) at) (given (groupAt (now (list .entry)) at)) (refused 1) ⌝ }
+    ensures { λ r. ⌜ step r ≡ cond (groupFits (now (list .entry)) at) (given (groupAt (now (list .entry)) at))
+        (refused 1) ⌝ }
 {
     if group_fits(list, at) {
         return Step::Read(read_group(list, at));
@@ -222,7 +229,8 @@ fn whole_group(list: &[u32], at: usize) -> Step
     Step::Refused(Refusal::Ragged)
 }
 
-// Whether a group's side is known and its triangles lie in the list. Their count may be anything up to 2^32 - 1: it is held against what is left by division.
+// Whether a group's side is known and its triangles lie in the list. Their count may be anything up to 2^32 - 1: it is
+// held against what is left by division.
 fn group_fits(list: &[u32], at: usize) -> bool
     requires { ⌜ at + groupWords ≤ length (now list) ⌝ }
     ensures { λ r. ⌜ r ≡ groupFits (now (list .entry)) at ⌝ }
@@ -260,7 +268,8 @@ fn read_group(list: &[u32], at: usize) -> Reading
 
 // ---- the list
 
-// How many lamps a list has: over the limits is refusal 2, a wrong layout, kind or side 1, a handle that is not its place 4. The lamps' figures are not judged.
+// How many lamps a list has: over the limits is refusal 2, a wrong layout, kind or side 1, a handle that is not its
+// place 4. The lamps' figures are not judged.
 pub fn check_list(list: &[u32]) -> Counted
     ensures { λ r. ⌜ counted r ≡ count (lampList (now (list .entry))) ⌝ }
 {

@@ -6,11 +6,11 @@ use lib.Dec.{T, not-T}
 use lib.Ieee.{Float, lt, le}
 use lib.Ieee.Bits.{is-true, is-false}
 use lib.Ieee.Fits.{and-l, and-r}
-use Rattle.ieee.specs.OrderLaws.{not-le-of-lt}
+use Rattle.ieee.specs.Laws.OrderLaws.{not-le-of-lt}
 use Rattle.ieee.specs.Single.{onef}
 use Rattle.words.specs.Answers.{given}
 use Rattle.light_bounds.specs.Importance.{lit, toward, cosW}
-use Rattle.light_bounds.specs.Weighing.{withHeld, isPlain}
+use Rattle.light_bounds.specs.AsCoded.Weighing.{withHeld, isPlain}
 use Rattle.light_bounds.proofs.RootLaws.{inside}
 use Rattle.light_bounds.specs.declared.vecmath.Vec3.{Vec3}
 use Rattle.light_bounds.specs.declared.light_bounds.LightBounds.{LightBounds}

@@ -10,10 +10,11 @@ use lib.Ieee.Bits.{ofBits-fits}
 use lib.Ieee.Digits.{back}
 use lib.Ieee.Fits.{add-fits, sub-fits, cond-fits}
 use Rattle.ieee.specs.Choose.{fmax}
-use Rattle.ieee.specs.ChooseOrder.{fmax-nonneg}
-use Rattle.ieee.specs.FormatLaws.{sqrt-fits, fmax-fits}
-use Rattle.ieee.specs.OrderLaws.{or-left, or-right, nonneg, le-left, le-of-not-lt}
-use Rattle.ieee.specs.RootOrder.{square-nonneg, sum-nonneg, above-half-root, unit-root, share-any, rest-le, one-value}
+use Rattle.ieee.specs.Laws.ChooseOrder.{fmax-nonneg}
+use Rattle.ieee.specs.Laws.FormatLaws.{sqrt-fits, fmax-fits}
+use Rattle.ieee.specs.Laws.OrderLaws.{or-left, or-right, nonneg, le-left, le-of-not-lt}
+use Rattle.ieee.specs.Laws.RootOrder.{square-nonneg, sum-nonneg, above-half-root, unit-root}
+use Rattle.ieee.specs.Laws.RootOrder.{share-any, rest-le, one-value}
 use Rattle.ieee.specs.Single.{_⊕_, _⊖_, _⊗_, _⊘_, zerof, half, onef, minusOne}
 use Rattle.ieee.specs.Sqrt.{sqrt}
 use Rattle.light_bounds.specs.Bounds.{diagonal, centroid}

@@ -43,7 +43,8 @@ axisOr (refused n) = vec zerof zerof onef
 unfoldable pub joined : Vec3 → Vec3 → Float → Float → Cone
 joined a b thetaA thetaO =
     let axis = cross a b in
-    cond (le pi thetaO || eq (dot axis axis) zerof) wholeSphere (cone (rotate a (axisOr (normalize axis)) (thetaO ⊖ thetaA)) (cos thetaO))
+    cond (le pi thetaO || eq (dot axis axis) zerof) wholeSphere
+    (cone (rotate a (axisOr (normalize axis)) (thetaO ⊖ thetaA)) (cos thetaO))
 
 unfoldable pub unionDirectionCones : Vec3 → Float → Vec3 → Float → Cone
 unionDirectionCones a cosA b cosB =

@@ -17,8 +17,6 @@ use Rattle.light_bounds.specs.declared.light_bounds.LightBounds.{LightBo
 use Rattle.light_bounds.specs.declared.importance.Query.{Query}
 use Rattle.light_bounds.specs.declared.importance.Weight.{Weight}
 use Rattle.light_bounds.specs.declared.importance.Weight.the-variants.{Importance, Refused}
-use Rattle.light_bounds.specs.declared.importance.View.{View}
-use Rattle.light_bounds.specs.declared.importance.View.the-variants.{Dark, Lit, Facing, Refused as View·Refused}
 
 -- how a point sees a record: not at all; with the cosine of the cone's nearest direction, over a squared distance; and
 -- with the normal's factor
@@ -102,13 +100,6 @@ unfoldable pub weigh : LightBounds → Query → Answer Float
 weigh r q = importance r q
 
 -- ---- as the code has it
-
--- what the code's view answers
-abbrev pub viewed : View → Answer Seen
-viewed Dark = given dark
-viewed (Lit p d2) = given (lit p d2)
-viewed (Facing p d2 i) = given (facing p d2 i)
-viewed (View·Refused r) = refused (number r)
 
 abbrev pub weight : Weight → Answer Float
 weight (Importance x) = given x

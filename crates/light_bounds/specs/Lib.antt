@@ -4,7 +4,5 @@ pub mod Cones
 pub mod Side
 pub mod LightBounds
 pub mod Importance
-pub mod Weighing
-pub mod WeighingLaws
-pub mod SideLaws
-pub mod BoundsLaws
+pub mod AsCoded
+pub mod Laws

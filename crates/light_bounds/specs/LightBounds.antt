@@ -1,4 +1,5 @@
--- Bounds records, as `LightBounds` of `light_bounds.rs` has them: the check in Rust's order, and the union. Definitions only. Assumes nothing.
+-- Bounds records, as `LightBounds` of `light_bounds.rs` has them: the check in Rust's order, and the union. Definitions
+-- only. Assumes nothing.
 use mathlib.Core.Bool.{Bool, cond, _&&_, _||_, not}
 use lib.Ieee.{Float, lt, le, eq}
 use lib.Ieee.Scale.{finite}
@@ -20,7 +21,14 @@ use Rattle.light_bounds.specs.declared.vecmath.Vec3.{Vec3}
 -- the one constructor of a record
 abbrev pub lightBounds : Bounds3 → Vec3 → Float → Float → Float → Side → LightBounds
 lightBounds bounds direction phi cosO cosE side =
-    record { bounds = bounds; direction = direction; phi = phi; «cos_theta_o» = cosO; «cos_theta_e» = cosE; side = side }
+    record {
+      bounds = bounds;
+      direction = direction;
+      phi = phi;
+      «cos_theta_o» = cosO;
+      «cos_theta_e» = cosE;
+      side = side;
+    }
 
 -- of a lamp in a list
 abbrev pub lampRecord : Bounds3 → Vec3 → Float → Float → Float → Bool → LightBounds
@@ -60,7 +68,8 @@ operand (refused n) = refused 10
 abbrev pub joinPowered : LightBounds → LightBounds → LightBounds
 joinPowered a b =
     let c = unionDirectionCones (a .direction) (a .«cos_theta_o») (b .direction) (b .«cos_theta_o») in
-    lightBounds (boxUnion (a .bounds) (b .bounds)) (c .direction) (a .phi ⊕ b .phi) (c .«cos_theta») (fmin (a .«cos_theta_e») (b .«cos_theta_e»))
+    lightBounds (boxUnion (a .bounds) (b .bounds)) (c .direction) (a .phi ⊕ b .phi) (c .«cos_theta»)
+    (fmin (a .«cos_theta_e») (b .«cos_theta_e»))
     (either (a .side) (b .side))
 
 -- zero power gives the other record whole, the first operand's tested first; the result is not checked

@@ -1,4 +1,5 @@
--- Vectors, step by step as `light_bounds.rs` and `sampling.rs` have them; every operation is f32 and rounded once. Definitions only. Assumes nothing.
+-- Vectors, step by step as `light_bounds.rs` and `sampling.rs` have them; every operation is f32 and rounded once.
+-- Definitions only. Assumes nothing.
 use mathlib.Core.Bool.{Bool, cond, not, _&&_, _||_}
 use lib.Ieee.{Float, binary32, eq, lt}
 use lib.Ieee.Scale.{finite}
@@ -54,7 +55,11 @@ normalized (Unit v) = given v
 normalized (Refused r) = refused (number r)
 
 unfoldable pub rotate : Vec3 → Vec3 → Float → Vec3
-rotate v axis angle = plus (plus (scaled v (cos angle)) (scaled (cross axis v) (sin angle))) (scaled axis (dot axis v ⊗ (onef ⊖ cos angle)))
+rotate v axis angle =
+    plus (plus (scaled v (cos angle)) (scaled (cross axis v) (sin angle)))
+    (scaled axis (dot axis v ⊗ (onef ⊖ cos angle)))
 
 unfoldable pub angleBetween : Vec3 → Vec3 → Float
-angleBetween a b = cond (lt (dot a b) zerof) (pi ⊖ twof ⊗ asin (vecLength (plus a b) ⊘ twof)) (twof ⊗ asin (vecLength (minus b a) ⊘ twof))
+angleBetween a b =
+    cond (lt (dot a b) zerof) (pi ⊖ twof ⊗ asin (vecLength (plus a b) ⊘ twof))
+    (twof ⊗ asin (vecLength (minus b a) ⊘ twof))

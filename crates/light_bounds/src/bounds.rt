@@ -1,6 +1,7 @@
 // Boxes (specs/Bounds.antt).
 ghost use mathlib.Core.Path.{_≡_};
-ghost use Rattle.light_bounds.specs.Bounds.{boxCheck, finiteBox, inverted, boxUnion, diagonal as diagonalOf, centroid as centroidOf};
+ghost use Rattle.light_bounds.specs.Bounds.{boxCheck, finiteBox, inverted};
+ghost use Rattle.light_bounds.specs.Bounds.{boxUnion, diagonal as diagonalOf, centroid as centroidOf};
 ghost use Rattle.light_bounds.specs.Bounds.{surfaceArea, leastOf, greatestOf, validity};
 use super::vecmath::Vec3;
 use super::vecmath::is_finite_vec;

@@ -2,7 +2,8 @@
 ghost use mathlib.Core.Path.{_≡_};
 ghost use Rattle.light_bounds.specs.Bounds.{diagonal as diagonalOf};
 ghost use Rattle.light_bounds.specs.Vecmath.{vecLength, normalized};
-ghost use Rattle.light_bounds.specs.Cones.{safeSqrt, boundSubtendedDirections, unionDirectionCones, axisOr, joined, wholeSphere};
+ghost use Rattle.light_bounds.specs.Cones.{safeSqrt, boundSubtendedDirections, unionDirectionCones};
+ghost use Rattle.light_bounds.specs.Cones.{axisOr, joined, wholeSphere};
 use super::bounds::Bounds3;
 use super::bounds::centroid;
 use super::vecmath::Direction;
@@ -84,7 +85,8 @@ fn union_by_angles(a: Vec3, cos_a: f32, b: Vec3, cos_b: f32) -> Cone
     join(a, b, theta_a, (theta_a + theta_d + theta_b) * 0.5)
 }
 
-// The cone of half the angle theta_o, from a's far side to b's: every direction where that is half a turn or more, or the axes are parallel.
+// The cone of half the angle theta_o, from a's far side to b's: every direction where that is half a turn or more, or
+// the axes are parallel.
 fn join(a: Vec3, b: Vec3, theta_a: f32, theta_o: f32) -> Cone
     ensures { λ r. ⌜ r ≡ joined a b «theta_a» «theta_o» ⌝ }
 {

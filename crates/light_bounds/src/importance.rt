@@ -1,13 +1,15 @@
-// The importance of a record for a point and a normal (specs/Importance.antt, specs/Weighing.antt), as pbrt-r4's
-// LightBounds has it. A walk weighs many records for one query, so what hangs on the query alone is worked out
-// once (`prepare`), and a root that decides nothing is not taken. In an archive `weigh_prepared` belongs into the
+// The importance of a record for a point and a normal (specs/Importance.antt, specs/AsCoded/Weighing.antt), as
+// pbrt-r4's LightBounds has it. A walk weighs many records for one query, so what hangs on the query alone is worked
+// out once (`prepare`), and a root that decides nothing is not taken. In an archive `weigh_prepared` belongs into the
 // walk: the compiler lays a function that is called in one place into its caller.
 ghost use mathlib.Core.Path.{_≡_};
 ghost use Rattle.light_bounds.specs.Cones.{cosSubClamped};
 ghost use Rattle.light_bounds.specs.Importance.{importance as importanceOf, checkedImportance, finiteQuery};
-ghost use Rattle.light_bounds.specs.Importance.{geometry as geometryOf, toward as towardOf, distance2 as distance2Of};
-ghost use Rattle.light_bounds.specs.Importance.{finishView, normalFactor, cosP, cosW, sine as sineOf, weight, viewed};
-ghost use Rattle.light_bounds.specs.Weighing.{prepared, unitNormal, withHeld, weighHeld, isPlain};
+ghost use Rattle.light_bounds.specs.Importance.{geometry as geometryOf, toward as towardOf};
+ghost use Rattle.light_bounds.specs.Importance.{distance2 as distance2Of};
+ghost use Rattle.light_bounds.specs.Importance.{finishView, normalFactor, cosP, cosW, sine as sineOf, weight};
+ghost use Rattle.light_bounds.specs.AsCoded.Views.{viewed};
+ghost use Rattle.light_bounds.specs.AsCoded.Weighing.{prepared, unitNormal, withHeld, weighHeld, isPlain};
 use super::bounds::Validity;
 use super::bounds::centroid;
 use super::bounds::diagonal;

@@ -1,7 +1,8 @@
 // Bounds records (specs/LightBounds.antt): the check and the union of pbrt-r4's LightBounds, refusals in its order.
 ghost use mathlib.Core.Path.{_≡_};
 ghost use Rattle.light_bounds.specs.Bounds.{validity};
-ghost use Rattle.light_bounds.specs.LightBounds.{lightBounds, lampRecord, validate as validateOf, coneCheck, finiteCone, rangeCheck, isCosine};
+ghost use Rattle.light_bounds.specs.LightBounds.{lightBounds, lampRecord, validate as validateOf, coneCheck};
+ghost use Rattle.light_bounds.specs.LightBounds.{finiteCone, rangeCheck, isCosine};
 ghost use Rattle.light_bounds.specs.LightBounds.{areCosines};
 ghost use Rattle.light_bounds.specs.LightBounds.{union as unionOf, bounded, join as joinOf};
 use super::bounds::Bounds3;
@@ -78,7 +79,8 @@ pub enum Bounded {
     Refused(Refusal),
 }
 
-// The check: 5 or 6 of the box, 5 of any other value, 7 of a direction without length, 8 of a phi or a cosine out of range.
+// The check: 5 or 6 of the box, 5 of any other value, 7 of a direction without length, 8 of a phi or a cosine out of
+// range.
 pub fn validate(record: LightBounds) -> Validity
     ensures { λ r. ⌜ validity r ≡ validateOf «record» ⌝ }
 {

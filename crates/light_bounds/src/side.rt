@@ -1,5 +1,5 @@
-// The side of a record (specs/Side.antt): what its last word says. It is judged, read, written and joined here alone, so that another word is a change of this
-// file and of its definitions.
+// The side of a record (specs/Side.antt): what its last word says. It is judged, read, written and joined here alone,
+// so that another word is a change of this file and of its definitions.
 ghost use mathlib.Core.Path.{_≡_};
 ghost use Rattle.light_bounds.specs.Side.{sideKnown, sideOf, sideWord, lampSide, either as eitherOf};
 

@@ -1,8 +1,10 @@
 // Vectors of three f32, by value (specs/Vecmath.antt). Sums run left to right, each step rounded once.
 ghost use mathlib.Core.Path.{_≡_};
 ghost use lib.Ieee.Scale.{finite};
-ghost use Rattle.light_bounds.specs.Vecmath.{dividing, divided, normalizeByDivision, dot as dotOf, cross as crossOf, plus, minus, scaled};
-ghost use Rattle.light_bounds.specs.Vecmath.{normalized, normalize as normalizeOf, finiteVec, rotate as rotateOf, angleBetween, vecLength};
+ghost use Rattle.light_bounds.specs.Vecmath.{dividing, divided, normalizeByDivision, dot as dotOf};
+ghost use Rattle.light_bounds.specs.Vecmath.{cross as crossOf, plus, minus, scaled};
+ghost use Rattle.light_bounds.specs.Vecmath.{normalized, normalize as normalizeOf, finiteVec};
+ghost use Rattle.light_bounds.specs.Vecmath.{rotate as rotateOf, angleBetween, vecLength};
 use floats::sqrt::sqrt as root;
 use trig::asin;
 use trig::cos;

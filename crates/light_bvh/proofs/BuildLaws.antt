@@ -1,4 +1,5 @@
--- Laws of the build's checks and loops: which reserves are short, what the checks give and refuse, and one row or one node more in each loop. Assumes nothing.
+-- Laws of the build's checks and loops: which reserves are short, what the checks give and refuse, and one row or one
+-- node more in each loop. Assumes nothing.
 use Prim.Native.Nat.{ℕ, zero, suc, _+_, _-_, _≤_, _<_, zero-le}
 use mathlib.Core.Path.{_≡_, refl, ap, subst, sym, _∙_}
 use mathlib.Core.Bool.{Bool, true, false, cond, _&&_, _||_}
@@ -16,8 +17,9 @@ use Rattle.words.specs.Heads.{kindOf, handleOf}
 use Rattle.words.specs.Limits.{maxLamps, crowded}
 use Rattle.words.specs.Rows.{below}
 use Rattle.words.specs.Tray.{tray}
-use Rattle.words.specs.TrayLaws.{tray-early}
-use Rattle.words.proofs.AnswerLaws.{Early, Late, only-given, only-refused, only-cond, only-then, only-number, then-given, given-injective, not-both}
+use Rattle.words.specs.Laws.TrayLaws.{tray-early}
+use Rattle.words.proofs.AnswerLaws.{Early, Late, only-given, only-refused, only-cond}
+use Rattle.words.proofs.AnswerLaws.{only-then, only-number, then-given, not-both, cond-given, cond-kept}
 use Rattle.words.proofs.LimitLaws.{few-lamps}
 use Rattle.words.proofs.Reserves.{tray-zeroed}
 use Rattle.light_bounds.specs.declared.bounds.Bounds3.{Bounds3}
@@ -28,7 +30,9 @@ use Rattle.light_rows.specs.Nodes.{nodePlace}
 use Rattle.light_split.specs.Lights.{lightOf}
 use Rattle.words.specs.Lists.{laid}
 use Rattle.words.proofs.ListLaws.{laid-next}
-use Rattle.light_bvh.specs.Build.{isPowered, boundedHandles, grown, allBounds, validated, nodesReserve, workReserve, isShort, buildCheck, tabledBelow}
+use Rattle.light_bvh.specs.Build.{isPowered, boundedHandles, grown, allBounds, validated}
+use Rattle.light_bvh.specs.Build.{nodesReserve, workReserve, isShort, buildCheck}
+use Rattle.light_bvh.specs.AsCoded.Tables.{tabledBelow}
 use Rattle.light_bvh.specs.Build.{builtBvh, buildLightBvh, nodesWritten, tableWritten, workWritten, summary}
 
 -- ---- short reserves
@@ -57,21 +61,14 @@ module _ (m nodes table work : ℕ) where
   not-short h k l = rw (le-ltb nodes (nodesReserve m) h, le-ltb table m k) (le-ltb work (workReserve m) l)
 
   -- what is not short has room
-  pub reserves-fit : isShort m nodes table work ≡ false → (nodesReserve m ≤ nodes) × (m ≤ table) × (workReserve m ≤ work)
+  pub reserves-fit : isShort m nodes table work ≡ false →
+      (nodesReserve m ≤ nodes) × (m ≤ table) × (workReserve m ≤ work)
   reserves-fit h =
       let (n, h′) = or-false (ltb nodes (nodesReserve m)) (ltb table m || ltb work (workReserve m)) h in
       let (t, w) = or-false (ltb table m) (ltb work (workReserve m)) h′ in
       (ltb-false nodes (nodesReserve m) n, ltb-false table m t, ltb-false work (workReserve m) w)
 
 -- ---- what the checks give
-
-cond-given : (b : Bool) (m n k : ℕ) → cond b (given m) (refused n) ≡ given k → (b ≡ true) × (m ≡ k)
-cond-given true m n k e = (refl, given-injective e)
-cond-given false m n k e = absurd (not-both e refl)
-
-cond-kept : (b : Bool) (m n k : ℕ) → cond b (refused n) (given m) ≡ given k → (b ≡ false) × (m ≡ k)
-cond-kept true m n k e = absurd (not-both e refl)
-cond-kept false m n k e = (refl, given-injective e)
 
 and-left : (a b : Bool) → a && b ≡ true → a ≡ true
 and-left true b e = refl
@@ -83,13 +80,15 @@ unfolding blockLayout
 layout-count ws m e = uncrowded (crowded ws) refl e
   where
     uncrowded : (b : Bool) → crowded ws ≡ b
-        → cond b (refused 2) (cond (eqb (length ws) (blockWords (getD ws 0 0)) && below (sideAt ws) (getD ws 0 0)) (given (getD ws 0 0)) (refused 1)) ≡ given m
+        → cond b (refused 2) (cond (eqb (length ws) (blockWords (getD ws 0 0)) && below (sideAt ws) (getD ws 0 0))
+        (given (getD ws 0 0)) (refused 1)) ≡ given m
         → (m ≡ getD ws 0 0) × (m ≤ maxLamps) × (length ws ≡ blockWords m)
     uncrowded true c e = absurd (not-both e refl)
     uncrowded false c e =
         let long = eqb (length ws) (blockWords (getD ws 0 0)) in
         let (both, is) = cond-given (long && below (sideAt ws) (getD ws 0 0)) (getD ws 0 0) 1 m e in
-        let size = eqb-true (length ws) (blockWords (getD ws 0 0)) (and-left long (below (sideAt ws) (getD ws 0 0)) both) in
+        let size = eqb-true (length ws) (blockWords (getD ws 0 0))
+        (and-left long (below (sideAt ws) (getD ws 0 0)) both) in
         (sym is, omega (arith, few-lamps ws c, is), size ∙ ap (λ (k : ℕ). blockWords k) is)
 
 pub handles-count : (ws : List ℕ) (m : ℕ) → blockHandles ws ≡ given m → m ≡ getD ws 0 0
@@ -113,7 +112,8 @@ module _ (lights : ℕ) (ws : List ℕ) (nodes table work : ℕ) where
   early-build =
       only-then (early-layout ws)
       (λ m. only-then (only-cond (eqb lights m) only-given (only-refused (omega arith)))
-      (λ _. only-then (early-handles ws) (λ m. only-cond (isShort m nodes table work) (only-refused (omega arith)) only-given)))
+      (λ _. only-then (early-handles ws)
+      (λ m. only-cond (isShort m nodes table work) (only-refused (omega arith)) only-given)))
 
   pub build-checked : (m : ℕ) → buildCheck lights ws nodes table work ≡ given m
       → (m ≡ getD ws 0 0) × (m ≤ maxLamps) × (length ws ≡ blockWords m) × (blockHandles ws ≡ given m)
@@ -141,13 +141,15 @@ stays ws i zero n h = let e : 0 + suc i ≡ suc i = omega arith in rw e h
 stays ws i (suc k) n h = let e : suc k + suc i ≡ suc (k + suc i) = omega arith in rw (e, stays ws i k n h)
 
 -- the first that is refused refuses them all
-pub validated-refused : (ws : List ℕ) (m i n : ℕ) → i < m → validated ws i ≡ given tt → validate (lightOf ws i) ≡ refused n → validated ws m ≡ refused n
+pub validated-refused : (ws : List ℕ) (m i n : ℕ) → i < m → validated ws i ≡ given tt →
+    validate (lightOf ws i) ≡ refused n → validated ws m ≡ refused n
 unfolding validated _then_
 validated-refused ws m i n h all one =
     let p : m - suc i + suc i ≡ m = omega arith in
     subst (λ (k : ℕ). validated ws k ≡ refused n) p (stays ws i (m - suc i) n (rw all one))
 
-pub validated-next : (ws : List ℕ) (i : ℕ) → validated ws i ≡ given tt → validate (lightOf ws i) ≡ given tt → validated ws (i + 1) ≡ given tt
+pub validated-next : (ws : List ℕ) (i : ℕ) → validated ws i ≡ given tt → validate (lightOf ws i) ≡ given tt →
+    validated ws (i + 1) ≡ given tt
 unfolding validated _then_
 validated-next ws i all one = rw (add-one i, all) one
 
@@ -204,7 +206,14 @@ module _ {ws hs hs′ : List ℕ} {m k i : ℕ} (g : Gathering ws m hs hs′ k i
   pub gathering-out : i < m → isPowered ws i ≡ false → Gathering ws m hs hs′ k (i + 1)
   gathering-out h e =
       let out = bounded-out ws i e in
-      record { within = omega arith; room = g .room; few = omega arith; same = g .same; count = rw out (g .count); is = rw out (g .is) }
+      record {
+        within = omega arith;
+        room = g .room;
+        few = omega arith;
+        same = g .same;
+        count = rw out (g .count);
+        is = rw out (g .is);
+      }
 
   pub gathering-all : m ≤ i → (k ≡ length (boundedHandles ws m)) × (hs′ ≡ laid (boundedHandles ws m) hs)
   gathering-all h =
@@ -219,7 +228,8 @@ module _ (ws : List ℕ) (i : ℕ) (table : List ℕ) where
   unfolding tabledBelow
   tabled-leaf e = rw (add-one i, eq-eqb (kindOf (getD ws (nodePlace i) 0)) 1 e)
 
-  pub tabled-past : kindOf (getD ws (nodePlace i) 0) ≡ 1 → length (tabledBelow ws i table) ≤ handleOf (getD ws (nodePlace i) 0)
+  pub tabled-past : kindOf (getD ws (nodePlace i) 0) ≡ 1 →
+      length (tabledBelow ws i table) ≤ handleOf (getD ws (nodePlace i) 0)
       → tabledBelow ws (i + 1) table ≡ tabledBelow ws i table
   tabled-past e h = tabled-leaf e ∙ set-out (tabledBelow ws i table) (handleOf (getD ws (nodePlace i) 0)) i h
 
@@ -235,11 +245,13 @@ module _ (lights : ℕ) (ws nodes table work : List ℕ) where
   Outcome r nodes′ table′ work′ =
       let answer = buildLightBvh lights ws (length nodes) (length table) (length work) in
       let m = getD ws 0 0 in
-      (r ≡ summary answer) × ((nodes′ ≡ tray nodesWritten (nodesReserve m) answer nodes) × ((table′ ≡ tray tableWritten m answer table)
+      (r ≡ summary answer) × ((nodes′ ≡ tray nodesWritten (nodesReserve m) answer nodes) ×
+      ((table′ ≡ tray tableWritten m answer table)
       × (work′ ≡ tray workWritten (workReserve m) answer work)))
 
   -- a check of the block or of the lent words refuses
-  pub outcome-early : (n : ℕ) → buildCheck lights ws (length nodes) (length table) (length work) ≡ refused n → Outcome (refused n) nodes table work
+  pub outcome-early : (n : ℕ) → buildCheck lights ws (length nodes) (length table) (length work) ≡ refused n →
+      Outcome (refused n) nodes table work
   unfolding buildLightBvh _then_
   outcome-early n e =
       let m = getD ws 0 0 in
@@ -252,28 +264,37 @@ module _ (lights : ℕ) (ws nodes table work : List ℕ) where
         ),
       )
 
-  module _ (m : ℕ) (checked : buildCheck lights ws (length nodes) (length table) (length work) ≡ given m) {nodes′ table′ work′ : List ℕ} where
+  module _ (m : ℕ) (checked : buildCheck lights ws (length nodes) (length table) (length work) ≡ given m)
+      {nodes′ table′ work′ : List ℕ} where
     -- a record is refused
-    pub outcome-late : (n : ℕ) → validated ws m ≡ refused n → nodes′ ≡ filled nodes 0 (nodesReserve m) 0 → table′ ≡ filled table 0 m 0
+    pub outcome-late : (n : ℕ) → validated ws m ≡ refused n → nodes′ ≡ filled nodes 0 (nodesReserve m) 0 →
+        table′ ≡ filled table 0 m 0
         → work′ ≡ filled work 0 (workReserve m) 0 → Outcome (refused n) nodes′ table′ work′
     unfolding buildLightBvh _then_
     outcome-late n e en et ew =
-        let (is, few, long, handles, short) = build-checked lights ws (length nodes) (length table) (length work) m checked in
+        let (is, few, long, handles, short) = build-checked lights ws (length nodes) (length table) (length work) m
+        checked in
         let (a, b, c) = reserves-fit m (length nodes) (length table) (length work) short in
         let h = only-number (late-validated ws m) e in
         rw (checked, e, ← is) (
           refl,
           (
             en ∙ tray-zeroed nodesWritten (nodesReserve m) nodes nodes n a refl h,
-            (et ∙ tray-zeroed tableWritten m table table n b refl h, ew ∙ tray-zeroed workWritten (workReserve m) work work n c refl h),
+            (
+              et ∙ tray-zeroed tableWritten m table table n b refl h,
+              ew ∙
+                  tray-zeroed workWritten (workReserve m) work work n c refl h,
+            ),
           ),
         )
 
     -- the rows behind the checks
     pub outcome-rows : {r : Answer (ℕ × Option Bounds3)} → validated ws m ≡ given tt → r ≡ summary (builtBvh ws m)
-        → nodes′ ≡ tray nodesWritten (nodesReserve m) (builtBvh ws m) nodes → table′ ≡ tray tableWritten m (builtBvh ws m) table
+        → nodes′ ≡ tray nodesWritten (nodesReserve m) (builtBvh ws m) nodes → table′ ≡
+        tray tableWritten m (builtBvh ws m) table
         → work′ ≡ tray workWritten (workReserve m) (builtBvh ws m) work → Outcome r nodes′ table′ work′
     unfolding buildLightBvh _then_
     outcome-rows e er en et ew =
-        let (is, few, long, handles, short) = build-checked lights ws (length nodes) (length table) (length work) m checked in
+        let (is, few, long, handles, short) = build-checked lights ws (length nodes) (length table) (length work) m
+        checked in
         rw (checked, e, ← is) (er, (en, (et, ew)))

@@ -16,7 +16,7 @@ use Rattle.light_split.specs.Lights.{lightOf, component, centroidEnds, bucketOf
 use Rattle.light_split.specs.Split.{noBest, combinedBounds, cuts, axis, chooseSplit}
 use Rattle.light_split.specs.declared.split.Best.{Best}
 use Rattle.light_split.proofs.BucketLaws.{union-refused}
-use Rattle.light_bvh.specs.Subtree.{unionAt}
+use Rattle.light_bvh.specs.AsCoded.Stretches.{unionAt}
 
 abbrev pub Ten : {A : Type 0} → Answer A → Type 0
 Ten x = Only (λ (n : ℕ). n ≡ 10) x
@@ -37,7 +37,8 @@ ten-fill : (ws : List ℕ) (ends : Bounds3) (d : ℕ) (bs : List Bucket) (hs : L
 unfolding fillBuckets
 ten-fill ws ends d bs [] = only-given
 ten-fill ws ends d bs (h ∷ hs) =
-    only-then (ten-join (getD bs (bucketOf ws ends d h) none) (lightOf ws h)) (λ b. ten-fill ws ends d (set bs (bucketOf ws ends d h) b) hs)
+    only-then (ten-join (getD bs (bucketOf ws ends d h) none) (lightOf ws h))
+    (λ b. ten-fill ws ends d (set bs (bucketOf ws ends d h) b) hs)
 
 ten-range : (o : Bucket) (bs : List Bucket) → Ten (unionRange o bs)
 unfolding unionRange
@@ -48,12 +49,14 @@ ten-range o (some b ∷ bs) = only-then (ten-join o b) (λ r. ten-range r bs)
 ten-cost : (bs : List Bucket) (parent : Bounds3) (d k : ℕ) → Ten (cutCost bs parent d k)
 unfolding cutCost unionBucketRange
 ten-cost bs parent d k =
-    only-then (ten-range none (drop 0 (take (suc k) bs))) (λ l. only-then (ten-range none (drop (suc k) (take 12 bs))) (λ r. only-given))
+    only-then (ten-range none (drop 0 (take (suc k) bs)))
+    (λ l. only-then (ten-range none (drop (suc k) (take 12 bs))) (λ r. only-given))
 
 ten-cuts : (bs : List Bucket) (parent : Bounds3) (d : ℕ) (b : Best) (n : ℕ) → Ten (cuts bs parent d b n)
 unfolding cuts
 ten-cuts bs parent d b zero = only-given
-ten-cuts bs parent d b (suc n) = only-then (ten-cuts bs parent d b n) (λ _. only-then (ten-cost bs parent d n) (λ _. only-given))
+ten-cuts bs parent d b (suc n) =
+    only-then (ten-cuts bs parent d b n) (λ _. only-then (ten-cost bs parent d n) (λ _. only-given))
 
 ten-axis : (ws hs : List ℕ) (ends parent : Bounds3) (d : ℕ) (b : Best) → Ten (axis ws hs ends parent d b)
 unfolding axis
@@ -66,7 +69,8 @@ unfolding chooseSplit
 ten-split ws hs =
     let ends = centroidEnds ws hs in
     let parent = combinedBounds ws hs in
-    only-then (ten-axis ws hs ends parent 0 noBest) (λ b. only-then (ten-axis ws hs ends parent 1 b) (λ b. only-then (ten-axis ws hs ends parent 2 b) (λ b.
+    only-then (ten-axis ws hs ends parent 0 noBest)
+    (λ b. only-then (ten-axis ws hs ends parent 1 b) (λ b. only-then (ten-axis ws hs ends parent 2 b) (λ b.
     only-given)))
 
 -- of the trees' records, read back

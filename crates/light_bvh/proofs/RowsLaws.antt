@@ -1,5 +1,5 @@
--- The tree that `build_rows` comes to. Its labels are the rows' handles, which are their places (`labels-below`), so that
--- each fits a head (`labels-fit`); and the box of the powered rows is there where one of them is (`bounds-there`,
+-- The tree that `build_rows` comes to. Its labels are the rows' handles, which are their places (`labels-below`), so
+-- that each fits a head (`labels-fit`); and the box of the powered rows is there where one of them is (`bounds-there`,
 -- `bounds-none`). Assumes nothing.
 use Prim.Native.Nat.{ℕ, zero, suc, _/_, _^_, _≤_, _<_}
 use mathlib.Core.Path.{_≡_, refl, sym, _∙_}
@@ -14,7 +14,8 @@ use Rattle.words.proofs.ListLaws.{All, all-map, all-append, all-take, all-drop,
 use Rattle.words.specs.Answers.{Answer, given, refused, _then_}
 use Rattle.words.specs.Limits.{maxLamps}
 use Rattle.words.specs.Rows.{below}
-use Rattle.words.proofs.AnswerLaws.{Gives, gives, gives-none, gives-any, gives-then, gives-value, then-given, given-injective, not-both}
+use Rattle.words.proofs.AnswerLaws.{Gives, gives, gives-none, gives-any, gives-then}
+use Rattle.words.proofs.AnswerLaws.{gives-value, then-given, given-injective, not-both}
 use Rattle.words.proofs.RowLaws.{below-at}
 use Rattle.light_bounds.specs.Bounds.{boxUnion}
 use Rattle.light_bounds.specs.LightBounds.{union}
@@ -26,7 +27,8 @@ use Rattle.light_split.specs.Partition.{goesLeft, goesRight, lefts, rights, par
 use Rattle.light_split.specs.Split.{chooseSplit}
 use Rattle.light_split.specs.declared.split.Split.{Split}
 use Rattle.light_bvh.specs.Subtree.{labelOf, forked, treeBy, buildSubtree}
-use Rattle.light_bvh.specs.Build.{isPowered, boundedHandles, grown, allBounds, LightBVH, treeOf, validated, builtBvh}
+use Rattle.light_bvh.specs.Build.{isPowered, boundedHandles, grown, allBounds}
+use Rattle.light_bvh.specs.Build.{LightBVH, treeOf, validated, builtBvh}
 use Rattle.light_bvh.specs.Build.{buildCheck, buildLightBvh}
 use Rattle.light_bvh.proofs.BuildLaws.{build-checked}
 use Rattle.light_bvh.proofs.TableLaws.{Labels}
@@ -34,12 +36,14 @@ use Rattle.light_bvh.proofs.TableLaws.{Labels}
 -- ---- what holds of every handle of a stretch holds of its halves
 
 module _ (P : ℕ → Type 0) where
-  pub all-halves : (ws hs : List ℕ) (s : Split) → All P hs → All P (partitionHandles ws hs s .0) × All P (partitionHandles ws hs s .1)
+  pub all-halves : (ws hs : List ℕ) (s : Split) → All P hs →
+      All P (partitionHandles ws hs s .0) × All P (partitionHandles ws hs s .1)
   unfolding partitionHandles lefts rights
   all-halves ws hs s a =
       let l = lefts ws hs s in
       let r = rights ws hs s in
-      go (eqb (length l) 0 || eqb (length r) 0) l r (length (l ++ r) / 2) (all-kept P (goesLeft ws (centroidEnds ws hs) s) hs a)
+      go (eqb (length l) 0 || eqb (length r) 0) l r (length (l ++ r) / 2)
+      (all-kept P (goesLeft ws (centroidEnds ws hs) s) hs a)
       (all-kept P (goesRight ws (centroidEnds ws hs) s) hs a)
     where
       go : (b : Bool) (l r : List ℕ) (n : ℕ) → All P l → All P r
@@ -73,8 +77,10 @@ module _ (ws : List ℕ) (m : ℕ) (checked : blockHandles ws ≡ given m) where
   unfolding blockHandles
   label-is h l = go (below (handleAt ws) (getD ws 0 0)) refl checked
     where
-      go : (b : Bool) → below (handleAt ws) (getD ws 0 0) ≡ b → cond b (given (getD ws 0 0)) (refused 4) ≡ given m → labelOf ws h ≡ h
-      go true e is = eqb-true (labelOf ws h) h (below-at (handleAt ws) (getD ws 0 0) h e (omega (arith, given-injective is)))
+      go : (b : Bool) → below (handleAt ws) (getD ws 0 0) ≡ b → cond b (given (getD ws 0 0)) (refused 4) ≡ given m →
+          labelOf ws h ≡ h
+      go true e is =
+          eqb-true (labelOf ws h) h (below-at (handleAt ws) (getD ws 0 0) h e (omega (arith, given-injective is)))
       go false e is = absurd (not-both is refl)
 
   -- of a row past the block's end it reads 0
@@ -87,7 +93,8 @@ module _ (ws : List ℕ) (m : ℕ) (checked : blockHandles ws ≡ given m) where
           let past = ltb-false h m e in
           rw (List·getD-eq-default ws 0 {n = handlePlace h} (omega arith)) (omega arith)
 
-  pub labels-below : (n : ℕ) (hs : List ℕ) (t : Tree) → All (λ (h : ℕ). h < m) hs → buildSubtree ws n hs ≡ given t → Labels (λ (h : ℕ). h < m) t
+  pub labels-below : (n : ℕ) (hs : List ℕ) (t : Tree) → All (λ (h : ℕ). h < m) hs → buildSubtree ws n hs ≡ given t →
+      Labels (λ (h : ℕ). h < m) t
   labels-below n hs t a e =
       gives-value (labels-of ws {P = λ (h : ℕ). h < m} {Q = λ (h : ℕ). h < m} (λ h l. rw (label-is h l) l) n hs a) e
 
@@ -109,7 +116,8 @@ pub bounded-few : (ws : List ℕ) (m : ℕ) → length (boundedHandles ws m) ≤
 unfolding boundedHandles
 bounded-few ws zero = omega arith
 bounded-few ws (suc n) =
-    rw (length-append (boundedHandles ws n) (cond (isPowered ws n) (n ∷ []) [])) (omega (arith, bounded-few ws n, one-at-most (isPowered ws n) n))
+    rw (length-append (boundedHandles ws n) (cond (isPowered ws n) (n ∷ []) []))
+    (omega (arith, bounded-few ws n, one-at-most (isPowered ws n) n))
 
 built-few : (ws : List ℕ) (m : ℕ) → Gives (λ (b : LightBVH). b .k ≤ m) (builtBvh ws m)
 unfolding builtBvh
@@ -137,7 +145,8 @@ box-more [] n o b e = (b, rw e)
 box-more (h ∷ hs) n o b e = (boxUnion (e .0) b, rw (e .1))
 
 box-next : (ws : List ℕ) (n : ℕ) (b : Bool) → BoxOf (boundedHandles ws n) (allBounds ws n)
-    → BoxOf (boundedHandles ws n ++ cond b (n ∷ []) []) (cond b (grown (allBounds ws n) (lightOf ws n .bounds)) (allBounds ws n))
+    → BoxOf (boundedHandles ws n ++ cond b (n ∷ []) [])
+    (cond b (grown (allBounds ws n) (lightOf ws n .bounds)) (allBounds ws n))
 box-next ws n true e = box-more (boundedHandles ws n) n (allBounds ws n) (lightOf ws n .bounds) e
 box-next ws n false e = rw append-nil e
 

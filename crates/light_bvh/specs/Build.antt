@@ -1,20 +1,20 @@
--- `build_light_bvh` of `light_bvh.rs`, in document 01's order: 2, 1, 4, 3, each record's check, then the tree. Definitions only. Assumes nothing.
+-- `build_light_bvh` of `light_bvh.rs`, in the order of R5.2 to R5.4: 2, 1, 4, 3, each record's check, then the tree.
+-- Definitions only. Assumes nothing.
 use Prim.Native.Nat.{ℕ, zero, suc, _-_, _*_}
 use mathlib.Core.Bool.{Bool, cond, _||_}
 use mathlib.Core.List.{List, [], _∷_, _++_}
 use mathlib.Core.Option.{Option, none, some}
 use lib.Dec.{eqb, ltb}
 use lib.Ieee.{lt}
-use lib.ListN.{length, getD, set, replicate}
+use lib.ListN.{length, set, replicate}
 use Rattle.ieee.specs.Single.{zerof}
 use Rattle.words.specs.Answers.{Answer, given, refused, _then_}
-use Rattle.words.specs.Heads.{kindOf, handleOf}
 use Rattle.words.specs.Refusals.{number}
 use Rattle.light_bounds.specs.Bounds.{boxUnion}
 use Rattle.light_bounds.specs.LightBounds.{validate}
 use Rattle.light_bounds.specs.declared.bounds.Bounds3.{Bounds3}
 use Rattle.light_rows.specs.Block.{blockLayout, blockHandles}
-use Rattle.light_rows.specs.Nodes.{nodeWords, nodePlace, invalidIndex}
+use Rattle.light_rows.specs.Nodes.{nodeWords, invalidIndex}
 use Rattle.light_rows.specs.Tree.{Tree, leaf, fork, rightPlace, treeWords}
 use Rattle.light_split.specs.Lights.{lightOf}
 use Rattle.light_bvh.specs.Subtree.{buildSubtree}
@@ -62,7 +62,8 @@ treeOf ws (h ∷ hs) = buildSubtree ws (length (h ∷ hs)) (h ∷ hs) then λ (t
 unfoldable pub builtBvh : List ℕ → ℕ → Answer LightBVH
 builtBvh ws m =
     let handles = boundedHandles ws m in
-    treeOf ws handles then λ (t : Option Tree). given (record { rows = m; k = length handles; all-bounds = allBounds ws m; tree = t })
+    treeOf ws handles then λ (t : Option Tree). given
+    (record { rows = m; k = length handles; all-bounds = allBounds ws m; tree = t })
 
 -- the reserves of m rows
 abbrev pub nodesReserve : ℕ → ℕ
@@ -82,7 +83,8 @@ buildCheck lights ws nodes table work =
     blockHandles ws then λ (m : ℕ). cond (isShort m nodes table work) (refused 3) (given m)
 
 unfoldable pub buildLightBvh : ℕ → List ℕ → ℕ → ℕ → ℕ → Answer LightBVH
-buildLightBvh lights ws nodes table work = buildCheck lights ws nodes table work then λ (m : ℕ). validated ws m then λ _. builtBvh ws m
+buildLightBvh lights ws nodes table work =
+    buildCheck lights ws nodes table work then λ (m : ℕ). validated ws m then λ _. builtBvh ws m
 
 -- ---- what is written
 
@@ -118,13 +120,3 @@ abbrev pub built : Built → Answer (ℕ × Option Bounds3)
 built (Built·Tree k box) = given (k, some box)
 built Nothing = given (0, none)
 built (Refused r) = refused (number r)
-
--- ---- as the code has it
-
--- a pass over the first n nodes: each leaf's place at its label
-unfoldable pub tabledBelow : List ℕ → ℕ → List ℕ → List ℕ
-tabledBelow ws zero table = table
-tabledBelow ws (suc n) table =
-    let head = getD ws (nodePlace n) 0 in
-    let before = tabledBelow ws n table in
-    cond (eqb (kindOf head) 1) (set before (handleOf head) n) before

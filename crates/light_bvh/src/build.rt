@@ -1,5 +1,5 @@
-// `build_light_bvh` (specs/Build.antt): a bounds block in, the nodes and the handle table out. The handles of the powered lamps stand in the table's words
-// while the tree is built; the work is what their stretches are parted by.
+// `build_light_bvh` (specs/Build.antt): a bounds block in, the nodes and the handle table out. The handles of the
+// powered lamps stand in the table's words while the tree is built; the work is what their stretches are parted by.
 ghost use mathlib.Core.Path.{_≡_};
 ghost use mathlib.Core.Bool.{cond, false};
 ghost use Prim.Native.Nat.{_*_, _^_, _≤_};
@@ -13,7 +13,8 @@ ghost use Rattle.light_rows.specs.Nodes.{nodeWords};
 ghost use Rattle.words.specs.Lists.{laid};
 ghost use Rattle.light_bvh.specs.Build.{isPowered, boundedHandles, grown, allBounds as poweredBox, validated};
 ghost use Rattle.light_bvh.specs.Build.{builtBvh, nodesReserve, workReserve, isShort, buildCheck, buildLightBvh};
-ghost use Rattle.light_bvh.specs.Build.{nodesWritten, tableWritten, workWritten, tabledBelow, summary, built};
+ghost use Rattle.light_bvh.specs.Build.{nodesWritten, tableWritten, workWritten, summary, built};
+ghost use Rattle.light_bvh.specs.AsCoded.Tables.{tabledBelow};
 use super::subtree::Subtree;
 use super::subtree::build_subtree;
 use light_bounds::bounds::AllBounds;
@@ -198,9 +199,11 @@ fn build_rows(
     requires { ⌜ blockHandles (now block) ≡ given m ⌝ }
     requires { ⌜ isShort m (length (now nodes)) (length (now table)) (length (now work)) ≡ false ⌝ }
     ensures { λ r. ⌜ built r ≡ summary (builtBvh (now (block .entry)) m) ⌝ }
-    ensures { λ _. ⌜ now (nodes .exit) ≡ tray nodesWritten (nodesReserve m) (builtBvh (now (block .entry)) m) (now (nodes .entry)) ⌝ }
+    ensures { λ _. ⌜ now (nodes .exit) ≡
+        tray nodesWritten (nodesReserve m) (builtBvh (now (block .entry)) m) (now (nodes .entry)) ⌝ }
     ensures { λ _. ⌜ now (table .exit) ≡ tray tableWritten m (builtBvh (now (block .entry)) m) (now (table .entry)) ⌝ }
-    ensures { λ _. ⌜ now (work .exit) ≡ tray workWritten (workReserve m) (builtBvh (now (block .entry)) m) (now (work .entry)) ⌝ }
+    ensures { λ _. ⌜ now (work .exit) ≡
+        tray workWritten (workReserve m) (builtBvh (now (block .entry)) m) (now (work .entry)) ⌝ }
 {
     let k = gather_handles(block, m, table);
     if k == 0 {
@@ -234,8 +237,8 @@ fn build_rows(
     }
 }
 
-// The tree of a block of m rows: 16(2m - 1) words of nodes, m of the handle table, 2m of work are lent. Refusals 2, 1, 4, 3 leave the lent words as they are,
-// later ones zero the reserves; acceptance zeroes what it does not use of them.
+// The tree of a block of m rows: 16(2m - 1) words of nodes, m of the handle table, 2m of work are lent. Refusals 2, 1,
+// 4, 3 leave the lent words as they are, later ones zero the reserves; acceptance zeroes what it does not use of them.
 pub fn build_light_bvh(
     lights: usize,
     block: &[u32],
@@ -243,13 +246,17 @@ pub fn build_light_bvh(
     table: &mut [u32],
     work: &mut [u32],
 ) -> Built
-    ensures { λ r. ⌜ built r ≡ summary (buildLightBvh lights (now (block .entry)) (length (now (nodes .entry))) (length (now (table .entry)))
+    ensures { λ r. ⌜ built r ≡ summary
+        (buildLightBvh lights (now (block .entry)) (length (now (nodes .entry))) (length (now (table .entry)))
         (length (now (work .entry)))) ⌝ }
-    ensures { λ _. ⌜ now (nodes .exit) ≡ tray nodesWritten (nodesReserve (getD (now (block .entry)) 0 0)) (buildLightBvh lights (now (block .entry))
+    ensures { λ _. ⌜ now (nodes .exit) ≡
+        tray nodesWritten (nodesReserve (getD (now (block .entry)) 0 0)) (buildLightBvh lights (now (block .entry))
         (length (now (nodes .entry))) (length (now (table .entry))) (length (now (work .entry)))) (now (nodes .entry)) ⌝ }
-    ensures { λ _. ⌜ now (table .exit) ≡ tray tableWritten (getD (now (block .entry)) 0 0) (buildLightBvh lights (now (block .entry))
+    ensures { λ _. ⌜ now (table .exit) ≡
+        tray tableWritten (getD (now (block .entry)) 0 0) (buildLightBvh lights (now (block .entry))
         (length (now (nodes .entry))) (length (now (table .entry))) (length (now (work .entry)))) (now (table .entry)) ⌝ }
-    ensures { λ _. ⌜ now (work .exit) ≡ tray workWritten (workReserve (getD (now (block .entry)) 0 0)) (buildLightBvh lights (now (block .entry))
+    ensures { λ _. ⌜ now (work .exit) ≡
+        tray workWritten (workReserve (getD (now (block .entry)) 0 0)) (buildLightBvh lights (now (block .entry))
         (length (now (nodes .entry))) (length (now (table .entry))) (length (now (work .entry)))) (now (work .entry)) ⌝ }
 {
     match check_build(lights, block, nodes.len(), table.len(), work.len()) {

@@ -1,5 +1,6 @@
-// A stretch of handles to the words of a tree (specs/Subtree.antt), over rows of a block. Recursion over the stretch, whose length falls: a stretch of n
-// handles fills exactly 2n - 1 nodes, so the right tree's place is known before the left is built, and no call touches another's nodes.
+// A stretch of handles to the words of a tree (specs/Subtree.antt), over rows of a block. Recursion over the stretch,
+// whose length falls: a stretch of n handles fills exactly 2n - 1 nodes, so the right tree's place is known before the
+// left is built, and no call touches another's nodes.
 ghost use mathlib.Core.Path.{_≡_};
 ghost use mathlib.Core.List.{List, _++_};
 ghost use Prim.Native.Nat.{ℕ, _+_, _*_, _^_, _≤_, _<_};
@@ -7,8 +8,9 @@ ghost use lib.ListN.{length};
 ghost use Rattle.words.specs.Answers.{counted};
 ghost use Rattle.light_bounds.specs.LightBounds.{bounded};
 ghost use Rattle.light_rows.specs.Nodes.{nodeWords};
-ghost use Rattle.light_bvh.specs.Subtree.{labelOf, buildSubtree, subtree, done, subtreeWords};
-ghost use Rattle.light_bvh.specs.Subtree.{splitCount, splitHandles, unionAt, joinedWords};
+ghost use Rattle.light_bvh.specs.Subtree.{labelOf, buildSubtree};
+ghost use Rattle.light_bvh.specs.AsCoded.Stretches.{subtree, done, subtreeWords};
+ghost use Rattle.light_bvh.specs.AsCoded.Stretches.{splitCount, splitHandles, unionAt, joinedWords};
 use light_bounds::light_bounds::Bounded;
 use light_bounds::light_bounds::union;
 use light_rows::block::label;
@@ -41,7 +43,8 @@ fn part_stretch(block: &[u32], handles: &mut [u32], work: &mut [u32]) -> Counted
     }
 }
 
-// The same. It is called in two places, of which one is for the many stretches of two, so that the compiler leaves its words out of the recursion's frame.
+// The same. It is called in two places, of which one is for the many stretches of two, so that the compiler leaves its
+// words out of the recursion's frame.
 fn split_stretch(block: &[u32], handles: &mut [u32], work: &mut [u32]) -> Counted
     requires { ⌜ length (now handles) ≤ length (now work) ⌝ }
     ensures { λ r. ⌜ counted r ≡ splitCount (now (block .entry)) (now (handles .entry)) ⌝ }
@@ -63,11 +66,13 @@ fn union_children(nodes: &[u32], right: usize) -> Bounded
     union(left_bounds, right_bounds)
 }
 
-// The node over two trees whose words stand behind it, the right one at node `right`: the record around both records, read back from their nodes.
+// The node over two trees whose words stand behind it, the right one at node `right`: the record around both records,
+// read back from their nodes.
 fn join_children(nodes: &mut [u32], right: usize, at: u32, parent: u32) -> Subtree
     requires { ⌜ at + right < 2 ^ 30 ⌝ }
     ensures { λ r. ⌜ subtree r ≡ done (unionAt (now (nodes .entry)) right) ⌝ }
-    ensures { λ _. ⌜ now (nodes .exit) ≡ joinedWords at parent right (now (nodes .entry)) (unionAt (now (nodes .entry)) right) ⌝ }
+    ensures { λ _. ⌜ now (nodes .exit) ≡
+        joinedWords at parent right (now (nodes .entry)) (unionAt (now (nodes .entry)) right) ⌝ }
 {
     match union_children(nodes, right) {
         Bounded::Bounds(bounds) => {

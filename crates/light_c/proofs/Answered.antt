@@ -14,7 +14,7 @@ use lib.Seq.{sets, sets-eq}
 use Rattle.words.specs.Answers.{Answer, given, refused, _then_, code}
 use Rattle.words.specs.Fill.{filled}
 use Rattle.words.specs.Tray.{tray}
-use Rattle.words.specs.TrayLaws.{tray-early, tray-full}
+use Rattle.words.specs.Laws.TrayLaws.{tray-early, tray-full}
 use Rattle.words.proofs.AnswerLaws.{only-refused, only-then, only-number, given-injective, not-both}
 use Rattle.words.proofs.Reserves.{zeroed}
 use Rattle.light_bounds.specs.declared.bounds.Bounds3.{Bounds3}
@@ -22,7 +22,8 @@ use Rattle.light_bvh.specs.Build.{LightBVH, validated, builtBvh, buildCheck, bu
 use Rattle.light_bvh.specs.Build.{summary, nodesWritten, tableWritten, workWritten, nodesReserve, workReserve}
 use Rattle.light_bvh.proofs.BuildLaws.{early-build, Outcome}
 use Rattle.light_bvh.proofs.RowsLaws.{accepted-few}
-use Rattle.light_c.specs.Codes.{answerReserve, boxWords, summaryList, buildAnswered, shortAnswer}
+use Rattle.light_c.specs.Codes.{answerReserve, boxWords, summaryList, buildAnswered}
+use Rattle.light_c.specs.AsCoded.ShortAnswer.{shortAnswer}
 
 module _ (lights : ℕ) (ws : List ℕ) (nodes table work answer : ℕ) where
   -- `buildAnswered`, of what the checks before the answer's give
@@ -101,7 +102,8 @@ module _ (lights : ℕ) (ws nodes table work answer : List ℕ) where
       × ((work′ ≡ tray workWritten (workReserve m) x work) × (answer′ ≡ tray summaryList answerReserve x answer))))
 
   pub short : (n : ℕ) → length answer < answerReserve
-      → refused n ≡ shortAnswer lights ws (length nodes) (length table) (length work) → Answered n nodes table work answer
+      → refused n ≡ shortAnswer lights ws (length nodes) (length table) (length work) → Answered n nodes table work
+      answer
   short n h e =
       let m = getD ws 0 0 in
       let l = short-early lights ws (length nodes) (length table) (length work) n e in
@@ -111,7 +113,11 @@ module _ (lights : ℕ) (ws nodes table work answer : List ℕ) where
           sym (tray-early nodesWritten (nodesReserve m) nodes n l),
           (
             sym (tray-early tableWritten m table n l),
-            (sym (tray-early workWritten (workReserve m) work n l), sym (tray-early summaryList answerReserve answer n l)),
+            (
+              sym (tray-early workWritten (workReserve m) work n l),
+              sym (tray-early summaryList answerReserve answer n
+                  l),
+            ),
           ),
         ),
       )

@@ -63,9 +63,3 @@ packedCode (refused n) = 0x2_0000_0000 + n
 -- the box of two corners; `present` is 0 where there is none
 unfoldable pub boxOf : ℕ → Float → Float → Float → Float → Float → Float → Option Bounds3
 boxOf present ax ay az bx by bz = cond (eqb present 0) none (some (record { min = vec ax ay az; max = vec bx by bz }))
-
--- ---- as the code has it
-
--- `buildAnswered` where the answer's slice is short
-unfoldable pub shortAnswer : ℕ → List ℕ → ℕ → ℕ → ℕ → Answer LightBVH
-shortAnswer lights ws nodes table work = buildCheck lights ws nodes table work then λ (_ : ℕ). refused 3

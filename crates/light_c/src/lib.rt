@@ -1,6 +1,7 @@
-// The light tree for C and Rust, as `include/light_tree.h` tells it: a block from a lamp list, build, draw, chance by name, packing, and the power alias table.
-// Each is its function with numbers and slices for arguments and a number for its answer, and promises what that promises. Draw, chance and packing read and
-// write a tree as bytes, little-endian; the others take words.
+// The light tree for C and Rust, as `include/light_tree.h` tells it: a block from a lamp list, build, draw, chance by
+// name, packing, and the power alias table. Each is its function with numbers and slices for arguments and a number for
+// its answer, and promises what that promises. Draw, chance and packing read and write a tree as bytes, little-endian;
+// the others take words.
 ghost use mathlib.Core.Path.{_≡_};
 ghost use mathlib.Core.List.{List, [], _∷_};
 ghost use mathlib.Core.Option.{some};
@@ -11,16 +12,17 @@ ghost use Rattle.words.specs.Answers.{code, refused};
 ghost use Rattle.words.specs.Refusals.{number};
 ghost use Rattle.words.specs.Tray.{tray};
 ghost use Rattle.light_rows.specs.Block.{blockWords, packExhaustiveBounds};
-ghost use Rattle.lamps.specs.Build.{buildLightBounds};
+ghost use Rattle.lamps.specs.BuildBounds.{buildLightBounds};
 ghost use Rattle.light_bounds.specs.Bounds.{allBoundsOf};
 ghost use Rattle.light_bvh.specs.Build.{nodesWritten, tableWritten, workWritten, nodesReserve, workReserve};
 ghost use Rattle.light_sampler.specs.Sampler.{sample, pmf, drawn, chance};
 ghost use Rattle.packed_bvh.specs.Packed.{packLightBvh, packed, packedBytes, bytesReserve, wordsPacked};
 ghost use Rattle.alias_table.specs.AliasTable.{Bin, buildPowerAliasTable, binWords};
-ghost use Rattle.light_c.specs.Codes.{answerReserve, boxWords, summaryList, buildAnswered, shortAnswer};
+ghost use Rattle.light_c.specs.Codes.{answerReserve, boxWords, summaryList, buildAnswered};
+ghost use Rattle.light_c.specs.AsCoded.ShortAnswer.{shortAnswer};
 ghost use Rattle.light_c.specs.Codes.{queryAt, drawCode, valueCode, packedCode, boxOf};
 use alias_table::build_power_alias_table;
-use lamps::build::build_light_bounds;
+use lamps::build_bounds::build_light_bounds;
 use light_bounds::bounds::AllBounds;
 use light_bounds::bounds::Bounds3;
 use light_bounds::importance::Query;
@@ -281,11 +283,14 @@ pub extern "C" fn light_pack(
 // 0, or the refusal's number.
 #[no_mangle]
 pub extern "C" fn light_alias_table(weights: &[u32], bins: &mut [u32], work: &mut [u32]) -> u32
-    ensures { λ r. ⌜ r ≡ code (buildPowerAliasTable (now (weights .entry)) (length (now (bins .entry))) (length (now (work .entry)))) ⌝ }
+    ensures { λ r. ⌜ r ≡ code (buildPowerAliasTable (now (weights .entry)) (length (now (bins .entry)))
+        (length (now (work .entry)))) ⌝ }
     ensures { λ _. ⌜ now (bins .exit) ≡ tray binWords (3 * length (now (weights .entry)))
-        (buildPowerAliasTable (now (weights .entry)) (length (now (bins .entry))) (length (now (work .entry)))) (now (bins .entry)) ⌝ }
+        (buildPowerAliasTable (now (weights .entry)) (length (now (bins .entry))) (length (now (work .entry))))
+        (now (bins .entry)) ⌝ }
     ensures { λ _. ⌜ now (work .exit) ≡ tray (λ (bs : List Bin). []) (4 * length (now (weights .entry)))
-        (buildPowerAliasTable (now (weights .entry)) (length (now (bins .entry))) (length (now (work .entry)))) (now (work .entry)) ⌝ }
+        (buildPowerAliasTable (now (weights .entry)) (length (now (bins .entry))) (length (now (work .entry))))
+        (now (work .entry)) ⌝ }
 {
     counted_code(build_power_alias_table(weights, bins, work))
 }

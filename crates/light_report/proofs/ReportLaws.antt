@@ -8,7 +8,7 @@ use borrow.Author.Tests.{eq-eqb, ne-eqb}
 use lib.ListN.{length, take, drop}
 use lib.Seq.{sets, length-sets}
 use Rattle.words.specs.Answers.{refused}
-use Rattle.text.specs.Text.{Put}
+use Rattle.text.specs.AsCoded.Puts.{Put}
 use Rattle.light_report.specs.Lines.{lineBytes, groupLine, groupLines, partLine, reportLines}
 use Rattle.text.proofs.PutLaws.{put-then}
 

@@ -12,19 +12,21 @@ use lib.Seq.{sets, length-sets, length-take-le}
 use Rattle.words.specs.Answers.{Answer, given, refused, _then_}
 use Rattle.words.specs.LittleEndian.{wordsOf, bytesOf, wordCount, readWords}
 use Rattle.words.specs.Tray.{tray}
-use Rattle.words.specs.TrayLaws.{tray-early, tray-front}
+use Rattle.words.specs.Laws.TrayLaws.{tray-early, tray-front}
 use Rattle.words.proofs.AnswerLaws.{given-injective, refused-injective, not-both, Early}
 use Rattle.words.proofs.AnswerLaws.{only-given, only-refused, only-cond, only-number}
 use Rattle.words.proofs.LittleEndianLaws.{length-wordsOf, length-bytesOf}
 use Rattle.light_rows.specs.Block.{blockWords}
 use Rattle.light_bvh.specs.Build.{LightBVH, nodesReserve, nodesWritten, tableWritten, summary}
-use Rattle.text.specs.Text.{refusalLine, fitting, Put}
+use Rattle.text.specs.Text.{refusalLine}
+use Rattle.text.specs.AsCoded.Puts.{fitting, Put}
 use Rattle.text.proofs.PutLaws.{refusal-short, put-fits, put-then, handed}
 use Rattle.light_report.specs.Lines.{lineBytes, reportLines}
 use Rattle.light_report.specs.Report.{reportLamps, blockBytes, blockLamps, treeOf}
-use Rattle.light_report.specs.Report.{reportTree, headerBytes, powered, sizes}
-use Rattle.light_report.specs.Report.{firstLines, nodeBytes, tableBytes, chunkLines, openedOf}
-use Rattle.light_report.specs.TreeLaws.{rows-are, tree-of}
+use Rattle.light_report.specs.Report.{reportTree, headerBytes}
+use Rattle.light_report.specs.AsCoded.Written.{powered, sizes}
+use Rattle.light_report.specs.AsCoded.Written.{firstLines, nodeBytes, tableBytes, chunkLines, openedOf}
+use Rattle.light_report.specs.Laws.TreeLaws.{rows-are, tree-of}
 use Rattle.light_report.specs.declared.Opened.{Opened}
 use Rattle.light_report.specs.declared.Opened.the-variants.{Groups, Ended}
 

@@ -1,5 +1,4 @@
 pub mod Lines
 pub mod Report
-pub mod ReportLaws
-pub mod TreeLaws
-pub mod WrittenLaws
+pub mod Laws
+pub mod AsCoded

@@ -1,4 +1,4 @@
--- The lines of the report, in ASCII, as document 01's "Light report and cases" has them: what a group of seven
+-- The lines of the report, in ASCII, as R13.4 has them: what a group of seven
 -- words draws, and how it is written. Chances are written as their words' eight hexadecimal digits, handles and
 -- refusals in decimal. Definitions only. Assumes nothing.
 use Prim.Native.Nat.{ℕ, zero, suc, _+_, _*_, _/_, _%_}

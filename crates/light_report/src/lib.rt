@@ -1,7 +1,7 @@
-// The light report of document 01 (specs/Report.antt): a bounds block of at most 512 lamps and seven-word groups
-// p, n, u on standard input, little-endian; the report on standard output. Its lines are in lines.rt. The input is
-// read as a stream, a chunk of groups at a time, so a longer report takes no more memory. A program leaves no checked
-// modules for its wrong programs, so all of it stands in this library and `columns` only calls it.
+// The light report (docs/REQUIREMENTS.md R13; specs/Report.antt): a bounds block of at most 512 lamps and seven-word
+// groups p, n, u on standard input, little-endian; the report on standard output. Its lines are in lines.rt. The input
+// is read as a stream, a chunk of groups at a time, so a longer report takes no more memory. A program leaves no
+// checked modules for its wrong programs, so all of it stands in this library and `columns` only calls it.
 mod lines;
 
 ghost use mathlib.Core.Path.{_≡_};
@@ -12,11 +12,13 @@ ghost use Rattle.words.specs.Answers.{counted};
 ghost use Rattle.words.specs.LittleEndian.{wordsOf};
 ghost use Rattle.words.specs.Tray.{tray};
 ghost use Rattle.light_bvh.specs.Build.{summary, nodesReserve, nodesWritten, tableWritten};
-ghost use Rattle.light_report.specs.Report.{blockBytes, blockLamps, treeOf, reportTree, powered, sizes, taken};
-ghost use Rattle.light_report.specs.Report.{frontBytes, firstLines, nodeBytes, tableBytes, chunkLines, openedOf};
-use light_rows::block::EXHAUSTIVE_BOUNDS_WORDS;
+ghost use Rattle.light_report.specs.Report.{blockBytes, blockLamps, treeOf, reportTree};
+ghost use Rattle.light_report.specs.AsCoded.Written.{powered, sizes, taken};
+ghost use Rattle.light_report.specs.AsCoded.Written.{frontBytes, firstLines, nodeBytes};
+ghost use Rattle.light_report.specs.AsCoded.Written.{tableBytes, chunkLines, openedOf};
 use light_bvh::build::Built;
 use light_bvh::build::build_light_bvh;
+use light_rows::block::EXHAUSTIVE_BOUNDS_WORDS;
 use light_rows::nodes::NODE_WORDS;
 use lines::put_lines;
 use text::put_refused;

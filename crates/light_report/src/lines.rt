@@ -6,7 +6,7 @@ ghost use lib.ListN.{length};
 ghost use lib.Seq.{sets};
 ghost use Rattle.words.specs.Answers.{given};
 ghost use Rattle.words.specs.LittleEndian.{wordsOf};
-ghost use Rattle.text.specs.Text.{Put};
+ghost use Rattle.text.specs.AsCoded.Puts.{Put};
 ghost use Rattle.light_report.specs.Lines.{line, lineBytes, chanceBytes, groupShown};
 ghost use Rattle.light_report.specs.Lines.{groupLine, reportLines};
 use light_rows::query_words::QUERY_WORDS;

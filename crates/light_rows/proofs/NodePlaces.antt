@@ -12,13 +12,15 @@ use lib.ListN.{length, set, length-set}
 use lib.Seq.{sets}
 use Rattle.light_rows.specs.RecordWords.{recordList, writtenAt}
 use Rattle.light_bounds.specs.declared.light_bounds.LightBounds.{LightBounds}
-use Rattle.light_rows.specs.RecordPlaces.{writtenAt-sets}
+use Rattle.light_rows.specs.Laws.RecordPlaces.{writtenAt-sets}
 use Rattle.light_rows.specs.Nodes.{LightBVHNode, nodeWords, nodePlace, nodeList, headFits}
-use Rattle.light_rows.specs.Nodes.{nodeFits, nodeWritten, rowFits}
+use Rattle.light_rows.specs.Nodes.{nodeFits, nodeWritten}
+use Rattle.light_rows.specs.AsCoded.NodeRow.{rowFits}
 
 -- three words, then the record
 pub put-node-parts : (ws : List ℕ) (at head right p : ℕ) (b : LightBounds) → at + nodeWords ≤ length ws
-    → writtenAt (set (set (set ws at head) (at + 1) right) (at + 2) p) (at + 3) b ≡ sets ws at (head ∷ right ∷ p ∷ recordList b)
+    → writtenAt (set (set (set ws at head) (at + 1) right) (at + 2) p) (at + 3) b ≡
+    sets ws at (head ∷ right ∷ p ∷ recordList b)
 put-node-parts ws at head right p b h =
     let e2 : at + 2 ≡ suc (suc at) = omega arith in
     let e3 : at + 3 ≡ suc (suc (suc at)) = omega arith in

@@ -1,5 +1,5 @@
--- The bounds block: `pack_exhaustive_bounds` of `light_sampler.rs`. A count, then rows of a handle and a record. The layout of
--- a row is said here alone. Definitions only. Assumes nothing.
+-- The bounds block: `pack_exhaustive_bounds` of `light_sampler.rs`. A count, then rows of a handle and a record. The
+-- layout of a row is said here alone. Definitions only. Assumes nothing.
 use Prim.Native.Nat.{ℕ, _+_, _*_}
 use mathlib.Core.Bool.{Bool, cond, _&&_}
 use mathlib.Core.List.{List, _∷_}

@@ -1,9 +1,7 @@
 pub mod RecordWords
-pub mod RecordRow
-pub mod RecordPlaces
-pub mod RecordLaws
 pub mod QueryWords
 pub mod Block
 pub mod Nodes
 pub mod Tree
-pub mod TreeLaws
+pub mod AsCoded
+pub mod Laws

@@ -1,5 +1,5 @@
--- A node of the light tree as sixteen words: head, right child, parent, record. The head's top bits are 01 at a leaf, with
--- its handle below, and 10 at an interior node, with its left child. The layout of a node is said here alone.
+-- A node of the light tree as sixteen words: head, right child, parent, record. The head's top bits are 01 at a leaf,
+-- with its handle below, and 10 at an interior node, with its left child. The layout of a node is said here alone.
 -- Definitions only. Assumes nothing.
 use Prim.Native.Nat.{ℕ, suc, _+_, _*_, _/_, _%_}
 use mathlib.Core.Bool.{Bool, cond, _&&_}
@@ -14,7 +14,8 @@ use Rattle.light_bounds.specs.declared.light_bounds.LightBounds.{LightBounds}
 use Rattle.light_rows.specs.declared.nodes.Node.{Node}
 use Rattle.light_rows.specs.declared.nodes.Node.the-variants.{Leaf, Interior, Unknown}
 
--- `LightBVHNode` without its bounds, which are judged apart from it: light_handle, parent; or left_child, right_child, parent
+-- `LightBVHNode` without its bounds, which are judged apart from it: light_handle, parent; or left_child, right_child,
+-- parent
 pub data LightBVHNode : Type 0 where
   leaf : ℕ → ℕ → LightBVHNode
   interior : ℕ → ℕ → ℕ → LightBVHNode
@@ -107,9 +108,3 @@ abbrev pub node : Node → Answer LightBVHNode
 node (Leaf h p) = given (leaf h p)
 node (Interior l r p) = given (interior l r p)
 node Unknown = refused 12
-
--- ---- as the code has it
-
--- a row is there, and a number has room in a head
-unfoldable pub rowFits : List ℕ → ℕ → ℕ → Bool
-rowFits ws i number = leb (nodePlace (suc i)) (length ws) && ltb number 0x4000_0000

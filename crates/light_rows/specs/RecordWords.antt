@@ -1,5 +1,5 @@
--- A record as thirteen words: box min 3 and max 3, direction 3, phi, `cos_theta_o`, `cos_theta_e`, side. The layout of a
--- record is said here alone. Definitions only. Assumes nothing.
+-- A record as thirteen words: box min 3 and max 3, direction 3, phi, `cos_theta_o`, `cos_theta_e`, side. The layout of
+-- a record is said here alone. Definitions only. Assumes nothing.
 use Prim.Native.Nat.{ℕ, _+_}
 use mathlib.Core.Bool.{cond, _&&_}
 use mathlib.Core.List.{List, [], _∷_, _++_}
@@ -74,7 +74,8 @@ vecWords v = toBits binary32 (v .x) ∷ toBits binary32 (v .y) ∷ toBits binary
 -- what stands behind the vectors
 abbrev pub restWords : LightBounds → List ℕ
 restWords r =
-    toBits binary32 (r .phi) ∷ toBits binary32 (r .«cos_theta_o») ∷ toBits binary32 (r .«cos_theta_e») ∷ sideWord (r .side) ∷ []
+    toBits binary32 (r .phi) ∷ toBits binary32 (r .«cos_theta_o») ∷ toBits binary32 (r .«cos_theta_e») ∷ sideWord
+    (r .side) ∷ []
 
 unfoldable pub recordList : LightBounds → List ℕ
 recordList r = vecWords (r .bounds .min) ++ vecWords (r .bounds .max) ++ vecWords (r .direction) ++ restWords r

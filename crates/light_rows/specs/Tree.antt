@@ -1,5 +1,5 @@
--- The light tree as data, and as the words that `build_subtree` of `light_bvh.rs` leaves: a node before its left tree, the left before the right. Definitions
--- only. Assumes nothing.
+-- The light tree as data, and as the words that `build_subtree` of `light_bvh.rs` leaves: a node before its left tree,
+-- the left before the right. Definitions only. Assumes nothing.
 use Prim.Native.Nat.{ℕ, _+_, _*_}
 use mathlib.Core.List.{List, [], _∷_, _++_}
 use Rattle.light_bounds.specs.declared.light_bounds.LightBounds.{LightBounds}

@@ -1,5 +1,5 @@
-// The bounds block (specs/Block.antt): the layout of pbrt-r4's `pack_exhaustive_bounds`, row by row, and read back. A count,
-// then rows of a handle and a record. Where the words of a row stand is said here alone.
+// The bounds block (specs/Block.antt): the layout of pbrt-r4's `pack_exhaustive_bounds`, row by row, and read back. A
+// count, then rows of a handle and a record. Where the words of a row stand is said here alone.
 ghost use mathlib.Core.Path.{_≡_};
 ghost use mathlib.Core.Bool.{cond};
 ghost use Prim.Native.Nat.{_+_, _≤_};

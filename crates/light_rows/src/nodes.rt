@@ -1,5 +1,5 @@
-// A node as sixteen words (specs/Nodes.antt): head, right child, parent, record. Where the words of a node stand is said
-// here alone.
+// A node as sixteen words (specs/Nodes.antt): head, right child, parent, record. Where the words of a node stand is
+// said here alone.
 ghost use mathlib.Core.Path.{_≡_};
 ghost use mathlib.Core.Bool.{cond};
 ghost use mathlib.Core.List.{_∷_};
@@ -11,7 +11,8 @@ ghost use Rattle.words.specs.Heads.{handleOf};
 ghost use Rattle.words.specs.LittleEndian.{wordsOf};
 ghost use Rattle.light_rows.specs.RecordWords.{found, readRecord, recordList};
 ghost use Rattle.light_rows.specs.Nodes.{leaf, interior, node, nodeCount, nodeOf, nodeAt, boundsAt, nodeWords};
-ghost use Rattle.light_rows.specs.Nodes.{nodePlace, boundsPlace, nodeFits, nodeWritten, rowFits};
+ghost use Rattle.light_rows.specs.Nodes.{nodePlace, boundsPlace, nodeFits, nodeWritten};
+ghost use Rattle.light_rows.specs.AsCoded.NodeRow.{rowFits};
 use super::record_words::Found;
 use super::record_words::RECORD_WORDS;
 use super::record_words::read_record_bytes;
@@ -48,7 +49,8 @@ pub const HEAD_ROOM: u32 = 0x4000_0000;
 // The right child of a leaf, the parent of the root.
 pub const INVALID_INDEX: u32 = 0xffff_ffff;
 
-// A node without its record: a leaf with its handle and its parent; an interior node with its left and right child and its parent; or neither.
+// A node without its record: a leaf with its handle and its parent; an interior node with its left and right child and
+// its parent; or neither.
 pub enum Node {
     Leaf(u32, u32),
     Interior(u32, u32, u32),
@@ -66,7 +68,8 @@ fn put_node(
     bounds: LightBounds,
 )
     requires { ⌜ at + nodeWords ≤ length (now words) ⌝ }
-    ensures { λ _. ⌜ now (words .exit) ≡ sets (now (words .entry)) at (head ∷ «right_child» ∷ parent ∷ recordList bounds) ⌝ }
+    ensures { λ _. ⌜ now (words .exit) ≡
+        sets (now (words .entry)) at (head ∷ «right_child» ∷ parent ∷ recordList bounds) ⌝ }
 {
     words[at] = head;
     words[at + RIGHT_CHILD_PLACE] = right_child;
@@ -87,7 +90,8 @@ fn write_node(
     requires { ⌜ kind ≤ 0x8000_0000 ⌝ }
     ensures { λ r. ⌜ r ≡ rowFits (now (words .entry)) place number ⌝ }
     ensures { λ _. ⌜ now (words .exit) ≡ cond (rowFits (now (words .entry)) place number)
-        (sets (now (words .entry)) (nodePlace place) ((kind + handleOf number) ∷ «right_child» ∷ parent ∷ recordList bounds))
+        (sets (now (words .entry)) (nodePlace place)
+        ((kind + handleOf number) ∷ «right_child» ∷ parent ∷ recordList bounds))
         (now (words .entry)) ⌝ }
 {
     if words.len() / NODE_WORDS <= place {
@@ -107,7 +111,8 @@ fn write_node(
     true
 }
 
-// Writes a leaf at a place, or nothing where its row is not there or its head has no room for the handle: whether it wrote.
+// Writes a leaf at a place, or nothing where its row is not there or its head has no room for the handle: whether it
+// wrote.
 pub fn write_leaf(
     words: &mut [u32],
     place: usize,

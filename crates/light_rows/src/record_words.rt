@@ -1,13 +1,13 @@
-// Records as words (specs/RecordWords.antt): box min and max, direction, phi, the two cosines, side. Where a record's words
-// stand is said here alone. They are fetched by name, from words or from little-endian bytes (specs/RecordRow.antt), and
-// one decoder makes the record of them.
+// Records as words (specs/RecordWords.antt): box min and max, direction, phi, the two cosines, side. Where a record's
+// words stand is said here alone. They are fetched by name, from words or from little-endian bytes
+// (specs/AsCoded/RecordRow.antt), and one decoder makes the record of them.
 ghost use mathlib.Core.Path.{_≡_};
 ghost use Prim.Native.Nat.{ℕ, _+_, _/_, _≤_};
 ghost use lib.ListN.{getD, length};
 ghost use lib.Seq.{sets};
 ghost use Rattle.ieee.specs.Single.{single};
 ghost use Rattle.words.specs.LittleEndian.{wordsOf};
-ghost use Rattle.light_rows.specs.RecordRow.{tripleAt, rowAt, vecOf, recordOf, judgedRow};
+ghost use Rattle.light_rows.specs.AsCoded.RecordRow.{tripleAt, rowAt, vecOf, recordOf, judgedRow};
 ghost use Rattle.light_rows.specs.RecordWords.{recordWords, phiPlace, readRecord, recordAt, found, vecAt, boxAt};
 ghost use Rattle.light_rows.specs.RecordWords.{vecWords, restWords, recordList, writtenAt};
 use light_bounds::bounds::Bounds3;

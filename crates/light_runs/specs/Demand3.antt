@@ -1,4 +1,4 @@
--- Demand 3, of the definitions of build, draw and chance by name: what document 01 says of it in the last paragraph of
+-- Demand 3, of the definitions of build, draw and chance by name: what docs/REQUIREMENTS.md R8 says of it
 -- its Agreement, a field a sentence (`Demand3`), and that it holds of every block that build accepts (`demand-3`).
 -- Beside it, in a planner's words: the u that draw a lamp are those from one float to another, perhaps none
 -- (`u-from-to`). Demand 3 speaks of the nodes' words alone; of the whole tray that build leaves them in, with zeros
@@ -21,14 +21,14 @@ use Rattle.light_rows.specs.Nodes.{leaf, interior, invalidIndex, nodeWords, nod
 use Rattle.light_rows.specs.Tree.{Tree}
 use Rattle.light_bvh.specs.Build.{LightBVH, isPowered, buildLightBvh, nodesReserve, nodesWritten, tableWritten}
 use Rattle.light_sampler.specs.Sampler.{sampleWalk, sample, pmfWalk, pmf}
-use Rattle.tree_laws.specs.AcceptedTree.{Parts, accepted-parts, accepted-none, handles-count}
-use Rattle.light_runs.specs.AcceptedRuns.{unbroken, leaf-order, upward, from-one-to-another}
+use Rattle.tree_laws.specs.Laws.AcceptedTree.{Parts, accepted-parts, accepted-none, handles-count}
+use Rattle.light_runs.specs.Laws.AcceptedRuns.{unbroken, leaf-order, upward, from-one-to-another}
 use Rattle.light_runs.specs.DemandWords.{FromZeroToOne, InOrder, nodes, table, Draws, drawEnters, nameEnters}
 use Rattle.tree_laws.specs.TreeWords.{placeOf, poweredBelow, reached, placesFrom, HoldsChildren}
 use Rattle.words.specs.Lists.{reversed}
-use Rattle.light_runs.specs.WholeTray.{tray-is, draw-same, name-same, dark-tray}
-use Rattle.tree_laws.specs.NodeLaws.{k-counted, node-words, places, powered-leaf, leaf-powered, table-words}
-use Rattle.tree_laws.specs.NodeLaws.{other-lamps, boxes}
+use Rattle.light_runs.specs.Laws.WholeTray.{tray-is, draw-same, name-same, dark-tray}
+use Rattle.tree_laws.specs.Laws.NodeLaws.{k-counted, node-words, places, powered-leaf, leaf-powered, table-words}
+use Rattle.tree_laws.specs.Laws.NodeLaws.{other-lamps, boxes}
 
 -- of a block's words and what build makes of them
 pub record Demand3 (ws : List ℕ) (b : LightBVH) : Type 0 where

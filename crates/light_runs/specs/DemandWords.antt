@@ -1,4 +1,4 @@
--- The words in which demand 3 is said, as document 01's last paragraph of the Agreement explains them; those of the
+-- The words in which demand 3 is said, as docs/REQUIREMENTS.md R8 explains them; those of the
 -- nodes and the table alone stand in tree_laws TreeWords. Definitions only. Assumes nothing.
 use Prim.Native.Nat.{ℕ}
 use mathlib.Core.Path.{_≡_}
@@ -10,7 +10,6 @@ use Rattle.ieee.specs.Single.{zerof, onef}
 use Rattle.words.specs.Answers.{given}
 use Rattle.words.specs.LittleEndian.{bytesOf}
 use Rattle.light_bounds.specs.declared.importance.Query.{Query}
-use Rattle.light_rows.specs.Nodes.{LightBVHNode, leaf, interior, invalidIndex, nodeAt, boundsAt}
 use Rattle.light_bvh.specs.Build.{LightBVH, nodesWritten, tableWritten}
 use Rattle.light_sampler.specs.Sampler.{sampleWalk, sample, pmfWalk}
 

@@ -1,10 +1,4 @@
 pub mod DemandWords
-pub mod WeightedTree
-pub mod RunLaws
-pub mod FromTo
-pub mod DownLaws
-pub mod UpLaws
-pub mod AcceptedWalks
-pub mod WholeTray
-pub mod AcceptedRuns
 pub mod Demand3
+pub mod AsCoded
+pub mod Laws

@@ -14,16 +14,16 @@ use Rattle.ieee.specs.Choose.{fmin}
 use Rattle.ieee.specs.Single.{_⊗_, zerof, onef}
 use Rattle.words.specs.Answers.{Answer, given, refused, code}
 use Rattle.words.proofs.AnswerLaws.{not-both, given-injective}
-use Rattle.light_bounds.specs.Weighing.{prepared}
-use Rattle.light_bounds.specs.WeighingLaws.{weigh-prepared}
+use Rattle.light_bounds.specs.AsCoded.Weighing.{prepared}
+use Rattle.light_bounds.specs.Laws.WeighingLaws.{weigh-prepared}
 use Rattle.light_bounds.specs.declared.light_bounds.LightBounds.{LightBounds}
 use Rattle.light_bounds.specs.declared.importance.Query.{Query}
 use Rattle.light_bounds.specs.declared.importance.Prepared.{Prepared}
 use Rattle.light_rows.specs.Nodes.{LightBVHNode, leaf, interior, invalidIndex, nodeAt, nodeWords}
-use Rattle.light_rows.specs.TreeLaws.{nodeAt-past}
+use Rattle.light_rows.specs.Laws.TreeLaws.{nodeAt-past}
 use Rattle.light_sampler.specs.Fork.{neither, left, right, most}
 use Rattle.light_sampler.specs.Sampler.{fromRoot}
-use Rattle.light_sampler.specs.Turns.{byPrepared, parentOf}
+use Rattle.light_sampler.specs.AsCoded.Turns.{byPrepared, parentOf}
 use Rattle.light_sampler.specs.Walks.{Walked, ended, afterCheck, Weighing, byQuery, turn, taken}
 use Rattle.light_sampler.specs.Walks.{onward, descend, nought, part, rise, risen, upward, ascend}
 
@@ -63,20 +63,23 @@ module _ (ws : List ℕ) (h : Prepared) (q : Query) (held : h ≡ prepared q) wh
 
 -- ---- down
 
-pub descend-spent : (ws : List ℕ) (q : Query) (m i : ℕ) (pmf u : Float) → m ≤ 0 → descend ws q m i pmf u .outcome ≡ refused 12
+pub descend-spent : (ws : List ℕ) (q : Query) (m i : ℕ) (pmf u : Float) → m ≤ 0 →
+    descend ws q m i pmf u .outcome ≡ refused 12
 unfolding descend
 descend-spent ws q zero i pmf u h = refl
 descend-spent ws q (suc n) i pmf u h = absurd (omega arith)
 
 module _ (ws : List ℕ) (q : Query) (i : ℕ) (pmf u : Float) where
   descend-on : (m : ℕ) → 0 < m
-      → descend ws q m i pmf u .outcome ≡ onward ws q i pmf u (λ (j : ℕ) (c v : Float). descend ws q (m - 1) j c v) (nodeAt ws i) .outcome
+      → descend ws q m i pmf u .outcome ≡
+      onward ws q i pmf u (λ (j : ℕ) (c v : Float). descend ws q (m - 1) j c v) (nodeAt ws i) .outcome
   unfolding descend
   descend-on zero h = absurd (omega arith)
   descend-on (suc n) h = let e : suc n - 1 ≡ n = omega arith in rw e
 
   module _ (m : ℕ) (more : 0 < m) where
-    pub descend-leaf : {h p : ℕ} → nodeAt ws i ≡ given (leaf h p) → descend ws q m i pmf u .outcome ≡ given (some (h, pmf))
+    pub descend-leaf : {h p : ℕ} → nodeAt ws i ≡ given (leaf h p) →
+        descend ws q m i pmf u .outcome ≡ given (some (h, pmf))
     unfolding onward
     descend-leaf e = descend-on m more ∙ rw e
 
@@ -104,7 +107,8 @@ module _ (ws : List ℕ) (q : Query) (i : ℕ) (pmf u : Float) where
       unfolding onward taken
       descend-right e = descend-on m more ∙ rw (stands, e)
 
-pub from-root : (ws : List ℕ) (q : Query) (u : Float) (n : ℕ) → (n ≡ 0 → ⊥) → fromRoot ws q u n .outcome ≡ descend ws q n 0 onef (fmin u most) .outcome
+pub from-root : (ws : List ℕ) (q : Query) (u : Float) (n : ℕ) → (n ≡ 0 → ⊥) →
+    fromRoot ws q u n .outcome ≡ descend ws q n 0 onef (fmin u most) .outcome
 unfolding fromRoot
 from-root ws q u zero h = absurd (h refl)
 from-root ws q u (suc n) h = refl
@@ -118,7 +122,8 @@ ascend-spent ws q (suc n) i pmf h = absurd (omega arith)
 
 module _ (ws : List ℕ) (q : Query) (i : ℕ) (pmf : Float) where
   ascend-on : (m : ℕ) → 0 < m
-      → ascend ws q m i pmf .outcome ≡ upward ws q i pmf (λ (j : ℕ) (c : Float). ascend ws q (m - 1) j c) (nodeAt ws i) .outcome
+      → ascend ws q m i pmf .outcome ≡
+      upward ws q i pmf (λ (j : ℕ) (c : Float). ascend ws q (m - 1) j c) (nodeAt ws i) .outcome
   unfolding ascend
   ascend-on zero h = absurd (omega arith)
   ascend-on (suc n) h = let e : suc n - 1 ≡ n = omega arith in rw e
@@ -140,7 +145,8 @@ module _ (ws : List ℕ) (q : Query) (i : ℕ) (pmf : Float) where
       unfolding upward
       ascend-parent = ascend-on m more ∙ go (nodeAt ws i) stands
         where
-          go : (a : Answer LightBVHNode) → parentOf a ≡ given p → upward ws q i pmf (λ (j : ℕ) (c : Float). ascend ws q (m - 1) j c) a .outcome
+          go : (a : Answer LightBVHNode) → parentOf a ≡ given p →
+              upward ws q i pmf (λ (j : ℕ) (c : Float). ascend ws q (m - 1) j c) a .outcome
               ≡ cond (eqb p invalidIndex) (ended (given pmf))
               (risen p pmf (λ (j : ℕ) (c : Float). ascend ws q (m - 1) j c) (rise ws (byQuery q) i p)) .outcome
           go (given node) e = rw (given-injective e)

@@ -1,4 +1,4 @@
 pub mod Fork
 pub mod Walks
-pub mod Turns
 pub mod Sampler
+pub mod AsCoded

@@ -1,5 +1,6 @@
--- `bvh_light_sampler_sample` and `bvh_light_sampler_pmf` of `light_bvh.rs`, over words as little-endian bytes: document 01's checks, then the walk. A draw and
--- a chance by name are the outcomes of `sampleWalk` and `pmfWalk`, which also tell the places entered. Definitions only. Assumes nothing.
+-- `bvh_light_sampler_sample` and `bvh_light_sampler_pmf` of `light_bvh.rs`, over words as little-endian bytes: the
+-- checks of R6 and R7, then the walk. A draw and a chance by name are the outcomes of `sampleWalk` and `pmfWalk`, which
+-- also tell the places entered. Definitions only. Assumes nothing.
 use Prim.Native.Nat.{ℕ, zero, suc, _/_, _%_}
 use mathlib.Core.Bool.{cond, _&&_}
 use mathlib.Core.List.{List}
@@ -44,7 +45,8 @@ sample nodes q u = sampleWalk nodes q u .outcome
 -- 2 of the nodes or of the table, then 1: how many nodes
 unfoldable pub pmfCheck : List ℕ → List ℕ → Answer ℕ
 pmfCheck nodes table =
-    cond (ltb maxLamps (length table / 4)) (refused 2) (nodeCount nodes then λ (n : ℕ). cond (eqb (length table % 4) 0) (given n) (refused 1))
+    cond (ltb maxLamps (length table / 4)) (refused 2)
+    (nodeCount nodes then λ (n : ℕ). cond (eqb (length table % 4) 0) (given n) (refused 1))
 
 -- `handle_to_leaf`, none past its end
 unfoldable pub leafOf : List ℕ → ℕ → ℕ
@@ -55,7 +57,8 @@ unfoldable pub fromLeaf : List ℕ → Query → ℕ → ℕ → Walked Float
 fromLeaf ws q i n = cond (eqb i invalidIndex) (ended (given zerof)) (ascend ws q n i onef)
 
 unfoldable pub pmfWalk : List ℕ → List ℕ → Query → ℕ → Walked Float
-pmfWalk nodes table q handle = afterCheck (pmfCheck nodes table) (fromLeaf (wordsOf nodes) q (leafOf (wordsOf table) handle))
+pmfWalk nodes table q handle =
+    afterCheck (pmfCheck nodes table) (fromLeaf (wordsOf nodes) q (leafOf (wordsOf table) handle))
 
 abbrev pub pmf : List ℕ → List ℕ → Query → ℕ → Answer Float
 pmf nodes table q handle = pmfWalk nodes table q handle .outcome

@@ -1,6 +1,7 @@
--- The two walks over the words of a tree, any words: `descend` from the root by u, `ascend` from a leaf by parent words. Each gives, of the one walk that it
--- is, the outcome and the places that it enters, in their order. Nodes are judged as `light_bvh.rs` judges them: the kind when a node is entered, the record
--- when it is weighed, the left child in full before the right one is looked for. Definitions only. Assumes nothing.
+-- The two walks over the words of a tree, any words: `descend` from the root by u, `ascend` from a leaf by parent
+-- words. Each gives, of the one walk that it is, the outcome and the places that it enters, in their order. Nodes are
+-- judged as `light_bvh.rs` judges them: the kind when a node is entered, the record when it is weighed, the left child
+-- in full before the right one is looked for. Definitions only. Assumes nothing.
 use Prim.Native.Nat.{ℕ, zero, suc, _+_}
 use mathlib.Core.Bool.{cond}
 use mathlib.Core.List.{List, [], _∷_}
@@ -69,7 +70,8 @@ taken goLeft goRight pmf (given (left s u)) = goLeft (pmf ⊗ s) u
 taken goLeft goRight pmf (given (right s u)) = goRight (pmf ⊗ s) u
 
 -- from the node that stands at a place
-unfoldable pub onward : List ℕ → Query → ℕ → Float → Float → (ℕ → Float → Float → Walked Draw) → Answer LightBVHNode → Walked Draw
+unfoldable pub onward : List ℕ → Query → ℕ → Float → Float → (ℕ → Float → Float → Walked Draw) → Answer LightBVHNode →
+    Walked Draw
 onward ws q i pmf u enter (refused n) = ended (refused n)
 onward ws q i pmf u enter (given (leaf h p)) = ended (given (some (h, pmf)))
 onward ws q i pmf u enter (given (interior l r p)) = taken (enter (i + 1)) (enter r) pmf (turn ws (byQuery q) i r u)
@@ -77,7 +79,8 @@ onward ws q i pmf u enter (given (interior l r p)) = taken (enter (i + 1)) (ente
 -- `n` is how many places may still be entered; then the walk is spent
 unfoldable pub descend : List ℕ → Query → ℕ → ℕ → Float → Float → Walked Draw
 descend ws q zero i pmf u = ended (refused 12)
-descend ws q (suc n) i pmf u = entering i (onward ws q i pmf u (λ (j : ℕ) (c v : Float). descend ws q n j c v) (nodeAt ws i))
+descend ws q (suc n) i pmf u =
+    entering i (onward ws q i pmf u (λ (j : ℕ) (c v : Float). descend ws q n j c v) (nodeAt ws i))
 
 -- ---- up
 

@@ -1,7 +1,7 @@
 // A fork of the tree (specs/Fork.antt): from two weights and u, the branch with its share and the u within it.
 ghost use mathlib.Core.Path.{_≡_};
 ghost use Rattle.light_sampler.specs.Fork.{parted as partedOf, fork as forkOf};
-ghost use Rattle.light_sampler.specs.Turns.{turned};
+ghost use Rattle.light_sampler.specs.AsCoded.Turns.{turned};
 use floats::choose::min;
 
 // The greatest u that a walk goes on with, 3f7ffffe: 1 - 2^-23.

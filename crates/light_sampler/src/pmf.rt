@@ -6,7 +6,7 @@ ghost use Rattle.words.specs.LittleEndian.{wordsOf};
 ghost use Rattle.light_sampler.specs.Sampler.{pmfCheck, leafOf, pmf as pmfOf, chance};
 ghost use Rattle.light_sampler.specs.Walks.{partOf, rise as riseOf, ascend as ascendOf};
 ghost use Rattle.light_rows.specs.Nodes.{node, nodeAt};
-ghost use Rattle.light_sampler.specs.Turns.{byPrepared, factorOf, parentOf, aboveOf};
+ghost use Rattle.light_sampler.specs.AsCoded.Turns.{byPrepared, factorOf, parentOf, aboveOf};
 use super::weigh::Weights;
 use super::weigh::weigh_children;
 use light_bounds::importance::Prepared;
@@ -148,8 +148,9 @@ fn leaf_of(table: &[u8], handle: u32) -> u32
     INVALID_INDEX
 }
 
-// The chance of a light for a query, as the product of its weights' parts along the way up. Refusals: 2 over 8,191 nodes or 4,096 table words, 1 of a part of a
-// node or of a word; then those that the walk meets, 12 where the words do not hang together. A light past the table or without a leaf has chance 0.
+// The chance of a light for a query, as the product of its weights' parts along the way up. Refusals: 2 over 8,191
+// nodes or 4,096 table words, 1 of a part of a node or of a word; then those that the walk meets, 12 where the words do
+// not hang together. A light past the table or without a leaf has chance 0.
 pub fn bvh_light_sampler_pmf(nodes: &[u8], table: &[u8], query: Query, handle: u32) -> Chance
     ensures { λ r. ⌜ chance r ≡ pmfOf (now (nodes .entry)) (now (table .entry)) query handle ⌝ }
 {

@@ -6,7 +6,7 @@ ghost use Rattle.words.specs.Answers.{counted};
 ghost use Rattle.words.specs.LittleEndian.{wordsOf};
 ghost use Rattle.light_sampler.specs.Sampler.{sampleCheck, sample, drawn};
 ghost use Rattle.light_sampler.specs.Walks.{turn as turnOf, descend as descendOf};
-ghost use Rattle.light_sampler.specs.Turns.{byPrepared, wayOf};
+ghost use Rattle.light_sampler.specs.AsCoded.Turns.{byPrepared, wayOf};
 use super::fork::MOST;
 use super::fork::Turn;
 use super::fork::fork;
@@ -105,9 +105,10 @@ fn check_sample(nodes: &[u8], u: f32) -> Counted
     }
 }
 
-// Draws a light for a query by u from 0 to 1, with the product of the shares along the way as its chance. Refusals: 2 over 8,191 nodes, 1 of a part of a node,
-// 11 of u; then those that the walk meets, 12 where the words do not hang together. Without nodes, and where neither branch of a fork has weight, none is
-// drawn; a lone leaf is drawn unweighed.
+// Draws a light for a query by u from 0 to 1, with the product of the shares along the way as its chance. Refusals: 2
+// over 8,191 nodes, 1 of a part of a node, 11 of u; then those that the walk meets, 12 where the words do not hang
+// together. Without nodes, and where neither branch of a fork has weight, none is drawn; a lone leaf is drawn
+// unweighed.
 pub fn bvh_light_sampler_sample(nodes: &[u8], query: Query, u: f32) -> Drawn
     ensures { λ r. ⌜ drawn r ≡ sample (now (nodes .entry)) query u ⌝ }
 {

@@ -1,10 +1,11 @@
-// Weighing (specs/Walks.antt): the one place where a walk weighs, for the query that it holds. A record is read where it lies.
+// Weighing (specs/Walks.antt): the one place where a walk weighs, for the query that it holds. A record is read where
+// it lies.
 ghost use mathlib.Core.Path.{_≡_};
 ghost use Prim.Native.Nat.{_<_, _^_};
 ghost use Rattle.words.specs.LittleEndian.{wordsOf};
 ghost use Rattle.light_bounds.specs.Importance.{weight};
 ghost use Rattle.light_sampler.specs.Walks.{weighAt, weights as weightsOf};
-ghost use Rattle.light_sampler.specs.Turns.{byPrepared, bothWeights};
+ghost use Rattle.light_sampler.specs.AsCoded.Turns.{byPrepared, bothWeights};
 use light_bounds::importance::Prepared;
 use light_bounds::importance::Weight;
 use light_bounds::importance::weigh_prepared;

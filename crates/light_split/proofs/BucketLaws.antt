@@ -18,7 +18,8 @@ use Rattle.light_bounds.specs.Side.{lampSide}
 use Rattle.light_bounds.specs.Vecmath.{vec}
 use Rattle.light_bounds.specs.declared.bounds.Bounds3.{Bounds3}
 use Rattle.light_bounds.specs.declared.light_bounds.LightBounds.{LightBounds}
-use Rattle.light_split.specs.Buckets.{Bucket, slotOf, slotList, joinTo, fillBuckets, unionRange}
+use Rattle.light_split.specs.Buckets.{Bucket, joinTo, fillBuckets, unionRange}
+use Rattle.light_split.specs.AsCoded.Slots.{slotOf, slotList}
 use Rattle.light_split.specs.Lights.{lightOf, bucketOf}
 use Rattle.light_split.specs.declared.buckets.Slot.{Slot}
 
@@ -83,11 +84,13 @@ blank =
 -- the bucket at a place
 union-next : (b : Bucket) (ss : List Slot) (i : ℕ) → i < length ss
     → unionRange b (drop i (slotList ss)) ≡ unionRange b (slotOf (getD ss i blank) ∷ drop (i + 1) (slotList ss))
-union-next b ss i h = rw (drop-cons (slotList ss) i none (omega (arith, slots-length ss)), slots-at ss i blank h, add-one i)
+union-next b ss i h =
+    rw (drop-cons (slotList ss) i none (omega (arith, slots-length ss)), slots-at ss i blank h, add-one i)
 
 -- it is joined where something is in it
 pub union-filled : (b : Bucket) (ss : List Slot) (i : ℕ) → i < length ss → getD ss i blank .filled ≡ true
-    → unionRange b (drop i (slotList ss)) ≡ joinTo b (getD ss i blank .bounds) then λ (r : Bucket). unionRange r (drop (i + 1) (slotList ss))
+    → unionRange b (drop i (slotList ss)) ≡
+    joinTo b (getD ss i blank .bounds) then λ (r : Bucket). unionRange r (drop (i + 1) (slotList ss))
 unfolding unionRange
 union-filled b ss i h e = rw (union-next b ss i h, e)
 
@@ -102,6 +105,8 @@ union-end b ss i h = rw (drop-of-length-le (slotList ss) {i = i} (omega (arith, 
 
 -- ---- floats of one word are equal
 
-pub same-word : (x y : Float) → fits binary32 x ≡ true → fits binary32 y ≡ true → toBits binary32 x ≡ toBits binary32 y → x ≡ y
+pub same-word : (x y : Float) → fits binary32 x ≡ true → fits binary32 y ≡ true →
+    toBits binary32 x ≡ toBits binary32 y → x ≡ y
 same-word x y f g e =
-    sym (ofBits-toBits binary32 x (subst T (sym f) tt)) ∙ ap (ofBits binary32) e ∙ ofBits-toBits binary32 y (subst T (sym g) tt)
+    sym (ofBits-toBits binary32 x (subst T (sym f) tt)) ∙ ap (ofBits binary32) e ∙
+    ofBits-toBits binary32 y (subst T (sym g) tt)

@@ -1,4 +1,5 @@
--- A stretch that is parted: the items that pass a test, a list laid over the front of another, and the two loops of `partition.rt`. Assumes nothing.
+-- A stretch that is parted: the items that pass a test, a list laid over the front of another, and the two loops of
+-- `partition.rt`. Assumes nothing.
 use Prim.Native.Nat.{ℕ, suc, _+_, _-_, _/_, _≤_, _<_, zero-le}
 use mathlib.Core.Path.{_≡_, refl, ap, sym, _∙_}
 use mathlib.Core.Bool.{Bool, true, false, cond, not, _||_}
@@ -15,7 +16,8 @@ use Rattle.words.specs.Answers.{given, refused}
 use Rattle.light_bounds.specs.declared.bounds.Bounds3.{Bounds3}
 use Rattle.light_split.specs.declared.split.Split.{Split}
 use Rattle.light_split.specs.Lights.{centroidEnds}
-use Rattle.light_split.specs.Partition.{goesLeft, goesRight, lefts, rights, partitionHandles, partedCount, partedHandles, partedWork}
+use Rattle.light_split.specs.Partition.{goesLeft, goesRight, lefts, rights}
+use Rattle.light_split.specs.Partition.{partitionHandles, partedCount, partedHandles, partedWork}
 use Rattle.words.specs.Lists.{kept, laid}
 
 -- ---- the loop that parts: of hs the items up to i are parted, by tests of which each item passes one
@@ -52,7 +54,8 @@ module _ {l r : ℕ → Bool} (other : (h : ℕ) → r h ≡ not (l h)) {hs work
   pub parting-read : getD hs′ i 0 ≡ getD hs i 0
   parting-read = rw (p .handles) (laid-getD (kept l (take i hs)) hs i (omega arith))
 
-  pub parting-left : (x : ℕ) → x ≡ getD hs i 0 → i < length hs → l x ≡ true → Parting l r hs work (set hs′ left x) work′ (left + 1) right (i + 1)
+  pub parting-left : (x : ℕ) → x ≡ getD hs i 0 → i < length hs → l x ≡ true →
+      Parting l r hs work (set hs′ left x) work′ (left + 1) right (i + 1)
   parting-left x e h t =
       let more : kept l (take (i + 1) hs) ≡ kept l (take i hs) ++ (x ∷ []) = rw e (kept-in l hs i h (rw e at t)) in
       let out : kept r (take (i + 1) hs) ≡ kept r (take i hs) = kept-out r hs i h (ap r (sym e) ∙ other x ∙ ap not t) in
@@ -68,9 +71,11 @@ module _ {l r : ℕ → Bool} (other : (h : ℕ) → r h ≡ not (l h)) {hs work
         tray = rw out (p .tray);
       }
 
-  pub parting-right : (x : ℕ) → x ≡ getD hs i 0 → i < length hs → l x ≡ false → Parting l r hs work hs′ (set work′ right x) left (right + 1) (i + 1)
+  pub parting-right : (x : ℕ) → x ≡ getD hs i 0 → i < length hs → l x ≡ false →
+      Parting l r hs work hs′ (set work′ right x) left (right + 1) (i + 1)
   parting-right x e h t =
-      let more : kept r (take (i + 1) hs) ≡ kept r (take i hs) ++ (x ∷ []) = rw e (kept-in r hs i h (ap r (sym e) ∙ other x ∙ ap not t)) in
+      let more : kept r (take (i + 1) hs) ≡ kept r (take i hs) ++
+      (x ∷ []) = rw e (kept-in r hs i h (ap r (sym e) ∙ other x ∙ ap not t)) in
       let out : kept l (take (i + 1) hs) ≡ kept l (take i hs) = kept-out l hs i h (rw e at t) in
       record {
         within = omega arith;
@@ -84,11 +89,16 @@ module _ {l r : ℕ → Bool} (other : (h : ℕ) → r h ≡ not (l h)) {hs work
         tray = rw (more, p .tray, p .rights) (laid-next (kept r (take i hs)) work x (omega arith));
       }
 
-  pub parting-all : length hs ≤ i → (left ≡ length (kept l hs)) × ((hs′ ≡ laid (kept l hs) hs) × (work′ ≡ laid (kept r hs) work))
+  pub parting-all : length hs ≤ i →
+      (left ≡ length (kept l hs)) × ((hs′ ≡ laid (kept l hs) hs) × (work′ ≡ laid (kept r hs) work))
   parting-all h =
       let e : take i hs ≡ hs = take-all i hs h in (
         p .lefts ∙ ap (λ (xs : List ℕ). length (kept l xs)) e,
-        (p .handles ∙ ap (λ (xs : List ℕ). laid (kept l xs) hs) e, p .tray ∙ ap (λ (xs : List ℕ). laid (kept r xs) work) e),
+        (
+          p .handles ∙ ap (λ (xs : List ℕ). laid (kept l xs) hs) e,
+          p .tray ∙
+              ap (λ (xs : List ℕ). laid (kept r xs) work) e,
+        ),
       )
 
 -- ---- the loop that puts the work's front behind the first handles, up to place i
@@ -100,9 +110,17 @@ pub record Behind (hs : List ℕ) (left : ℕ) (work l : List ℕ) (i : ℕ) : T
   pub same : length l ≡ length hs
   pub is : l ≡ paste hs left work (i - left)
 
-pub behind-none : (hs work : List ℕ) (left : ℕ) → left ≤ length hs → length hs ≤ length work + left → Behind hs left work hs left
+pub behind-none : (hs work : List ℕ) (left : ℕ) → left ≤ length hs → length hs ≤ length work + left →
+    Behind hs left work hs left
 behind-none hs work left h room =
-    record { after = le-refl left; within = h; room = room; same = refl; is = rw (sub-self left) (paste-zero hs left work) }
+    record {
+      after = le-refl left;
+      within = h;
+      room = room;
+      same = refl;
+      is = rw (sub-self left)
+          (paste-zero hs left work);
+    }
 
 pub behind-next : {hs work l : List ℕ} {left i : ℕ} → Behind hs left work l i → i < length hs
     → Behind hs left work (set l i (getD work (i - left) 0)) (i + 1)
@@ -120,7 +138,8 @@ behind-next {hs} {work} {l} {left} {i} b h =
           ∙ paste-suc hs left work j 0 (omega arith) (omega arith) ∙ ap (λ (n : ℕ). paste hs left work n) next);
     }
 
-pub behind-all : {hs work l : List ℕ} {left i : ℕ} → Behind hs left work l i → length hs ≤ i → l ≡ take left hs ++ take (length hs - left) work
+pub behind-all : {hs work l : List ℕ} {left i : ℕ} → Behind hs left work l i → length hs ≤ i →
+    l ≡ take left hs ++ take (length hs - left) work
 behind-all {hs} {work} {l} {left} {i} b h =
     let e : i ≡ length hs = omega arith in
     let over : length hs ≤ left + (i - left) = omega arith in
@@ -162,14 +181,16 @@ module _ (ws hs : List ℕ) (s : Split) where
       cut-joined (eqb (length l) 0 || eqb (length r) 0) l r (length (l ++ r) / 2)
 
   -- how many go left: half where a side is empty
-  pub partition-half : (length (lefts ws hs s) ≡ 0) ⊎ (length (lefts ws hs s) ≡ length hs) → length (partitionHandles ws hs s .0) ≡ length hs / 2
+  pub partition-half : (length (lefts ws hs s) ≡ 0) ⊎ (length (lefts ws hs s) ≡ length hs) →
+      length (partitionHandles ws hs s .0) ≡ length hs / 2
   unfolding partitionHandles
   partition-half empty =
       let l = lefts ws hs s in
       let r = rights ws hs s in
       let sum = both-lengths in
       let one : (eqb (length l) 0 || eqb (length r) 0) ≡ true =
-      ⊎-elim (λ e. rw (eq-eqb (length l) 0 e)) (λ e. or-true (eqb (length l) 0) (eqb (length r) 0) (eq-eqb (length r) 0 (omega arith))) empty in
+      ⊎-elim (λ e. rw (eq-eqb (length l) 0 e))
+      (λ e. or-true (eqb (length l) 0) (eqb (length r) 0) (eq-eqb (length r) 0 (omega arith))) empty in
       rw one (half-length (l ++ r) ∙ rw (length-append l r, sum))
 
   pub partition-both : (length (lefts ws hs s) ≡ 0 → ⊥) → (length (lefts ws hs s) ≡ length hs → ⊥)
@@ -193,7 +214,8 @@ module _ (ws hs : List ℕ) (s : Split) where
     -- the left handles, then those that were put into the work
     pub parted-long : length hs ≤ length work → (n : ℕ) → length (partitionHandles ws hs s .0) ≡ n → (l work′ : List ℕ)
         → l ≡ lefts ws hs s ++ rights ws hs s → work′ ≡ laid (rights ws hs s) work
-        → (given n ≡ partedCount ws hs s (length work)) × ((l ≡ partedHandles ws hs s (length work)) × (work′ ≡ partedWork ws hs s work))
+        → (given n ≡ partedCount ws hs s (length work)) ×
+        ((l ≡ partedHandles ws hs s (length work)) × (work′ ≡ partedWork ws hs s work))
     unfolding partedCount partedHandles partedWork
     parted-long h n is l work′ e e′ =
         let t = le-ltb (length work) (length hs) h in
@@ -208,9 +230,11 @@ pub record Parted (ws hs : List ℕ) (s : Split) (work : List ℕ) (left : ℕ) 
   pub handles : hs′ ≡ laid (lefts ws hs s) hs
   pub tray : work′ ≡ laid (rights ws hs s) work
 
-pub parted-of : (ws hs : List ℕ) (s : Split) (work : List ℕ) {left : ℕ} {hs′ work′ : List ℕ} {ends : Bounds3} → ends ≡ centroidEnds ws hs
+pub parted-of : (ws hs : List ℕ) (s : Split) (work : List ℕ) {left : ℕ} {hs′ work′ : List ℕ} {ends : Bounds3} →
+    ends ≡ centroidEnds ws hs
     → left ≡ length (kept (goesLeft ws ends s) hs) → hs′ ≡ laid (kept (goesLeft ws ends s) hs) hs
-    → work′ ≡ laid (kept (goesRight ws ends s) hs) work → length hs′ ≡ length hs → length work′ ≡ length work → Parted ws hs s work left hs′ work′
+    → work′ ≡ laid (kept (goesRight ws ends s) hs) work → length hs′ ≡ length hs → length work′ ≡
+    length work → Parted ws hs s work left hs′ work′
 unfolding lefts rights
 parted-of ws hs s work e count handles tray same same-work =
     let sum = both-lengths ws hs s in
@@ -232,4 +256,12 @@ parted-rejoined {ws} {hs} {work} {hs′} {work′} {s} {left} p =
     let r = rights ws hs s in
     let sum = both-lengths ws hs s in
     let rest : length hs′ - left ≡ length r = omega arith in
-    rw (rest, p .handles, p .tray, p .count, take-append-seam l (drop (length l) hs), take-append-seam r (drop (length r) work))
+    rw (
+      rest,
+      p .handles,
+      p .tray,
+      p .count,
+      take-append-seam l (drop (length l) hs),
+      take-append-seam r
+          (drop (length r) work),
+    )

@@ -1,27 +1,22 @@
--- The twelve buckets of an axis, as `choose_split` of `light_bvh.rs` fills them and `union_bucket_range` joins them, and the cost of a cut. Where the Rust's
--- `unwrap` of a union panics, the answer is refusal 10, whichever cut the union belongs to. Definitions only. Assumes nothing.
-use Prim.Native.Nat.{ℕ, zero, suc, _-_}
-use mathlib.Core.Path.{_≡_}
-use mathlib.Core.Bool.{cond, _&&_}
+-- The twelve buckets of an axis, as `choose_split` of `light_bvh.rs` fills them and `union_bucket_range` joins them,
+-- and the cost of a cut. Where the Rust's `unwrap` of a union panics, the answer is refusal 10, whichever cut the union
+-- belongs to. Definitions only. Assumes nothing.
+use Prim.Native.Nat.{ℕ, suc, _-_}
+use mathlib.Core.Bool.{cond}
 use mathlib.Core.List.{List, [], _∷_}
 use mathlib.Core.Option.{Option, none, some}
-use lib.Ieee.{Float, inf, lt, eq}
+use lib.Ieee.{Float, eq}
 use lib.ListN.{getD, set, take, drop, replicate}
 use Rattle.ieee.specs.Choose.{fmin, fmax}
 use Rattle.ieee.specs.Single.{_⊕_, _⊖_, _⊗_, _⊘_, zerof, onef, twof, pi}
 use Rattle.trig.specs.Trig.{cos, acos}
-use Rattle.words.specs.Answers.{Answer, given, refused, _then_}
+use Rattle.words.specs.Answers.{Answer, given, _then_}
 use Rattle.light_bounds.specs.Bounds.{diagonal, surfaceArea}
 use Rattle.light_bounds.specs.Cones.{safeSqrt}
 use Rattle.light_bounds.specs.LightBounds.{union}
 use Rattle.light_bounds.specs.declared.bounds.Bounds3.{Bounds3}
 use Rattle.light_bounds.specs.declared.light_bounds.LightBounds.{LightBounds}
 use Rattle.light_bounds.specs.declared.vecmath.Vec3.{Vec3}
-use Rattle.light_split.specs.declared.buckets.Omega.{Omega}
-use Rattle.light_split.specs.declared.buckets.Ranged.{Ranged}
-use Rattle.light_split.specs.declared.buckets.Ranged.the-variants.{Bucket as Ranged·Bucket, Lost}
-use Rattle.light_split.specs.declared.buckets.Slot.{Slot}
-use Rattle.light_split.specs.declared.buckets.Slots.{Slots}
 use Rattle.light_split.specs.Lights.{lightOf, component, nBuckets, bucketOf}
 
 -- what a bucket holds
@@ -71,7 +66,8 @@ kr diag d = fmax (fmax (fmax zerof (diag .x)) (diag .y)) (diag .z) ⊘ component
 unfoldable pub evaluateCost : LightBounds → Bounds3 → ℕ → Float
 evaluateCost b parent d =
     let diag = diagonal parent in
-    cond (eq (component d diag) zerof) zerof (b .phi ⊗ mOmega (b .«cos_theta_o») (b .«cos_theta_e») ⊗ kr diag d ⊗ surfaceArea (b .bounds))
+    cond (eq (component d diag) zerof) zerof
+    (b .phi ⊗ mOmega (b .«cos_theta_o») (b .«cos_theta_e») ⊗ kr diag d ⊗ surfaceArea (b .bounds))
 
 unfoldable pub sideCost : Bounds3 → ℕ → Bucket → Float
 sideCost parent d none = zerof
@@ -80,28 +76,6 @@ sideCost parent d (some b) = evaluateCost b parent d
 -- of the cut behind a bucket
 unfoldable pub cutCost : List Bucket → Bounds3 → ℕ → ℕ → Answer Float
 cutCost bs parent d bucket =
-    unionBucketRange bs 0 bucket then λ (l : Bucket). unionBucketRange bs (suc bucket) (nBuckets - 1) then λ (r : Bucket).
+    unionBucketRange bs 0 bucket then λ (l : Bucket). unionBucketRange bs (suc bucket) (nBuckets - 1) then λ
+    (r : Bucket).
     given (sideCost parent d l ⊕ sideCost parent d r)
-
--- ---- as the code has them
-
-abbrev pub slotOf : Slot → Bucket
-slotOf s = cond (s .filled) (some (s .bounds)) none
-
-unfoldable pub slotList : List Slot → List Bucket
-slotList [] = []
-slotList (s ∷ ss) = slotOf s ∷ slotList ss
-
--- what a call that fills them answers
-abbrev pub filled : Slots → Answer (List Bucket)
-filled b = cond (b .lost) (refused 10) (given (slotList (b .slots)))
-
--- what the enum `Ranged` answers
-abbrev pub ranged : Ranged → Answer Bucket
-ranged (Ranged·Bucket s) = given (slotOf s)
-ranged Lost = refused 10
-
--- an m_omega that is known is that of its cosines
-abbrev pub Right : Omega → Type 0
-Right o =
-    cond (o .known) (o .«m_omega») (mOmega (o .«cos_theta_o») (o .«cos_theta_e»)) ≡ mOmega (o .«cos_theta_o») (o .«cos_theta_e»)

@@ -1,5 +1,5 @@
--- The records that a stretch of handles names, as `choose_split` and `partition_handles` of `light_bvh.rs` read them: a stretch is a list of rows of a block.
--- A row past the block's end is read as zeros. Definitions only. Assumes nothing.
+-- The records that a stretch of handles names, as `choose_split` and `partition_handles` of `light_bvh.rs` read them: a
+-- stretch is a list of rows of a block. A row past the block's end is read as zeros. Definitions only. Assumes nothing.
 use Prim.Native.Nat.{ℕ, zero, suc, _-_, min}
 use mathlib.Core.Bool.{true, false, cond}
 use mathlib.Core.List.{List}

@@ -1,6 +1,6 @@
--- `partition_handles` of `light_bvh.rs`: a stretch parted by the bucket of each centroid, in its order; where one side is empty, cut at the middle. The Rust
--- sorts the handles before that cut; they ascend in every stretch of a build, so the sort changes nothing (tree_laws SortLaws `build-sorting`).
--- Definitions only. Assumes nothing.
+-- `partition_handles` of `light_bvh.rs`: a stretch parted by the bucket of each centroid, in its order; where one side
+-- is empty, cut at the middle. The Rust sorts the handles before that cut; they ascend in every stretch of a build, so
+-- the sort changes nothing (tree_laws SortLaws `build-sorting`). Definitions only. Assumes nothing.
 use Prim.Native.Nat.{ℕ, _/_}
 use mathlib.Core.Bool.{Bool, cond, not, _||_}
 use mathlib.Core.List.{List, _++_}

@@ -1,5 +1,5 @@
--- `choose_split` of `light_bvh.rs`: of all eleven cuts of every axis whose centroids differ, the first of the least cost above 0; without one, axis 0 behind
--- bucket 5. Definitions only. Assumes nothing.
+-- `choose_split` of `light_bvh.rs`: of all eleven cuts of every axis whose centroids differ, the first of the least
+-- cost above 0; without one, axis 0 behind bucket 5. Definitions only. Assumes nothing.
 use Prim.Native.Nat.{ℕ, zero, suc, _-_, _/_}
 use mathlib.Core.Bool.{false, cond, _&&_}
 use mathlib.Core.List.{List, [], _∷_}
@@ -15,8 +15,6 @@ use Rattle.light_split.specs.declared.split.Split.{Split}
 use Rattle.light_split.specs.declared.split.Best.{Best}
 use Rattle.light_split.specs.declared.split.Chosen.{Chosen}
 use Rattle.light_split.specs.declared.split.Chosen.the-variants.{Cut, Lost}
-use Rattle.light_split.specs.declared.split.Bested.{Bested}
-use Rattle.light_split.specs.declared.split.Bested.the-variants.{Found, Lost as Bested·Lost}
 
 abbrev pub split : ℕ → ℕ → Split
 split d k = record { dimension = d; bucket = k }
@@ -24,7 +22,8 @@ split d k = record { dimension = d; bucket = k }
 -- the box of all that the stretch names, in its order
 unfoldable pub combinedBounds : List ℕ → List ℕ → Bounds3
 combinedBounds ws [] = lightOf ws 0 .bounds
-combinedBounds ws (h ∷ hs) = folded (λ (b : Bounds3) (h : ℕ). boxUnion b (lightOf ws h .bounds)) (lightOf ws h .bounds) hs
+combinedBounds ws (h ∷ hs) =
+    folded (λ (b : Bounds3) (h : ℕ). boxUnion b (lightOf ws h .bounds)) (lightOf ws h .bounds) hs
 
 -- `min_cost` and `best`; where no cut wins, `best` is the default from the start
 abbrev pub noBest : Best
@@ -36,7 +35,8 @@ better b s cost = cond (lt zerof cost && lt cost (b .«min_cost»)) (record { «
 -- the first n cuts of an axis
 unfoldable pub cuts : List Bucket → Bounds3 → ℕ → Best → ℕ → Answer Best
 cuts bs parent d b zero = given b
-cuts bs parent d b (suc n) = cuts bs parent d b n then λ (b : Best). cutCost bs parent d n then λ (c : Float). given (better b (split d n) c)
+cuts bs parent d b (suc n) =
+    cuts bs parent d b n then λ (b : Best). cutCost bs parent d n then λ (c : Float). given (better b (split d n) c)
 
 -- an axis; it is left out where its centroids are equal
 unfoldable pub axis : List ℕ → List ℕ → Bounds3 → Bounds3 → ℕ → Best → Answer Best
@@ -48,14 +48,11 @@ unfoldable pub chooseSplit : List ℕ → List ℕ → Answer Split
 chooseSplit ws hs =
     let ends = centroidEnds ws hs in
     let parent = combinedBounds ws hs in
-    axis ws hs ends parent 0 noBest then λ (b : Best). axis ws hs ends parent 1 b then λ (b : Best). axis ws hs ends parent 2 b then λ (b : Best).
+    axis ws hs ends parent 0 noBest then λ (b : Best). axis ws hs ends parent 1 b then λ (b : Best). axis ws hs ends
+    parent 2 b then λ (b : Best).
     given (b .best)
 
 -- what the enums `Chosen` and `Bested` answer
 abbrev pub chosen : Chosen → Answer Split
 chosen (Cut s) = given s
 chosen Lost = refused 10
-
-abbrev pub bested : Bested → Answer Best
-bested (Found b) = given b
-bested Bested·Lost = refused 10

@@ -19,12 +19,15 @@ fn goes_left(block: &[u32], ends: Bounds3, split: Split, handle: u32) -> bool
     bucket_of(block, ends, split.dimension, handle) <= split.bucket
 }
 
-// The handles that go left stay, in their order, in front; those that go right are put into the work, in theirs. How many go left.
+// The handles that go left stay, in their order, in front; those that go right are put into the work, in theirs. How
+// many go left.
 fn part(block: &[u32], ends: Bounds3, split: Split, handles: &mut [u32], work: &mut [u32]) -> usize
     requires { ⌜ length (now handles) ≤ length (now work) ⌝ }
     ensures { λ r. ⌜ r ≡ length (kept (goesLeft (now (block .entry)) ends split) (now (handles .entry))) ⌝ }
-    ensures { λ _. ⌜ now (handles .exit) ≡ laid (kept (goesLeft (now (block .entry)) ends split) (now (handles .entry))) (now (handles .entry)) ⌝ }
-    ensures { λ _. ⌜ now (work .exit) ≡ laid (kept (goesRight (now (block .entry)) ends split) (now (handles .entry))) (now (work .entry)) ⌝ }
+    ensures { λ _. ⌜ now (handles .exit) ≡
+        laid (kept (goesLeft (now (block .entry)) ends split) (now (handles .entry))) (now (handles .entry)) ⌝ }
+    ensures { λ _. ⌜ now (work .exit) ≡
+        laid (kept (goesRight (now (block .entry)) ends split) (now (handles .entry))) (now (work .entry)) ⌝ }
 {
     let mut left: usize = 0;
     let mut right: usize = 0;
@@ -47,7 +50,8 @@ fn part(block: &[u32], ends: Bounds3, split: Split, handles: &mut [u32], work: &
 fn put_behind(handles: &mut [u32], left: usize, work: &[u32])
     requires { ⌜ left ≤ length (now handles) ⌝ }
     requires { ⌜ length (now handles) ≤ length (now work) + left ⌝ }
-    ensures { λ _. ⌜ now (handles .exit) ≡ take left (now (handles .entry)) ++ take (length (now (handles .entry)) - left) (now (work .entry)) ⌝ }
+    ensures { λ _. ⌜ now (handles .exit) ≡ take left (now (handles .entry)) ++
+        take (length (now (handles .entry)) - left) (now (work .entry)) ⌝ }
 {
     let mut i = left;
     while i < handles.len() {
@@ -56,17 +60,20 @@ fn put_behind(handles: &mut [u32], left: usize, work: &[u32])
     }
 }
 
-// Parts the stretch: its left half comes first, and the answer is how many handles that has. The work, at least as long as the stretch or refusal 3, keeps
-// the handles that went right by their buckets.
+// Parts the stretch: its left half comes first, and the answer is how many handles that has. The work, at least as long
+// as the stretch or refusal 3, keeps the handles that went right by their buckets.
 pub fn partition_handles(
     block: &[u32],
     handles: &mut [u32],
     work: &mut [u32],
     split: Split,
 ) -> Counted
-    ensures { λ r. ⌜ counted r ≡ partedCount (now (block .entry)) (now (handles .entry)) split (length (now (work .entry))) ⌝ }
-    ensures { λ _. ⌜ now (handles .exit) ≡ partedHandles (now (block .entry)) (now (handles .entry)) split (length (now (work .entry))) ⌝ }
-    ensures { λ _. ⌜ now (work .exit) ≡ partedWork (now (block .entry)) (now (handles .entry)) split (now (work .entry)) ⌝ }
+    ensures { λ r. ⌜ counted r ≡ partedCount (now (block .entry)) (now (handles .entry)) split
+        (length (now (work .entry))) ⌝ }
+    ensures { λ _. ⌜ now (handles .exit) ≡
+        partedHandles (now (block .entry)) (now (handles .entry)) split (length (now (work .entry))) ⌝ }
+    ensures { λ _. ⌜ now (work .exit) ≡
+        partedWork (now (block .entry)) (now (handles .entry)) split (now (work .entry)) ⌝ }
 {
     let n = handles.len();
     if work.len() < n {

@@ -2,9 +2,11 @@
 ghost use mathlib.Core.Path.{_≡_};
 ghost use lib.ListN.{length};
 ghost use Rattle.words.specs.Answers.{given, _then_};
-ghost use Rattle.light_split.specs.Buckets.{slotList};
+ghost use Rattle.light_split.specs.AsCoded.Slots.{slotList};
 ghost use Rattle.light_split.specs.Lights.{centroidEnds};
-ghost use Rattle.light_split.specs.Split.{combinedBounds, cuts, axis as axisOf, better as betterOf, chooseSplit, chosen, bested};
+ghost use Rattle.light_split.specs.Split.{combinedBounds, cuts, axis as axisOf};
+ghost use Rattle.light_split.specs.Split.{better as betterOf, chooseSplit, chosen};
+ghost use Rattle.light_split.specs.AsCoded.Bests.{bested};
 use super::buckets::Ranged;
 use super::buckets::Slot;
 use super::buckets::Slots;
@@ -72,7 +74,8 @@ fn better(best: Best, split: Split, cost: f32) -> Best
     best
 }
 
-// The eleven cuts of an axis. A cut behind an empty bucket has the sides of the cut before it, so it costs the same and does not win: it is left out.
+// The eleven cuts of an axis. A cut behind an empty bucket has the sides of the cut before it, so it costs the same and
+// does not win: it is left out.
 fn best_cut(buckets: Slots, parent: Bounds3, dimension: usize, best: Best) -> Bested
     ensures { λ r. ⌜ bested r ≡ cuts (slotList (buckets .slots)) parent dimension best 11 ⌝ }
 {
@@ -133,7 +136,8 @@ fn axis(
 
 fn three_axes(block: &[u32], handles: &[u32], ends: Bounds3, parent: Bounds3, best: Best) -> Bested
     ensures { λ r. ⌜ bested r ≡ (axisOf (now (block .entry)) (now (handles .entry)) ends parent 0 best then
-        λ b. axisOf (now (block .entry)) (now (handles .entry)) ends parent 1 b then λ b. axisOf (now (block .entry)) (now (handles .entry)) ends parent 2 b) ⌝ }
+        λ b. axisOf (now (block .entry)) (now (handles .entry)) ends parent 1 b then λ b. axisOf (now (block .entry))
+        (now (handles .entry)) ends parent 2 b) ⌝ }
 {
     match axis(block, handles, ends, parent, 0, best) {
         Bested::Found(best) => match axis(block, handles, ends, parent, 1, best) {

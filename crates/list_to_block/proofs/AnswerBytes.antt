@@ -14,12 +14,12 @@ use Rattle.words.proofs.AnswerLaws.{count-given, count-refused}
 use Rattle.words.proofs.LittleEndianLaws.{length-bytesOf}
 use Rattle.light_bounds.specs.declared.light_bounds.LightBounds.{LightBounds}
 use Rattle.light_rows.specs.Block.{blockWords, packExhaustiveBounds}
-use Rattle.lamps.specs.Build.{buildLightBounds}
+use Rattle.lamps.specs.BuildBounds.{buildLightBounds}
 use Rattle.lamps.proofs.BuildLaws.{length-block}
-use Rattle.lamp_laws.specs.ListLaws.{built-few}
+use Rattle.lamp_laws.specs.Laws.ListLaws.{built-few}
 use Rattle.text.specs.Text.{refusalLine}
 use Rattle.text.proofs.PutLaws.{refusal-short}
-use Rattle.words.specs.TrayLaws.{tray-front}
+use Rattle.words.specs.Laws.TrayLaws.{tray-front}
 use Rattle.list_to_block.specs.ListToBlock.{blockRoom, answered, answerBytes, converted}
 
 -- ---- room
@@ -41,7 +41,8 @@ pub converted-room : (list : List ℕ) (stray : ℕ) → length (converted list 
 unfolding converted answered
 converted-room list stray = go (crowded list) (eqb stray 0)
   where
-    go : (a b : Bool) → length (answerBytes (cond a (refused 2) (cond b (buildLightBounds list blockRoom) (refused 1)))) ≤ 4 * blockRoom
+    go : (a b : Bool) → length (answerBytes
+        (cond a (refused 2) (cond b (buildLightBounds list blockRoom) (refused 1)))) ≤ 4 * blockRoom
     go true b = refusal-room 2
     go false true = block-room list blockRoom
     go false false = refusal-room 1

@@ -1,2 +1,2 @@
 pub mod ListToBlock
-pub mod ListToBlockLaws
+pub mod Laws

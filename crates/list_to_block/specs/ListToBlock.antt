@@ -1,4 +1,4 @@
--- Document 01's lamp list to its bounds block, as bytes: `lampsToBlock` says what the program writes for what
+-- The lamp list to its bounds block (R4), as bytes: `lampsToBlock` says what the program writes for what
 -- it reads, little-endian words in and out, or a refusal's line. Definitions only. Assumes nothing.
 use Prim.Native.Nat.{ℕ, _%_}
 use mathlib.Core.Bool.{cond}
@@ -10,7 +10,7 @@ use Rattle.words.specs.Limits.{maxLamps, crowded}
 use Rattle.words.specs.LittleEndian.{wordsOf, bytesOf}
 use Rattle.light_bounds.specs.declared.light_bounds.LightBounds.{LightBounds}
 use Rattle.light_rows.specs.Block.{blockWords, packExhaustiveBounds}
-use Rattle.lamps.specs.Build.{buildLightBounds}
+use Rattle.lamps.specs.BuildBounds.{buildLightBounds}
 use Rattle.text.specs.Text.{refusalLine}
 
 -- room is lent for the block of as many lamps as a list may have

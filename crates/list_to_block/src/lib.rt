@@ -1,15 +1,15 @@
-// A lamp list on standard input, its bounds block on standard output (specs/ListToBlock.antt): little-endian words
-// in, little-endian words out; or `refused N` and a line's end. Bytes that are no whole word make the list ragged
-// (1), unless it is over the limits (2). A program leaves no checked modules for its wrong programs, so all of it stands
-// in this library and `lamps_to_block` only calls it.
+// A lamp list on standard input, its bounds block on standard output (specs/ListToBlock.antt): little-endian words in,
+// little-endian words out; or `refused N` and a line's end. Bytes that are no whole word make the list ragged (1),
+// unless it is over the limits (2). A program leaves no checked modules for its wrong programs, so all of it stands in
+// this library and `lamps_to_block` only calls it.
 ghost use mathlib.Core.Path.{_≡_};
 ghost use Prim.Native.Nat.{_≤_};
 ghost use lib.ListN.{length};
 ghost use lib.Seq.{sets};
-ghost use Rattle.lamps.specs.Build.{buildLightBounds};
+ghost use Rattle.lamps.specs.BuildBounds.{buildLightBounds};
 ghost use Rattle.list_to_block.specs.ListToBlock.{blockRoom, answerBytes, converted};
+use lamps::build_bounds::build_light_bounds;
 use light_rows::block::EXHAUSTIVE_BOUNDS_WORDS;
-use lamps::build::build_light_bounds;
 use text::put_refused;
 use text::put_words;
 use words::answers::Counted;
@@ -60,7 +60,7 @@ struct Input {
 }
 
 // Reads standard input, a chunk at a time, until it ends or the list has no room for another chunk: then it is
-// over 2^20 words, and what was read tells as much as all of it (specs/ListToBlockLaws.antt).
+// over 2^20 words, and what was read tells as much as all of it (specs/Laws/ListToBlockLaws.antt).
 fn read_list(list: &mut [u32], chunk: &mut [u8]) -> Input
     requires { ⌜ 4 ≤ length (now chunk) ⌝ }
     ensures { λ r. ⌜ r .words ≤ length (now (list .entry)) ⌝ }
@@ -116,8 +116,8 @@ fn lend(
     run(list, block, chunk, out);
 }
 
-// The program `lamps_to_block`, whole; all of its room is on the stack: 4.6 MiB. It gives nothing back: what it hands to
-// standard output is what `write` asks for.
+// The program `lamps_to_block`, whole; all of its room is on the stack: 4.6 MiB. It gives nothing back: what it hands
+// to standard output is what `write` asks for.
 pub fn lamps_to_block()
     ensures { λ r. ⌜ r ≡ tt ⌝ }
 {

@@ -15,7 +15,7 @@ use Rattle.words.specs.Fill.{filled}
 use Rattle.words.specs.Heads.{kindOf}
 use Rattle.words.specs.LittleEndian.{bytesOf, bytesOfWord, setWord, wordsOf}
 use Rattle.words.specs.Tray.{tray}
-use Rattle.words.specs.TrayLaws.{tray-full, tray-early}
+use Rattle.words.specs.Laws.TrayLaws.{tray-full, tray-early}
 use Rattle.words.proofs.AnswerLaws.{Early, Late, then-given, only-given, only-refused, only-cond, only-then}
 use Rattle.words.proofs.AnswerLaws.{only-number, not-both, given-injective}
 use Rattle.words.proofs.LittleEndianLaws.{length-bytesOf, bytesOf-append}
@@ -31,14 +31,15 @@ use Rattle.light_bounds.specs.declared.bounds.Bounds3.{Bounds3}
 use Rattle.light_bounds.specs.declared.light_bounds.LightBounds.{LightBounds}
 use Rattle.light_bounds.specs.declared.vecmath.Vec3.{Vec3}
 use Rattle.light_bounds.proofs.LateLaws.{late-validate, late-box}
-use Rattle.light_rows.specs.Nodes.{LightBVHNode, leaf, interior, invalidIndex, parent, nodePlace, boundsPlace, nodeAt, nodeOf, boundsAt, nodeCount}
+use Rattle.light_rows.specs.Nodes.{LightBVHNode, leaf, interior, invalidIndex, parent, nodePlace}
+use Rattle.light_rows.specs.Nodes.{boundsPlace, nodeAt, nodeOf, boundsAt, nodeCount}
 use Rattle.light_rows.specs.Nodes.{nodeBytes, maxNodes}
 use Rattle.packed_bvh.specs.Packed.{indexMax, payload, payloadWord, compactWords, payloadCheck, parentCheck}
 use Rattle.packed_bvh.specs.Packed.{leftCheck, packNode, packNodes, header}
 use Rattle.packed_bvh.specs.Packed.{headerWords, packedNodeWords, packedPlace, packedReserve}
 use Rattle.packed_bvh.specs.Packed.{packCheck, agreed, packedTree, packLightBvh, packedBytes, bytesReserve}
 use Rattle.packed_bvh.specs.Packed.{wordsPacked}
-use Rattle.packed_bvh.specs.PackedParts.{placing, packBounds, packPlaced}
+use Rattle.packed_bvh.specs.AsCoded.PackedParts.{placing, packBounds, packPlaced}
 
 -- ---- words behind words
 
@@ -63,7 +64,10 @@ words-one {d} {p} {ws} {l} {m} {v} {w} {q} h e is place room =
     ap (sets d (4 * p)) (bytesOf-append ws (w ∷ []))
     ∙ sets-append d (4 * p) (bytesOf ws) (bytesOf (w ∷ []))
     ∙ ap (λ (k : ℕ). sets (sets d (4 * p) (bytesOf ws)) k (bytesOfWord w)) at in
-    record { is = e ∙ ap (setWord l q) is ∙ put ∙ ap (λ (z : List ℕ). sets z (4 * q) (bytesOfWord w)) (h .is) ∙ sym all }
+    record {
+      is = e ∙ ap (setWord l q) is ∙ put ∙ ap (λ (z : List ℕ). sets z (4 * q) (bytesOfWord w)) (h .is) ∙
+          sym all;
+    }
 
 -- ---- a node
 
@@ -92,7 +96,8 @@ node-placed count all ws i n e = rw e (record-of (boundsAt ws i))
     unit b (refused k) = refl
 
     valid : (b : LightBounds) (x : Answer (Unit {0}))
-        → (x then λ _. normalizeByDivision (b .direction) then λ (d : Vec3). payloadCheck n then λ _. parentCheck count n then λ _. leftCheck i n then λ _.
+        → (x then λ _. normalizeByDivision (b .direction) then λ (d : Vec3). payloadCheck n then λ _. parentCheck count
+        n then λ _. leftCheck i n then λ _.
         given (compactWords all b d (payloadWord n) (parent n)))
         ≡ (x then λ _. packBounds all b (placing count i n))
     valid b (given u) = unit b (normalizeByDivision (b .direction))
@@ -374,7 +379,11 @@ module _ (nodes : List ℕ) (k : ℕ) (all : Option Bounds3) (before : List ℕ)
   unfolding packLightBvh _then_
   outcome-early j e =
       let is : packLightBvh nodes k all (length before) ≡ refused j = rw e in
-      rw is (refl, sym (tray-early packedBytes (bytesReserve nodes) before j (only-number (early-check nodes (length before)) e)))
+      rw is (
+        refl,
+        sym (tray-early packedBytes (bytesReserve nodes) before j
+            (only-number (early-check nodes (length before)) e)),
+      )
 
   module _ (n : ℕ) (h : packCheck nodes (length before) ≡ given n) where
     pub outcome-late : {a : Answer (Option ℕ)} {after : List ℕ} (j : ℕ) → agreed n k all ≡ refused j → a ≡ refused j

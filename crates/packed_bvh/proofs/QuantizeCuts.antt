@@ -11,8 +11,8 @@ use lib.Ieee.Fits.{mul-fits}
 use Rattle.ieee.specs.Single.{_⊕_, _⊗_, _⊘_, half, onef, twof}
 use Rattle.ieee.specs.Whole.{roundAway, toU16, toU32}
 use Rattle.packed_bvh.specs.Quantize.{lastStep, lastCosStep, stepsOf, quantizeBounds, quantizeCos, quantizeAxis}
-use Rattle.packed_bvh.specs.QuantizeLaws.{steps-fit, quantize-small}
-use Rattle.ieee.specs.CutLaws.{cut-floor, cut-ceil, cut-round, cut-least}
+use Rattle.packed_bvh.specs.Laws.QuantizeLaws.{steps-fit, quantize-small}
+use Rattle.ieee.specs.Laws.CutLaws.{cut-floor, cut-ceil, cut-round, cut-least}
 
 -- ---- coordinates, on an axis with extent
 

@@ -1,5 +1,5 @@
 pub mod Quantize
 pub mod Packed
-pub mod QuantizeLaws
-pub mod PackedParts
 pub mod PackedRead
+pub mod AsCoded
+pub mod Laws

@@ -1,4 +1,4 @@
--- `pack_light_bvh` of `webgpu/light_bvh.rs`, in document 01's order: 2, 1, 3, then the Rust's. A header, the overall
+-- `pack_light_bvh` of `webgpu/light_bvh.rs`, in R9's order: 2, 1, 3, then the Rust's. A header, the overall
 -- box's corners, and so many words a node. Definitions only. Assumes nothing.
 use Prim.Native.Nat.{ℕ, zero, suc, _+_, _*_, _/_}
 use mathlib.Core.Bool.{true, false, cond, _&&_, _||_}
@@ -17,7 +17,8 @@ use Rattle.light_bounds.specs.Vecmath.{normalizeByDivision}
 use Rattle.light_bounds.specs.declared.bounds.Bounds3.{Bounds3}
 use Rattle.light_bounds.specs.declared.light_bounds.LightBounds.{LightBounds}
 use Rattle.light_bounds.specs.declared.vecmath.Vec3.{Vec3}
-use Rattle.light_rows.specs.Nodes.{LightBVHNode, leaf, interior, invalidIndex, parent, nodeBytes, nodeCount, nodeAt, boundsAt}
+use Rattle.light_rows.specs.Nodes.{LightBVHNode, leaf, interior, invalidIndex, parent}
+use Rattle.light_rows.specs.Nodes.{nodeBytes, nodeCount, nodeAt, boundsAt}
 use Rattle.packed_bvh.specs.Quantize.{quantizeBounds, quantizeCos, encodeOctahedral}
 use Rattle.packed_bvh.specs.declared.pack.Packed.{Packed}
 use Rattle.packed_bvh.specs.declared.pack.Packed.the-variants.{Words, Nothing, Refused}

@@ -31,7 +31,15 @@ pub record StepBox : Type 0 where
 -- of three words, two numbers of sixteen bits each
 unfoldable pub readBox : ℕ → ℕ → ℕ → StepBox
 readBox u v w =
-    record { min-x = u % 0x1_0000; min-y = u / 0x1_0000; min-z = v % 0x1_0000; max-x = v / 0x1_0000; max-y = w % 0x1_0000; max-z = w / 0x1_0000 }
+    record {
+      min-x = u % 0x1_0000;
+      min-y = u / 0x1_0000;
+      min-z = v % 0x1_0000;
+      max-x = v / 0x1_0000;
+      max-y = w %
+          0x1_0000;
+      max-z = w / 0x1_0000;
+    }
 
 -- of the node at a place of packed words
 abbrev pub boxAt : List ℕ → ℕ → StepBox

@@ -1,5 +1,5 @@
 -- Numbers packed into sixteen and fifteen bits, as `webgpu/light_bvh.rs` packs them: coordinates within the overall
--- box, cosines, directions; and a packed direction read back as document 01 reads it. Definitions only. Assumes
+-- box, cosines, directions; and a packed direction read back as R9.9 reads it. Definitions only. Assumes
 -- nothing.
 use Prim.Native.Nat.{ℕ}
 use mathlib.Core.Bool.{Bool, cond}

@@ -18,7 +18,8 @@ ghost use Rattle.packed_bvh.specs.Packed.{paired, coneWord, compactWords
 ghost use Rattle.packed_bvh.specs.Packed.{packCheck};
 ghost use Rattle.packed_bvh.specs.Packed.{packedTree, packLightBvh, packedBytes, bytesReserve, wordsPacked};
 ghost use Rattle.packed_bvh.specs.Packed.{packed};
-ghost use Rattle.packed_bvh.specs.PackedParts.{compactList, placing, placed, packBounds, packPlaced, nodePacked};
+ghost use Rattle.packed_bvh.specs.AsCoded.PackedParts.{compactList, placing, placed};
+ghost use Rattle.packed_bvh.specs.AsCoded.PackedParts.{packBounds, packPlaced, nodePacked};
 use super::quantize::octahedral;
 use super::quantize::quantize_axis;
 use super::quantize::quantize_cos;

@@ -1,5 +1,5 @@
-// What only the differential runs and the benchmarks call, for C and Rust: plain numbers, slices as a pointer and a length, answers as words. What a renderer
-// calls is in light_c.
+// What only the differential runs and the benchmarks call, for C and Rust: plain numbers, slices as a pointer and a
+// length, answers as words. What a renderer calls is in light_c.
 ghost use mathlib.Core.Path.{_≡_};
 ghost use Prim.Native.Nat.{ℕ, _*_, _/_, _≤_};
 ghost use lib.Ieee.{binary32, binary64, ofBits, toBits};
@@ -19,7 +19,7 @@ ghost use Rattle.light_bounds.specs.LightBounds.{union as unionOf};
 ghost use Rattle.light_rows.specs.RecordWords.{recordList, recordWords};
 ghost use Rattle.light_rows.specs.Block.{blockCheck};
 ghost use Rattle.light_c.specs.Codes.{valueCode};
-ghost use Rattle.parts_c.specs.Codes.{countCode, validateWords, importanceWords, unionWords};
+ghost use Rattle.parts_c.specs.PartCodes.{countCode, validateWords, importanceWords, unionWords};
 use light_bounds::bounds::Validity;
 use light_bounds::importance::Weight;
 use light_bounds::importance::importance;
@@ -218,7 +218,8 @@ pub extern "C" fn words_word_count(bytes: &[u8]) -> usize
 #[no_mangle]
 pub extern "C" fn words_words_of_bytes(bytes: &[u8], words: &mut [u32]) -> u32
     ensures { λ r. ⌜ r ≡ code (readWords (now (bytes .entry)) (length (now (words .entry)))) ⌝ }
-    ensures { λ _. ⌜ now (words .exit) ≡ tray (λ (n : ℕ). wordsOf (now (bytes .entry))) (length (now (bytes .entry)) / 4)
+    ensures { λ _. ⌜ now (words .exit) ≡
+        tray (λ (n : ℕ). wordsOf (now (bytes .entry))) (length (now (bytes .entry)) / 4)
         (readWords (now (bytes .entry)) (length (now (words .entry)))) (now (words .entry)) ⌝ }
 {
     counted_code(words::little_endian::words_of_bytes(bytes, words))
@@ -227,7 +228,8 @@ pub extern "C" fn words_words_of_bytes(bytes: &[u8], words: &mut [u32]) -> u32
 #[no_mangle]
 pub extern "C" fn words_bytes_of_words(words: &[u32], bytes: &mut [u8]) -> u32
     ensures { λ r. ⌜ r ≡ code (writtenWords (now (words .entry)) (length (now (bytes .entry)))) ⌝ }
-    ensures { λ _. ⌜ now (bytes .exit) ≡ tray (λ (n : ℕ). bytesOf (now (words .entry))) (4 * length (now (words .entry)))
+    ensures { λ _. ⌜ now (bytes .exit) ≡
+        tray (λ (n : ℕ). bytesOf (now (words .entry))) (4 * length (now (words .entry)))
         (writtenWords (now (words .entry)) (length (now (bytes .entry)))) (now (bytes .entry)) ⌝ }
 {
     counted_code(words::little_endian::bytes_of_words(words, bytes))
@@ -328,7 +330,8 @@ fn write_union(a: LightBounds, b: LightBounds, out: &mut [u32]) -> u32
 #[no_mangle]
 pub extern "C" fn bounds_union(a: &[u32], b: &[u32], out: &mut [u32]) -> u32
     ensures { λ r. ⌜ r ≡ code (unionWords (now (a .entry)) (now (b .entry)) (length (now (out .entry)))) ⌝ }
-    ensures { λ _. ⌜ now (out .exit) ≡ tray recordList recordWords (unionWords (now (a .entry)) (now (b .entry)) (length (now (out .entry))))
+    ensures { λ _. ⌜ now (out .exit) ≡
+        tray recordList recordWords (unionWords (now (a .entry)) (now (b .entry)) (length (now (out .entry))))
         (now (out .entry)) ⌝ }
 {
     match read_record(a, 0) {

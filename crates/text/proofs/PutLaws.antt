@@ -14,12 +14,13 @@ use Rattle.io.specs.Digits.{digits, glyph}
 use Rattle.words.specs.Answers.{Answer, given, refused}
 use Rattle.words.specs.LittleEndian.{bytesOf, writtenWords}
 use Rattle.words.specs.Tray.{tray}
-use Rattle.words.specs.TrayLaws.{tray-full, tray-early}
+use Rattle.words.specs.Laws.TrayLaws.{tray-full, tray-early}
 use Rattle.words.proofs.AnswerLaws.{given-injective, refused-injective, not-both}
 use Rattle.words.proofs.LittleEndianLaws.{length-bytesOf}
 use Rattle.words.proofs.Stores.{sets-append}
-use Rattle.text.specs.Text.{placesIn, places, decimalBytes, hexBytes, refusedBytes, refusalLine, fitting, Put}
-use Rattle.text.specs.TextLaws.{places-few}
+use Rattle.text.specs.Text.{placesIn, places, decimalBytes, hexBytes, refusedBytes, refusalLine}
+use Rattle.text.specs.AsCoded.Puts.{fitting, Put}
+use Rattle.text.specs.Laws.TextLaws.{places-few}
 
 pub length-digits : (b k n : ℕ) → length (digits b k n) ≡ k
 length-digits b zero n = refl

@@ -1,12 +1,9 @@
 -- What the programs write, in ASCII: a word in decimal, without leading zeros, and in eight hexadecimal digits;
 -- and a refusal, which has a line of its own. Definitions only. Assumes nothing.
 use Prim.Native.Nat.{ℕ, zero, suc, _+_, _/_}
-use mathlib.Core.Path.{_≡_}
 use mathlib.Core.Bool.{cond}
 use mathlib.Core.List.{List, [], _∷_, _++_}
-use lib.Dec.{leb, ltb}
-use lib.ListN.{length}
-use lib.Seq.{sets}
+use lib.Dec.{ltb}
 use Rattle.io.specs.Digits.{digits}
 
 -- how many decimal digits n has, where they are no more than one and as many again as the first number says
@@ -34,14 +31,3 @@ refusedBytes = 114 ∷ 101 ∷ 102 ∷ 117 ∷ 115 ∷ 101 ∷ 100 ∷ 32 ∷ []
 -- a refusal's line, by its number
 unfoldable pub refusalLine : ℕ → List ℕ
 refusalLine n = refusedBytes ++ decimalBytes n ++ newline
-
--- ---- as the code has it
-
--- text where a slice has room for all of it at a place; else none
-unfoldable pub fitting : List ℕ → ℕ → List ℕ → List ℕ
-fitting before at text = cond (leb (at + length text) (length before)) text []
-
--- text stands at a place, and `end` is the place behind it
-pub record Put (before : List ℕ) (at : ℕ) (text after : List ℕ) (end : ℕ) : Type 0 where
-  pub is : after ≡ sets before at text
-  pub past : end ≡ at + length text

@@ -1,13 +1,4 @@
-pub mod StretchLaws
 pub mod SortingBuild
-pub mod SortLaws
-pub mod BuiltTrees
-pub mod RecordsOfTree
-pub mod LeafLaws
-pub mod PlaceLaws
-pub mod AcceptedTree
 pub mod TreeWords
-pub mod StandingTree
-pub mod StandingLaws
-pub mod NodeLaws
-pub mod ByteLaws
+pub mod AsCoded
+pub mod Laws

@@ -1,12 +1,12 @@
--- What demand 3 says of the nodes and the handle table that build leaves, as document 01's last paragraph of the
--- Agreement explains it; light_runs DemandWords has the words on draws. Definitions only. Assumes nothing.
+-- What demand 3 says of the nodes and the handle table that build leaves, as docs/REQUIREMENTS.md R8
+-- explains it; light_runs DemandWords has the words on draws. Definitions only. Assumes nothing.
 use Prim.Native.Nat.{ℕ, zero, suc, _+_}
 use mathlib.Core.Path.{_≡_}
 use mathlib.Core.Bool.{cond}
 use mathlib.Core.List.{List, [], _∷_, _++_}
 use lib.ListN.{getD}
 use Rattle.words.specs.Answers.{Answer, given, refused}
-use Rattle.light_bounds.specs.BoundsLaws.{Holds}
+use Rattle.light_bounds.specs.Laws.BoundsLaws.{Holds}
 use Rattle.light_bounds.specs.declared.light_bounds.LightBounds.{LightBounds}
 use Rattle.light_rows.specs.Nodes.{LightBVHNode, leaf, interior, invalidIndex, nodeAt, boundsAt}
 use Rattle.light_bvh.specs.Build.{LightBVH, isPowered, tableWritten}

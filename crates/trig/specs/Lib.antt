@@ -1,3 +1,3 @@
 pub mod Series
 pub mod Trig
-pub mod TrigLaws
+pub mod Laws

@@ -1,5 +1,5 @@
--- The series under cos, sin, acos and asin, in f64 steps of one rounding each, as document 01 writes them. The coefficients are whole numbers, which f64
--- holds. Definitions only. Assumes nothing.
+-- The series under cos, sin, acos and asin, in f64 steps of one rounding each, as R2.9 and R2.10 write them. The
+-- coefficients are whole numbers, which f64 holds. Definitions only. Assumes nothing.
 use Prim.Native.Nat.{ℕ, zero, suc, _+_, _-_, _*_}
 use lib.IntN.{pos}
 use lib.Ieee.{Float, binary64, ofBits, ofInt, add, sub, mul, div}
@@ -25,7 +25,9 @@ series s z = turns (seriesStep s z) 20 one64
 
 -- P becomes 1 + P × ((z × (2m - 1)²) / (2m (2m + 1)))
 unfoldable pub arcStep : Float → ℕ → Float → Float
-arcStep z m p = add binary64 one64 (mul binary64 p (div binary64 (mul binary64 z (number ((2 * m - 1) * (2 * m - 1)))) (number (2 * m * (2 * m + 1)))))
+arcStep z m p =
+    add binary64 one64 (mul binary64 p
+    (div binary64 (mul binary64 z (number ((2 * m - 1) * (2 * m - 1)))) (number (2 * m * (2 * m + 1)))))
 
 -- K(x) = x × P, for sizes up to about a half
 unfoldable pub arc : Float → Float

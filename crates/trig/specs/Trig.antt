@@ -1,5 +1,5 @@
--- cos, sin, acos and asin of an f32, as document 01 writes them: X is the argument widened, which is the same value, and results narrow to f32.
--- Definitions only. Assumes nothing.
+-- cos, sin, acos and asin of an f32, as R2.9 to R2.13 write them: X is the argument widened, which is the same value,
+-- and results narrow to f32. Definitions only. Assumes nothing.
 use mathlib.Core.Bool.{cond}
 use lib.Ieee.{Float, nan, binary64, ofBits, neg, sub, mul, div, lt, le}
 use Rattle.ieee.specs.Choose.{fabs}
@@ -7,7 +7,7 @@ use Rattle.ieee.specs.Narrow.{narrow}
 use Rattle.ieee.specs.Sqrt.{sqrt}
 use Rattle.trig.specs.Series.{one64, series, arc}
 
--- 8, a half, 2, and document 01's π and π/2
+-- 8, a half, 2, and R2.13's π and π/2
 abbrev pub eight : Float
 eight = ofBits binary64 0x4020_0000_0000_0000
 
@@ -38,7 +38,8 @@ twiceArc y = mul binary64 two64 (arc (sqrt binary64 (div binary64 (sub binary64 
 unfoldable pub acos : Float → Float
 acos x =
     cond (le (fabs x) one64)
-    (narrow (cond (le (fabs x) half) (sub binary64 halfPi (arc x)) (cond (lt half x) (twiceArc x) (sub binary64 pi (twiceArc (neg x))))))
+    (narrow (cond (le (fabs x) half) (sub binary64 halfPi (arc x))
+    (cond (lt half x) (twiceArc x) (sub binary64 pi (twiceArc (neg x))))))
     nan
 
 -- "K(X) up to 0.5, else π/2 - 2 × K(sqrt((1-|X|)/2)) with X's sign"
@@ -46,4 +47,6 @@ abbrev pub withSign : Float → Float → Float
 withSign x v = cond (lt x (ofBits binary64 0)) (neg v) v
 
 unfoldable pub asin : Float → Float
-asin x = cond (le (fabs x) one64) (narrow (cond (le (fabs x) half) (arc x) (withSign x (sub binary64 halfPi (twiceArc (fabs x)))))) nan
+asin x =
+    cond (le (fabs x) one64) (narrow
+    (cond (le (fabs x) half) (arc x) (withSign x (sub binary64 halfPi (twiceArc (fabs x)))))) nan

@@ -1,4 +1,5 @@
-// cos, sin, acos and asin of an f32, as document 01 writes them: series in f64 steps, narrowed. The definitions are specs/Series.antt and specs/Trig.antt.
+// cos, sin, acos and asin of an f32, as R2.9 to R2.13 write them: series in f64 steps, narrowed. The definitions are
+// specs/Series.antt and specs/Trig.antt.
 ghost use mathlib.Core.Path.{_≡_};
 ghost use Prim.Native.Nat.{_≤_};
 ghost use Rattle.trig.specs.Series.{series as seriesOf, seriesStep, arc as arcOf, arcStep};
@@ -89,7 +90,8 @@ pub fn sin(x: f32) -> f32
     }
 }
 
-// NaN beyond 1 on either side. Cones are often a point, a half or a whole sphere, whose arcs are known; a quarter turn's cosine is rounded to -4.3711388e-8.
+// NaN beyond 1 on either side. Cones are often a point, a half or a whole sphere, whose arcs are known; a quarter
+// turn's cosine is rounded to -4.3711388e-8.
 pub fn acos(x: f32) -> f32
     ensures { λ r. ⌜ r ≡ acosOf x ⌝ }
 {

@@ -6,10 +6,25 @@ use mathlib.Core.List.{List}
 use lib.ListN.{length}
 use Rattle.words.specs.Answers.{Answer, given, refused, _then_, count, code}
 
-pub then-assoc : {A B C : Type 0} (x : Answer A) (f : A → Answer B) (g : B → Answer C) → (x then f) then g ≡ x then (λ (a : A). f a then g)
+pub then-assoc : {A B C : Type 0} (x : Answer A) (f : A → Answer B) (g : B → Answer C) →
+    (x then f) then g ≡ x then (λ (a : A). f a then g)
 unfolding _then_
 then-assoc (given a) f g = refl
 then-assoc (refused n) f g = refl
+
+-- steps that are the same on whatever is given
+pub then-same : {A B : Type 0} (x : Answer A) (f g : A → Answer B) → ((a : A) → f a ≡ g a) → x then f ≡ x then g
+unfolding _then_
+then-same (given a) f g h = h a
+then-same (refused n) f g h = refl
+
+pub then-refused : {A B : Type 0} (x : Answer A) (f : A → Answer B) (n : ℕ) → x ≡ refused n → x then f ≡ refused n
+unfolding _then_
+then-refused x f n e = rw e
+
+pub then-is : {A B : Type 0} (x : Answer A) (f : A → Answer B) (a : A) → x ≡ given a → x then f ≡ f a
+unfolding _then_
+then-is x f a e = rw e
 
 -- ---- which refusals
 
@@ -39,7 +54,8 @@ module _ {P : ℕ → Type 0} where
   only-cond true h k = h
   only-cond false h k = k
 
-  pub only-then : {A B : Type 0} {x : Answer A} {f : A → Answer B} → Only P x → ((a : A) → Only P (f a)) → Only P (x then f)
+  pub only-then : {A B : Type 0} {x : Answer A} {f : A → Answer B} → Only P x → ((a : A) → Only P (f a)) →
+      Only P (x then f)
   unfolding _then_
   only-then {x = given a} h k = k a
   only-then {x = refused n} h k = record { number = h .number }
@@ -72,7 +88,8 @@ module _ {A : Type 0} {P : A → Type 0} where
   gives-value h e = subst (Gives P) e h .value
 
   -- by the last step, on what the one before gives
-  pub gives-then : {B : Type 0} {Q : B → Type 0} {x : Answer B} {f : B → Answer A} → Gives Q x → ((b : B) → Q b → Gives P (f b)) → Gives P (x then f)
+  pub gives-then : {B : Type 0} {Q : B → Type 0} {x : Answer B} {f : B → Answer A} → Gives Q x →
+      ((b : B) → Q b → Gives P (f b)) → Gives P (x then f)
   unfolding _then_
   gives-then {x = given b} h k = k b (h .value)
   gives-then {x = refused n} h k = record { value = tt }
@@ -81,6 +98,10 @@ module _ {A : Type 0} {P : A → Type 0} where
 pub gives-any : {A : Type 0} (x : Answer A) → Gives (λ (a : A). Unit {0}) x
 gives-any (given a) = gives tt
 gives-any (refused n) = gives-none
+
+pub gives-of : {A : Type 0} {P : A → Type 0} (x : Answer A) → ((a : A) → x ≡ given a → P a) → Gives P x
+gives-of (given a) h = gives (h a refl)
+gives-of (refused n) h = gives-none
 
 -- ---- given and refused apart
 
@@ -107,14 +128,27 @@ pub refused-injective : {A : Type 0} {m n : ℕ} → _≡_ {A = Answer A} (refus
 refused-injective e = ap numberOf e
 
 -- what was given was given step by step
-pub then-given : {A B : Type 0} (x : Answer A) (f : A → Answer B) (b : B) → x then f ≡ given b → (a : A) × (x ≡ given a) × (f a ≡ given b)
+pub then-given : {A B : Type 0} (x : Answer A) (f : A → Answer B) (b : B) → x then f ≡ given b →
+    (a : A) × (x ≡ given a) × (f a ≡ given b)
 unfolding _then_
 then-given (given a) f b e = (a, refl, e)
 then-given (refused n) f b e = absurd (not-both e refl)
 
+-- by a test: where it gives, and where it refuses
+pub cond-given : {A : Type 0} (b : Bool) (x : A) (n : ℕ) (y : A) → cond b (given x) (refused n) ≡ given y
+    → (b ≡ true) × (x ≡ y)
+cond-given true x n y e = (refl, given-injective e)
+cond-given false x n y e = absurd (not-both e refl)
+
+pub cond-kept : {A : Type 0} (b : Bool) (x : A) (n : ℕ) (y : A) → cond b (refused n) (given x) ≡ given y
+    → (b ≡ false) × (x ≡ y)
+cond-kept true x n y e = absurd (not-both e refl)
+cond-kept false x n y e = (refl, given-injective e)
+
 -- ---- counts
 
-pub count-given : {A : Type 0} (x : Answer (List A)) (n : ℕ) → count x ≡ given n → (l : List A) × (x ≡ given l) × (length l ≡ n)
+pub count-given : {A : Type 0} (x : Answer (List A)) (n : ℕ) → count x ≡ given n →
+    (l : List A) × (x ≡ given l) × (length l ≡ n)
 count-given (given l) n e = (l, refl, given-injective e)
 count-given (refused m) n e = absurd (not-both e refl)
 

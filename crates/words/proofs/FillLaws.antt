@@ -4,7 +4,8 @@ use mathlib.Core.Path.{_≡_, refl, _∙_}
 use mathlib.Core.List.{List, [], _∷_, _++_, append-assoc, append-nil}
 use native.Mathlib.Nat.{sub-self, le-refl}
 use native.Mathlib.Omega.{arith}
-use lib.ListN.{length, take, drop, set, replicate, length-append, length-take, length-replicate, length-set, replicate-append-replicate, take-append-drop}
+use lib.ListN.{length, take, drop, set, replicate, length-append}
+use lib.ListN.{length-take, length-replicate, length-set, replicate-append-replicate, take-append-drop}
 use Rattle.words.specs.Fill.{filled}
 use Rattle.words.proofs.Stores.{stored}
 
@@ -26,7 +27,8 @@ pub record Filling (s : List ℕ) (start i v : ℕ) (l : List ℕ) : Type 0 wher
 pub filling-none : {s : List ℕ} {start v : ℕ} → Filling s start start v s
 filling-none {start} = record { after = le-refl start; same = refl; is = simp (sub-self, append-nil, take-append-drop) }
 
-pub filling-one : {s l : List ℕ} {start i v : ℕ} → Filling s start i v l → i < length s → Filling s start (i + 1) v (set l i v)
+pub filling-one : {s l : List ℕ} {start i v : ℕ} → Filling s start i v l → i < length s →
+    Filling s start (i + 1) v (set l i v)
 filling-one {s} {l} {start} {i} {v} f h =
     let p = take start s ++ replicate (i - start) v in
     let e : i - start + 1 ≡ i + 1 - start = omega arith in
@@ -34,11 +36,18 @@ filling-one {s} {l} {start} {i} {v} f h =
       after = omega arith;
       same = length-set l i v ∙ f .same;
       is =
-          rw (f .is) (stored p s (v ∷ []) i (simp (length-append, length-take, length-replicate) (omega arith)) (omega arith)
-          ∙ rw (append-assoc (take start s) (replicate (i - start) v) (v ∷ []), replicate-append-replicate (i - start) 1 v, e));
+          rw (f .is) (stored p s (v ∷ []) i (simp (length-append, length-take, length-replicate) (omega arith))
+          (omega arith)
+          ∙ rw (
+            append-assoc (take start s) (replicate (i - start) v) (v ∷ []),
+            replicate-append-replicate (i - start) 1
+                v,
+            e,
+          ));
     }
 
-pub filling-all : {s l : List ℕ} {start end v : ℕ} (from to : ℕ) → Filling s start end v l → end ≡ min to (length s) → start ≡ min from end
+pub filling-all : {s l : List ℕ} {start end v : ℕ} (from to : ℕ) → Filling s start end v l → end ≡ min to (length s) →
+    start ≡ min from end
     → l ≡ filled s from to v
 unfolding filled
 filling-all from to f e e′ = f .is ∙ simp (append-assoc, ← e, ← e′)

@@ -9,7 +9,7 @@ use lib.Seq.{take-all}
 use Rattle.words.specs.Answers.{given, refused}
 use Rattle.words.specs.Fill.{filled}
 use Rattle.words.specs.Tray.{tray}
-use Rattle.words.specs.TrayLaws.{tray-full}
+use Rattle.words.specs.Laws.TrayLaws.{tray-full}
 use Rattle.words.proofs.FillLaws.{filled-within}
 use Rattle.words.proofs.Stores.{Copied}
 

@@ -1,5 +1,5 @@
--- Laws of rows, once for every width and every function that writes a row: length, what stands at a place, one row more, the loop that writes them; tests at
--- every place; and the state of a walk that gathers a list. Assumes nothing.
+-- Laws of rows, once for every width and every function that writes a row: length, what stands at a place, one row
+-- more, the loop that writes them; tests at every place; and the state of a walk that gathers a list. Assumes nothing.
 use Prim.Native.Nat.{ℕ, zero, suc, _+_, _*_, _-_, _≤_, _<_}
 use mathlib.Core.Path.{_≡_, refl, ap, subst, sym, _∙_}
 use mathlib.Core.Bool.{Bool, true, false, _&&_, and-false}
@@ -11,7 +11,8 @@ use lib.Dec.{T}
 use lib.ListN.{length, getD, drop, length-append}
 use lib.Seq.{sets, length-sets, sets-eq, drop-cons, drop-drop, drop-nil, drop-append-add}
 use Rattle.words.specs.Answers.{Answer, given, refused, _then_}
-use Rattle.words.specs.Rows.{rowsFrom, below, Walk, gathered}
+use Rattle.words.specs.Rows.{rowsFrom, below}
+use Rattle.words.specs.AsCoded.Walks.{Walk, gathered}
 use Rattle.words.proofs.Stores.{stored}
 
 -- ---- tests at every place
@@ -45,19 +46,22 @@ below-at test n i e h = go (test i) refl
 -- ---- rows
 
 module _ {A : Type 0} (row : ℕ → A → List ℕ) where
-  pub rows-snoc : (i : ℕ) (done : List A) (a : A) → rowsFrom row i (done ++ a ∷ []) ≡ rowsFrom row i done ++ row (i + length done) a
+  pub rows-snoc : (i : ℕ) (done : List A) (a : A) →
+      rowsFrom row i (done ++ a ∷ []) ≡ rowsFrom row i done ++ row (i + length done) a
   unfolding rowsFrom
   rows-snoc i [] a = let e : i + 0 ≡ i = omega arith in rw e (append-nil (row i a))
   rows-snoc i (d ∷ done) a =
       let e : suc i + length done ≡ i + suc (length done) = omega arith in
-      rw (rows-snoc (suc i) done a, e) (sym (append-assoc (row i d) (rowsFrom row (suc i) done) (row (i + suc (length done)) a)))
+      rw (rows-snoc (suc i) done a, e)
+      (sym (append-assoc (row i d) (rowsFrom row (suc i) done) (row (i + suc (length done)) a)))
 
   module _ (width : ℕ) (each : (i : ℕ) (a : A) → length (row i a) ≡ width) where
     pub rows-length : (i : ℕ) (xs : List A) → length (rowsFrom row i xs) ≡ width * length xs
     unfolding rowsFrom
     rows-length i [] = sym (mul-zero width)
     rows-length i (x ∷ xs) =
-        length-append (row i x) (rowsFrom row (suc i) xs) ∙ omega (arith, each i x, rows-length (suc i) xs, mul-suc width (length xs))
+        length-append (row i x) (rowsFrom row (suc i) xs) ∙
+        omega (arith, each i x, rows-length (suc i) xs, mul-suc width (length xs))
 
     pub rows-drop : (i k : ℕ) (xs : List A) → drop (width * k) (rowsFrom row i xs) ≡ rowsFrom row (i + k) (drop k xs)
     unfolding rowsFrom
@@ -70,7 +74,8 @@ module _ {A : Type 0} (row : ℕ → A → List ℕ) where
 
     -- what stands from row k on
     pub row-at : (i k : ℕ) (xs : List A) (d : A) → k < length xs
-        → drop (width * k) (rowsFrom row i xs) ≡ row (i + k) (getD xs k d) ++ rowsFrom row (suc (i + k)) (drop (suc k) xs)
+        → drop (width * k) (rowsFrom row i xs) ≡ row (i + k) (getD xs k d) ++
+        rowsFrom row (suc (i + k)) (drop (suc k) xs)
     unfolding rowsFrom
     row-at i k xs d h = rows-drop i k xs ∙ rw (drop-cons xs k d h)
 
@@ -79,7 +84,8 @@ module _ {A : Type 0} (row : ℕ → A → List ℕ) where
       pub same : length l ≡ length d
       pub is : l ≡ (head ++ rowsFrom row 0 done) ++ drop (length head + width * length done) d
 
-    front-length : (head : List ℕ) (done : List A) → length (head ++ rowsFrom row 0 done) ≡ length head + width * length done
+    front-length : (head : List ℕ) (done : List A) →
+        length (head ++ rowsFrom row 0 done) ≡ length head + width * length done
     front-length head done = length-append head (rowsFrom row 0 done) ∙ omega (arith, rows-length 0 done)
 
     pub written-none : (head d : List ℕ) → length head ≤ length d → Written head [] d (sets d 0 head)
@@ -89,7 +95,8 @@ module _ {A : Type 0} (row : ℕ → A → List ℕ) where
         let z : 0 + length head ≡ length head = omega arith in
         record { same = length-sets d 0 head; is = stored [] d head 0 refl (omega arith) ∙ rw (append-nil head, e, z) }
 
-    pub written-one : {head : List ℕ} {done : List A} {d l : List ℕ} (a : A) (at : ℕ) → Written head done d l → length head + width * length done ≡ at
+    pub written-one : {head : List ℕ} {done : List A} {d l : List ℕ} (a : A) (at : ℕ) → Written head done d l →
+        length head + width * length done ≡ at
         → at + width ≤ length d → Written head (done ++ a ∷ []) d (sets l at (row (length done) a))
     written-one {head} {done} {d} {l} a at w place room =
         let more : length (done ++ a ∷ []) ≡ suc (length done) = length-append done (a ∷ []) ∙ add-one (length done) in
@@ -97,7 +104,8 @@ module _ {A : Type 0} (row : ℕ → A → List ℕ) where
         let fit : at + length (row (length done) a) ≤ length d = omega (arith, each (length done) a) in
         let end : at + length (row (length done) a) ≡ length head + width * length (done ++ a ∷ []) =
         rw more (omega (arith, each (length done) a, mul-suc width (length done))) in
-        let put : sets l at (row (length done) a) ≡ head ++ rowsFrom row 0 done ++ row (length done) a ++ drop (at + length (row (length done) a)) d =
+        let put : sets l at (row (length done) a) ≡ head ++ rowsFrom row 0 done ++ row (length done) a ++
+        drop (at + length (row (length done) a)) d =
         ap (λ (x : List ℕ). sets x at (row (length done) a)) (w .is ∙ rw place)
         ∙ stored (head ++ rowsFrom row 0 done) d (row (length done) a) at (front-length head done ∙ place) fit in
         record {
@@ -106,19 +114,22 @@ module _ {A : Type 0} (row : ℕ → A → List ℕ) where
         }
 
     -- the head may as well be written before
-    pub written-under : {head : List ℕ} {done : List A} {l : List ℕ} (d : List ℕ) → Written head done (sets d 0 head) l → length head ≤ length d
+    pub written-under : {head : List ℕ} {done : List A} {l : List ℕ} (d : List ℕ) →
+        Written head done (sets d 0 head) l → length head ≤ length d
         → Written head done d l
     written-under {head} {done} {l} d w h =
         let n = length head + width * length done in
         let e : n ≡ length head + (n - length head) = omega arith in
         let z : 0 + length head ≡ length head = omega arith in
         let behind : drop n (sets d 0 head) ≡ drop n d =
-        rw (sets-eq head d 0 (omega arith), e, z) (drop-append-add head (drop (length head) d) (n - length head) ∙ drop-drop (n - length head)
+        rw (sets-eq head d 0 (omega arith), e, z)
+        (drop-append-add head (drop (length head) d) (n - length head) ∙ drop-drop (n - length head)
         (length head) d) in
         record { same = w .same ∙ length-sets d 0 head; is = w .is ∙ rw behind }
 
     -- what lies behind the rows stays
-    pub written-behind : {head : List ℕ} {done : List A} {d l : List ℕ} (n : ℕ) → Written head done d l → length head + width * length done ≤ n
+    pub written-behind : {head : List ℕ} {done : List A} {d l : List ℕ} (n : ℕ) → Written head done d l →
+        length head + width * length done ≤ n
         → drop n l ≡ drop n d
     written-behind {head} {done} {d} {l} n w h =
         let front = head ++ rowsFrom row 0 done in
@@ -155,12 +166,14 @@ module _ {A B : Type 0} (w : Walk A B) where
       record { within = omega arith; size = refl; is = rw e (behind-none (gathered w m first)) }
 
   -- one step, taken and not
-  stepped : (n at : ℕ) → 0 < n → gathered w n at ≡ w .step at then λ a. gathered w (n - 1) (w .past a) then λ bs. given (w .item a ∷ bs)
+  stepped : (n at : ℕ) → 0 < n →
+      gathered w n at ≡ w .step at then λ a. gathered w (n - 1) (w .past a) then λ bs. given (w .item a ∷ bs)
   unfolding gathered
   stepped zero at h = absurd (omega arith)
   stepped (suc n) at h = let e : suc n - 1 ≡ n = omega arith in rw e
 
-  snoc : (done : List B) (b : B) (x : Answer (List B)) → behind done (x then λ bs. given (b ∷ bs)) ≡ behind (done ++ b ∷ []) x
+  snoc : (done : List B) (b : B) (x : Answer (List B)) →
+      behind done (x then λ bs. given (b ∷ bs)) ≡ behind (done ++ b ∷ []) x
   unfolding _then_
   snoc done b (given rest) = ap given (sym (append-assoc done (b ∷ []) rest))
   snoc done b (refused n) = refl
@@ -173,13 +186,17 @@ module _ {A B : Type 0} (w : Walk A B) where
       record {
         within = omega arith;
         size = length-append done (w .item a ∷ []) ∙ ap (λ (n : ℕ). n + 1) (s .size);
-        is = rw (s .is, stepped (m - i) at (omega arith), e, e′) (snoc done (w .item a) (gathered w (m - (i + 1)) (w .past a)));
+        is =
+            rw (s .is, stepped (m - i) at (omega arith), e, e′)
+            (snoc done (w .item a) (gathered w (m - (i + 1)) (w .past a)));
       }
 
-  pub walked-refused : {m first i at n : ℕ} {done : List B} → Walked m first i at done → i < m → w .step at ≡ refused n → gathered w m first ≡ refused n
+  pub walked-refused : {m first i at n : ℕ} {done : List B} → Walked m first i at done → i < m →
+      w .step at ≡ refused n → gathered w m first ≡ refused n
   unfolding _then_
   walked-refused {m} {first} {i} {at} s h e = rw (s .is, stepped (m - i) at (omega arith), e)
 
-  pub walked-all : {m first i at : ℕ} {done : List B} → Walked m first i at done → m ≤ i → gathered w m first ≡ behind done (w .end at)
+  pub walked-all : {m first i at : ℕ} {done : List B} → Walked m first i at done → m ≤ i →
+      gathered w m first ≡ behind done (w .end at)
   unfolding gathered
   walked-all {m} {first} {i} s h = let e : m - i ≡ 0 = omega arith in rw (s .is, e)

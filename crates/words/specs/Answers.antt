@@ -1,5 +1,6 @@
--- What a definition answers: a value, or the number of a refusal of document 01's table "Refusals and trays".
--- Each enum that code returns is mapped to such an answer by a definition beside it, and the promises speak of the answer. Definitions only. Assumes nothing.
+-- What a definition answers: a value, or the number of a refusal (docs/REQUIREMENTS.md R11). Each enum that code
+-- returns is mapped to such an answer by a definition beside it, and the promises speak of the answer. Definitions
+-- only. Assumes nothing.
 use Prim.Native.Nat.{ℕ}
 use mathlib.Core.List.{List}
 use lib.ListN.{length}
@@ -12,7 +13,8 @@ pub data Answer (A : Type 0) : Type 0 where
   given : A → Answer A
   refused : ℕ → Answer A
 
--- The next step, on what was given. The first refusal ends the steps, so their order in a definition is the order of the checks.
+-- The next step, on what was given. The first refusal ends the steps, so their order in a definition is the order of
+-- the checks.
 unfoldable pub _then_ : {A B : Type 0} → Answer A → (A → Answer B) → Answer B
 _then_ (given a) next = next a
 _then_ (refused n) next = refused n

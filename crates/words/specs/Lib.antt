@@ -5,6 +5,7 @@ pub mod Heads
 pub mod LittleEndian
 pub mod Fill
 pub mod Tray
-pub mod TrayLaws
 pub mod Rows
 pub mod Lists
+pub mod Laws
+pub mod AsCoded

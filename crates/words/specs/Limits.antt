@@ -1,4 +1,4 @@
--- How much is taken: refusal 2 of document 01's table. Definitions only. Assumes nothing.
+-- How much is taken: refusal 2 (R11.2). Definitions only. Assumes nothing.
 use Prim.Native.Nat.{ℕ}
 use mathlib.Core.Bool.{Bool, _||_}
 use mathlib.Core.List.{List}

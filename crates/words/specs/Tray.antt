@@ -1,6 +1,7 @@
--- What a call leaves in a slice that was lent to it for output or work. Document 01 calls such a slice a tray, and the words of it that the call may
--- write its reserve. One rule serves every such slice: refusals 1 to 4 change nothing, any later refusal zeroes the reserve, acceptance writes what
--- it has to say and zeroes the rest of the reserve, and words past the reserve never change. Definitions only. Assumes nothing.
+-- What a call leaves in a slice that was lent to it for output or work. docs/REQUIREMENTS.md calls such a slice a tray
+-- (R12), and the words of it that the call may write its reserve. One rule serves every such slice: refusals 1 to 4
+-- change nothing, any later refusal zeroes the reserve, acceptance writes what it has to say and zeroes the rest of the
+-- reserve, and words past the reserve never change. Definitions only. Assumes nothing.
 use Prim.Native.Nat.{ℕ, _-_}
 use mathlib.Core.List.{List, _++_}
 use mathlib.Core.Bool.{cond}

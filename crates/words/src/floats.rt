@@ -1,4 +1,5 @@
-// Floats and their words. Every NaN pattern is read as the one NaN, and a NaN is written as 7fc00000, or 7ff8000000000000 at 64 bits.
+// Floats and their words. Every NaN pattern is read as the one NaN, and a NaN is written as 7fc00000, or
+// 7ff8000000000000 at 64 bits.
 ghost use mathlib.Core.Path.{_≡_};
 ghost use lib.Ieee.{binary32, binary64, ofBits, toBits};
 

@@ -56,10 +56,12 @@ pub fn set_word(bytes: &mut [u8], place: usize, w: u32)
     }
 }
 
-// Reads the words of bytes into a lent slice. A length that is no multiple of four is refusal 1, a slice that is too short for the words 3.
+// Reads the words of bytes into a lent slice. A length that is no multiple of four is refusal 1, a slice that is too
+// short for the words 3.
 pub fn words_of_bytes(bytes: &[u8], words: &mut [u32]) -> Counted
     ensures { λ r. ⌜ counted r ≡ readWords (now (bytes .entry)) (length (now (words .entry))) ⌝ }
-    ensures { λ _. ⌜ now (words .exit) ≡ tray (λ (n : ℕ). wordsOf (now (bytes .entry))) (length (now (bytes .entry)) / 4)
+    ensures { λ _. ⌜ now (words .exit) ≡
+        tray (λ (n : ℕ). wordsOf (now (bytes .entry))) (length (now (bytes .entry)) / 4)
         (readWords (now (bytes .entry)) (length (now (words .entry)))) (now (words .entry)) ⌝ }
 {
     if bytes.len() % 4 != 0 {
@@ -80,7 +82,8 @@ pub fn words_of_bytes(bytes: &[u8], words: &mut [u32]) -> Counted
 // Writes words as bytes into a lent slice, which is refused (3) where it is too short for them.
 pub fn bytes_of_words(words: &[u32], bytes: &mut [u8]) -> Counted
     ensures { λ r. ⌜ counted r ≡ writtenWords (now (words .entry)) (length (now (bytes .entry))) ⌝ }
-    ensures { λ _. ⌜ now (bytes .exit) ≡ tray (λ (n : ℕ). bytesOf (now (words .entry))) (4 * length (now (words .entry)))
+    ensures { λ _. ⌜ now (bytes .exit) ≡
+        tray (λ (n : ℕ). bytesOf (now (words .entry))) (4 * length (now (words .entry)))
         (writtenWords (now (words .entry)) (length (now (bytes .entry)))) (now (bytes .entry)) ⌝ }
 {
     let count = words.len();

@@ -1,4 +1,4 @@
-//! Cases known by hand: those that document 01 marks, limits, refusals and their sentences.
+//! Cases known by hand: those of docs/REQUIREMENTS.md R14, limits, refusals and their sentences.
 
 use light_tree::*;
 use std::error::Error;

@@ -1,4 +1,5 @@
-//! What the programs `run` and `bench` share: a table of parts, the help that is made from it, and how a part is called and ends.
+//! What the programs `run` and `bench` share: a table of parts, the help that is made from it, and how a part
+//! is called and ends.
 
 use std::process::ExitCode;
 
@@ -21,8 +22,8 @@ impl Part {
     }
 }
 
-/// Calls the part that the program's arguments name. The program ends with 0 where all is as it is to be, with 1 where something is not,
-/// and with 2 where the part could not be called.
+/// Calls the part that the program's arguments name. The program ends with 0 where all is as it is to be,
+/// with 1 where something is not, and with 2 where the part could not be called.
 pub fn main(program: &str, about: &str, parts: &[Part]) -> ExitCode {
     let arguments: Vec<String> = std::env::args().skip(1).collect();
     let all = || parts.iter().map(Part::help).collect::<String>();

@@ -1,4 +1,5 @@
-//! The differential runs of the gate: the proved cosines and arcs against document 01's, the proved bounds against the oracle.
+//! The differential runs of the gate: the proved cosines and arcs against document 01's, the proved bounds
+//! against the oracle.
 
 use trials::inputs::random::Random;
 use trials::proved;

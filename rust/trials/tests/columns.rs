@@ -1,4 +1,5 @@
-//! The light report: the program columns on good, bad and cut input, its lines against those of the proved draw and chance by name.
+//! The light report: the program columns on good, bad and cut input, its lines against those of the proved
+//! draw and chance by name.
 
 use trials::inputs::blocks::block_of;
 use trials::inputs::lists::BLOCK_RECORD;
@@ -184,7 +185,8 @@ fn refused_groups() {
     assert_eq!(agrees(&pair(), &groups), "0 3f000000 3f000000\nrefused 5\nrefused 11\n1 3f000000 3f000000\n");
 }
 
-/// Where a total is infinite the two chances part: the draw's share is no number, or is taken from one, and the name's is 0.
+/// Where a total is infinite the two chances part: the draw's share is no number, or is taken from one, and
+/// the name's is 0.
 #[test]
 fn columns_apart() {
     let lamp = |x: f32, phi: u32| all_about([x, 0.0, 0.0], [x, 0.0, 0.0], f32::from_bits(phi));

@@ -1,5 +1,5 @@
-//! Random rooms: what the crate `light_tree` answers against what the C functions answer to words that are laid out here once more, and
-//! pbrt-r4's names against the crate's own.
+//! Random rooms: what the crate `light_tree` answers against what the C functions answer to words that are
+//! laid out here once more, and pbrt-r4's names against the crate's own.
 
 use light_tree::pbrt::{self, LightBoundInput};
 use light_tree::{AliasTable, Lamp, LightTree, Refusal, Triangle, bounds_block, lamp_list};
@@ -117,7 +117,8 @@ fn build(block: &[u32]) -> Result<Built, u32> {
     Ok(Built { nodes: bytes(&nodes), table, k: k as usize, all })
 }
 
-/// The crate's tree against the C functions', with draws, chances and packing; and pbrt-r4's names. How many draws gave a lamp.
+/// The crate's tree against the C functions', with draws, chances and packing; and pbrt-r4's names. How many
+/// draws gave a lamp.
 fn compare(random: &mut Random, tree: &LightTree, bvh: &pbrt::LightBVH, built: &Built) -> usize {
     let Built { nodes, table, k, all } = built;
     assert_eq!((tree.node_bytes(), tree.handle_to_leaf(), tree.powered()), (&nodes[..], &table[..], *k));

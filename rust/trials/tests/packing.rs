@@ -1,5 +1,6 @@
 //! The differential runs of the gate: the proved packing against the oracle over built and damaged words.
-//! Document 01's marked cases and others known by hand are asked of the proved functions, and of the oracle where it is there.
+//! Document 01's marked cases and others known by hand are asked of the proved functions, and of the oracle
+//! where it is there.
 
 use trials::inputs::packing::{Case, Corners, Packed, reserve};
 use trials::inputs::trees::{INTERIOR, all_about};
@@ -9,7 +10,8 @@ use trials::runs::both::{build_light_bvh, pack_light_bvh};
 
 const NAN: u32 = 0x7fc0_0000;
 
-/// A tree with k and its box, as packing takes it, into bytes of its own that are a5 before, with some past the reserve.
+/// A tree with k and its box, as packing takes it, into bytes of its own that are a5 before, with some past
+/// the reserve.
 #[derive(Clone)]
 struct Tree {
     words: Words,
@@ -93,8 +95,8 @@ fn marked_cases() {
     }
 }
 
-/// The C function's own: how the box is handed over. Any mark but 0 says that it is there; without it the corners are not read, and it
-/// has no refusal before that of lengths.
+/// The C function's own: how the box is handed over. Any mark but 0 says that it is there; without it the
+/// corners are not read, and it has no refusal before that of lengths.
 #[test]
 fn box_by_value() {
     let Case { nodes, k, all, room } = Tree::pair().case();

@@ -1,9 +1,11 @@
-//! The oracle's stored answers, every list replayed by the proved functions with no need of the reference; what the reader of lists
-//! refuses; and, where the reference is there, the same cases answered again by the oracle.
+//! The oracle's stored answers, every list replayed by the proved functions with no need of the reference;
+//! what the reader of lists refuses; and, where the reference is there, the same cases answered again by the
+//! oracle.
 
 use trials::stored::{Answer, changed, read, stored};
 
-/// Ends the test where a case of a list is answered otherwise than it is stored, or where they are not so many as they are to be.
+/// Ends the test where a case of a list is answered otherwise than it is stored, or where they are not so
+/// many as they are to be.
 fn replay<A: Answer>(again: fn(&A) -> A) {
     let stored: Vec<A> = stored().unwrap();
     let differ = changed(&stored, again);
@@ -25,7 +27,8 @@ fn refused<A: Answer>(words: &[u32], behind: usize, why: &str) {
     assert!(said.contains(why), "{}: {said:?}, not {why:?}", A::LIST.part);
 }
 
-/// A list that is cut, a kind or a count that is not the part's, and words (their places given) that ask for more than a case has.
+/// A list that is cut, a kind or a count that is not the part's, and words (their places given) that ask for
+/// more than a case has.
 fn misfits<A: Answer>(lengths: &[usize]) {
     let (case, [first, last], words) = (first_case::<A>(), A::LIST.kinds, A::LIST.words as u32);
     let with = |place: usize, word: u32| {

@@ -1,6 +1,6 @@
-//! The renderer's swap: files of pbrt-r4 as they are, in which only `crate::gpu::flat` is ours, by one `use`. What they read of a tree
-//! they find; `webgpu/light_bvh.rs` packs it to the words that the proved packing gives, and `webgpu/light_sampler.rs` packs the same
-//! blocks and builds the same alias tables.
+//! The renderer's swap: files of pbrt-r4 as they are, in which only `crate::gpu::flat` is ours, by one `use`.
+//! What they read of a tree they find; `webgpu/light_bvh.rs` packs it to the words that the proved packing
+//! gives, and `webgpu/light_sampler.rs` packs the same blocks and builds the same alias tables.
 
 #[cfg(reference)]
 #[allow(dead_code, clippy::all)]

@@ -200,7 +200,8 @@ fn order_of_refusals() {
     assert_eq!(tree(&most).0.0, 4096);
 }
 
-/// The answer's own: of every length from 0 to 8, what is written of it, left and zeroed, by trees, without lamps or power, and refused.
+/// The answer's own: of every length from 0 to 8, what is written of it, left and zeroed, by trees, without
+/// lamps or power, and refused.
 #[test]
 fn answers() {
     let [first, second] = the_pair();
@@ -241,7 +242,8 @@ fn answers() {
     }
 }
 
-/// Two huge lamps in one bucket, in one half, and on either side of the cut that wins but together with a third lamp on one of another.
+/// Two huge lamps in one bucket, in one half, and on either side of the cut that wins but together with a
+/// third lamp on one of another.
 fn lost() -> [Vec<Record>; 3] {
     [
         vec![cube(0.0, HUGE), cube(0.0, HUGE), cube(0.0, 1.0), cube(9.0, 1.0)],
@@ -268,7 +270,8 @@ fn lost_unions() {
     assert_eq!(table(&four(1e20)), [2, 3, 5, 6]);
 }
 
-/// As many lamps as there may be, as many forks above the deepest as there can be: the stack that the proved build takes.
+/// As many lamps as there may be, as many forks above the deepest as there can be: the stack that the proved
+/// build takes.
 #[test]
 fn stack() {
     println!("4,095 forks on 2 MiB, a Rust thread's own size; 2,488 on 1 MiB");
@@ -326,7 +329,8 @@ trials::differential! {
         }
     }
 
-    /// Random blocks: every refusal and every branch is met, but for a branch that no block reaches and for unions of no power.
+    /// Random blocks: every refusal and every branch is met, but for a branch that no block reaches and for
+    /// unions of no power.
     fn trees() {
         let tally = trials::runs::trees::trees(0, 40_000);
         println!("trees: {tally}");

@@ -1,6 +1,6 @@
-//! The differential runs of the gate: the proved draws and chances by name against the oracle over built trees and damaged words; and
-//! the search for a violation of demand 3. What is known by hand is asked of the proved functions, and of the
-//! oracle where it is there.
+//! The differential runs of the gate: the proved draws and chances by name against the oracle over built
+//! trees and damaged words; and the search for a violation of demand 3. What is known by hand is asked of the
+//! proved functions, and of the oracle where it is there.
 
 use trials::inputs::records::{Query, Record, query_at};
 use trials::inputs::trees::all_about;
@@ -8,7 +8,8 @@ use trials::inputs::walks::{Chance, Drawn, MOST_NODES, NODE_BYTES, Tree, Words};
 use trials::runs::both::{build_light_bvh, importance, pmf, sample};
 use trials::runs::demand3::{SLIPS, Search, Slip, Violation};
 
-/// No violation on the proved build, draw and chance; one in each broken copy of the draw, of the kind that its slip makes.
+/// No violation on the proved build, draw and chance; one in each broken copy of the draw, of the kind that
+/// its slip makes.
 #[test]
 fn demand_3() {
     let search = Search::run(&trials::proved::sampler_sample, 0, 60_000, false);
@@ -278,7 +279,8 @@ fn cycles() {
     // a fork and the root, each the other's child
     let up = changed(&row, &[(fork, 1, 0), (0, 2, fork as u32), (0, 1, fork as u32)]);
     (0..6).for_each(|handle| named(&up.tree(), &query, handle, Err(12)));
-    // both children of each fork are the node behind it: every node is entered, and the chance, halved each time, ends at 0
+    // both children of each fork are the node behind it: every node is entered, and the chance, halved each
+    // time, ends at 0
     let mut chain = the_pair();
     chain.nodes.resize(MOST_NODES, chain.nodes[1]);
     (0..MOST_NODES - 1).for_each(|place| chain.nodes[place] = chain.nodes[0]);
@@ -322,8 +324,8 @@ trials::differential! {
         chances.check(&[0, 5, 6, 7, 8, 12], &["oracle: the"]);
     }
 
-    /// What the walks tell: a draw enters the nodes from the root to its lamp's leaf, and weighs at each but the last; the chance of that
-    /// lamp enters and weighs the same, leaf first.
+    /// What the walks tell: a draw enters the nodes from the root to its lamp's leaf, and weighs at each but
+    /// the last; the chance of that lamp enters and weighs the same, leaf first.
     fn told() {
         use trials::inputs::random::Random;
         use trials::oracle::walks::Decoded;

@@ -1,4 +1,5 @@
-//! The differential runs of the gate: words in slices, proved against std's, with all that lies about a slice held in view.
+//! The differential runs of the gate: words in slices, proved against std's, with all that lies about a slice
+//! held in view.
 
 use std::fmt::Debug;
 use trials::inputs::lent::{Lent, byte, word};

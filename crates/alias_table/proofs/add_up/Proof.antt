@@ -1,4 +1,5 @@
--- `alias_table::add_up` meets its contract: the sums of the weights passed go on to the sums of all, and a bad weight ends the pass. Assumes nothing.
+-- `alias_table::add_up`: the sums of the weights passed go on to the sums of all, and a bad weight ends the pass.
+-- Assumes nothing.
 use borrow.Author.Needs.{needs}
 use borrow.Author.Tests.{not-true, not-false}
 use Prim.Native.Nat.{_-_}
@@ -37,5 +38,7 @@ loop-again c =
 
 pub add-up-spec : {M : Type 1} → statement M
 add-up-spec =
-    tie.close (tie.spec Inv-loop μ-loop loop-holds (λ c. search needs) (λ c. search needs) (λ c κs. search needs) returns
-    (λ c κs. search needs) (λ c. omega arith) (λ c. omega arith) loop-again (λ c. sums-all (c .before .loop .inv) (omega arith)))
+    tie.close (tie.spec Inv-loop μ-loop loop-holds (λ c. search needs) (λ c. search needs) (λ c κs. search needs)
+    returns
+    (λ c κs. search needs) (λ c. omega arith) (λ c. omega arith) loop-again
+    (λ c. sums-all (c .before .loop .inv) (omega arith)))

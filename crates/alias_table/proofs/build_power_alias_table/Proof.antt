@@ -1,5 +1,5 @@
--- `alias_table::build_power_alias_table` meets its contract: its tests are the definition's, and where they pass the sums say which answer is left.
--- Assumes nothing.
+-- `alias_table::build_power_alias_table`: its tests are the definition's, and where they pass the sums say which answer
+-- is left. Assumes nothing.
 use borrow.Author.Needs.{needs}
 use borrow.Author.Tests.{lt-ltb, le-ltb, lt-leb, le-leb, ltb-true, ltb-false}
 use Prim.Native.Nat.{_*_}
@@ -13,7 +13,7 @@ use lib.ListN.{length}
 use Rattle.words.specs.Tray.{tray}
 use Rattle.words.proofs.Reserves.{tray-zeroed}
 use Rattle.alias_table.specs.AliasTable.{buildPowerAliasTable}
-use Rattle.alias_table.specs.Stacks.{Room}
+use Rattle.alias_table.specs.AsCoded.Stacks.{Room}
 use Rattle.alias_table.proofs.StackLaws.{length-binWords}
 use Rattle.alias_table.proofs.TableLaws.{answer-bad, answer-given, total-is, played-length}
 use Rattle.alias_table.proofs.build_power_alias_table.Statement.{statement}
@@ -36,13 +36,20 @@ returns-2 c =
 -- the tests have passed
 room : (c : tie.Else3) → let args = c .before .before .before .before .before .before .args in
     Room (length (now (args .weights))) (now (args .bins)) (now (args .work))
-room c = record { few = c .before .before .if1 .left; bins-room = c .before .if2 .left; work-room = ltb-false _ _ (c .if3 .left) }
+room c =
+    record {
+      few = c .before .before .if1 .left;
+      bins-room = c .before .if2 .left;
+      work-room = ltb-false _ _
+          (c .if3 .left);
+    }
 
 build-requires : tie.Need-build-requires
 build-requires c κs =
     let told = c .before .before .before .before in (
       room (told .before .before .before),
-      c .before .before .total .ensures ∙ total-is _ _ _ (sym (told .s .given .1) ∙ told .before .before .add-up .ensures),
+      c .before .before .total .ensures ∙
+          total-is _ _ _ (sym (told .s .given .1) ∙ told .before .before .add-up .ensures),
     )
 
 returns-3 : tie.Need-returns-3
@@ -65,13 +72,17 @@ returns-4 c =
     rw (answer-bad _ r (sym (told .enum-told .given .1) ∙ told .before .before .add-up .ensures)) (
       refl,
       (
-        c .before .before .before .before .before .before .zero-words .ensures ∙ tray-zeroed _ _ _ _ 8 (r .bins-room) refl (omega arith),
+        c .before .before .before .before .before .before .zero-words .ensures ∙
+            tray-zeroed _ _ _ _ 8 (r .bins-room) refl (omega arith),
         c .before .before .zero-words2 .ensures ∙ tray-zeroed _ _ _ _ 8 (r .work-room) refl (omega arith),
       ),
     )
 
 pub build-power-alias-table-spec : {M : Type 1} → statement M
 build-power-alias-table-spec =
-    tie.close (tie.spec returns (λ c. search needs) (λ c. search needs) returns-2 (λ c κs. search needs) (λ c. search needs)
-    (λ c κs. search needs) build-requires (λ c. search needs) (λ c. search needs) (λ c κs. search needs) (λ c. search needs)
-    (λ c κs. search needs) (λ c. search needs) (λ c. search needs) returns-3 (λ c. search needs) (λ c. search needs) returns-4)
+    tie.close (tie.spec returns (λ c. search needs) (λ c. search needs) returns-2 (λ c κs. search needs)
+    (λ c. search needs)
+    (λ c κs. search needs) build-requires (λ c. search needs) (λ c. search needs) (λ c κs. search needs)
+    (λ c. search needs)
+    (λ c κs. search needs) (λ c. search needs) (λ c. search needs) returns-3 (λ c. search needs) (λ c. search needs)
+    returns-4)

@@ -1,4 +1,4 @@
--- `alias_table::joint` meets its contract: both words are read as the definition reads them. Assumes nothing.
+-- `alias_table::joint`: both words are read as the definition reads them. Assumes nothing.
 use borrow.Author.Needs.{needs}
 use lib.Ieee.{ofBits}
 use Rattle.alias_table.proofs.joint.Statement.{statement}

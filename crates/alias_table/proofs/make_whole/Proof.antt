@@ -1,4 +1,5 @@
--- `alias_table::make_whole` meets its contract: the bins of the entries passed are whole, whichever bins the words are those of. Assumes nothing.
+-- `alias_table::make_whole`: the bins of the entries passed are whole, whichever bins the words are those of. Assumes
+-- nothing.
 use Prim.Native.Nat.{_+_, _*_, _-_, _≤_, _<_}
 use mathlib.Core.Path.{_≡_, refl}
 use native.Mathlib.Numerals.{add-one}
@@ -6,8 +7,8 @@ use native.Mathlib.Omega.{arith}
 use denote.Ref.{now}
 use lib.ListN.{length, getD, length-set, length-append}
 use Rattle.alias_table.specs.AliasTable.{leftover}
-use Rattle.alias_table.specs.GameLaws.{length-leftover}
-use Rattle.alias_table.specs.Stacks.{stackAt, Wholed}
+use Rattle.alias_table.specs.Laws.GameLaws.{length-leftover}
+use Rattle.alias_table.specs.AsCoded.Stacks.{stackAt, Wholed}
 use Rattle.alias_table.proofs.StackLaws.{length-binWords, whole-words}
 use Rattle.alias_table.proofs.make_whole.Statement.{statement}
 use Rattle.alias_table.proofs.make_whole.Tie as tie
@@ -48,6 +49,7 @@ returns c =
 
 pub make-whole-spec : {M : Type 1} → statement M
 make-whole-spec =
-    tie.close (tie.spec Inv-loop μ-loop loop-holds (λ c. omega arith) (λ c. omega arith) (λ c. omega arith) (λ c. omega arith)
+    tie.close (tie.spec Inv-loop μ-loop loop-holds (λ c. omega arith) (λ c. omega arith) (λ c. omega arith)
+    (λ c. omega arith)
     (λ c. omega arith) (λ c. omega (arith, in-bins c)) (λ c. omega (arith, in-bins c)) (λ c. omega (arith, in-bins c))
     (λ c. omega (arith, in-bins c)) (λ c. omega arith) (λ c. omega arith) loop-again (λ c. omega arith) returns)

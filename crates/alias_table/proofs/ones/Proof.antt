@@ -1,4 +1,4 @@
--- `alias_table::ones` meets its contract: the sum of the ones passed goes on to the sum of all. Assumes nothing.
+-- `alias_table::ones`: the sum of the ones passed goes on to the sum of all. Assumes nothing.
 use Prim.Native.Nat.{suc, _+_, _-_}
 use mathlib.Core.Path.{_≡_}
 use native.Mathlib.Omega.{arith}
@@ -24,7 +24,8 @@ loop-holds c =
 loop-again : tie.Need-loop-again Inv-loop μ-loop
 unfolding ofBits sumFrom
 loop-again c =
-    let e : c .before .before .args .m - c .before .loop .i ≡ suc (c .before .before .args .m - (c .before .loop .i + 1)) = omega arith in
+    let e : c .before .before .args .m - c .before .loop .i ≡
+    suc (c .before .before .args .m - (c .before .loop .i + 1)) = omega arith in
     rw e at (c .before .loop .inv)
 
 returns : tie.Need-returns Inv-loop μ-loop

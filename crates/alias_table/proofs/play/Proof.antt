@@ -1,4 +1,5 @@
--- `alias_table::play` meets its contract: each turn is the game's, and where a stack is empty the turns to go change nothing. Assumes nothing.
+-- `alias_table::play`: each turn is the game's, and where a stack is empty the turns to go change nothing. Assumes
+-- nothing.
 use Prim.Native.Nat.{_+_}
 use mathlib.Core.Bool.{true, false}
 use mathlib.Core.Logic.{inl, inr}
@@ -24,22 +25,29 @@ loop-again : tie.Need-loop-again Inv-loop μ-loop
 loop-again c =
     let pushed = c .before .before .before in
     let sum = pushed .before .before .before .before .before .before .before in
-    going-next (sum .before .before .before .before .before .before .loop .inv) (omega arith) (omega (arith, ltb-true)) (sum .joint .ensures)
+    going-next (sum .before .before .before .before .before .before .loop .inv) (omega arith) (omega (arith, ltb-true))
+    (sum .joint .ensures)
     (pushed .before .before .before .before .settle .ensures) (pushed .push .ensures) true (c .if2 .taken)
 
 loop-again-2 : tie.Need-loop-again-2 Inv-loop μ-loop
 loop-again-2 c =
     let pushed = c .before .before .before in
     let sum = pushed .before .before .before .before .before .before .before in
-    going-next (sum .before .before .before .before .before .before .loop .inv) (omega arith) (omega (arith, ltb-true)) (sum .joint .ensures)
+    going-next (sum .before .before .before .before .before .before .loop .inv) (omega arith) (omega (arith, ltb-true))
+    (sum .joint .ensures)
     (pushed .before .before .before .before .settle .ensures) (pushed .push .ensures) false (c .if2 .left)
 
 pub play-spec : {M : Type 1} → statement M
 play-spec =
-    tie.close (tie.spec Inv-loop μ-loop (λ c. going-none (c .before .before .pre)) (λ c. omega arith) (λ c. omega arith) (λ c. omega arith)
-    (λ c. omega (arith, ltb-true)) (λ c. omega arith) (λ c. omega arith) (λ c. omega arith) (λ c. omega arith) (λ c. omega arith)
+    tie.close (tie.spec Inv-loop μ-loop (λ c. going-none (c .before .before .pre)) (λ c. omega arith) (λ c. omega arith)
+    (λ c. omega arith)
+    (λ c. omega (arith, ltb-true)) (λ c. omega arith) (λ c. omega arith) (λ c. omega arith) (λ c. omega arith)
+    (λ c. omega arith)
     (λ c. omega arith) (λ c. omega arith) (λ c. omega arith) (λ c. omega arith) (λ c κs. omega arith) (λ c. omega arith)
-    (λ c. omega arith) (λ c. omega arith) settle-requires (λ c. omega arith) (λ c. omega (arith, ltb-true)) (λ c κs. omega arith)
-    (λ c. omega (arith, ltb-true)) (λ c. omega (arith, ltb-true)) loop-again (λ c. omega arith) (λ c. omega arith) loop-again-2
-    (λ c. omega arith) (λ c. omega arith) (λ c. going-last (c .before .before .loop .inv) (inr (omega (arith, ltb-false))))
+    (λ c. omega arith) (λ c. omega arith) settle-requires (λ c. omega arith) (λ c. omega (arith, ltb-true))
+    (λ c κs. omega arith)
+    (λ c. omega (arith, ltb-true)) (λ c. omega (arith, ltb-true)) loop-again (λ c. omega arith) (λ c. omega arith)
+    loop-again-2
+    (λ c. omega arith) (λ c. omega arith)
+    (λ c. going-last (c .before .before .loop .inv) (inr (omega (arith, ltb-false))))
     (λ c. omega arith) (λ c. omega arith) (λ c. going-last (c .before .loop .inv) (inl (omega arith))))

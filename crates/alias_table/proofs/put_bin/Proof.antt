@@ -1,4 +1,4 @@
--- `alias_table::put_bin` meets its contract: three stores in a row are one of three words. Assumes nothing.
+-- `alias_table::put_bin`: three stores in a row are one of three words. Assumes nothing.
 use borrow.Author.Needs.{needs}
 use Prim.Native.Nat.{suc, _+_}
 use mathlib.Core.Path.{_≡_}
@@ -15,5 +15,7 @@ returns c =
 
 pub put-bin-spec : {M : Type 1} → statement M
 put-bin-spec =
-    tie.close (tie.spec (λ c. search needs) (λ c. search needs) (λ c κs. search needs) (λ c. search needs) (λ c. search needs)
-    (λ c. simp length-set (omega arith)) (λ c. search needs) (λ c. search needs) (λ c. search needs) (λ c. search needs) returns)
+    tie.close (tie.spec (λ c. search needs) (λ c. search needs) (λ c κs. search needs) (λ c. search needs)
+    (λ c. search needs)
+    (λ c. simp length-set (omega arith)) (λ c. search needs) (λ c. search needs) (λ c. search needs) (λ c. search needs)
+    returns)

@@ -1,4 +1,4 @@
--- `alias_table::total` meets its contract: the sum that the flag picks is narrowed. Assumes nothing.
+-- `alias_table::total`: the sum that the flag picks is narrowed. Assumes nothing.
 use borrow.Author.Needs.{needs}
 use Rattle.alias_table.proofs.total.Statement.{statement}
 use Rattle.alias_table.proofs.total.Tie as tie

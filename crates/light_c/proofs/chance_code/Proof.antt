@@ -1,4 +1,4 @@
--- `light_c::chance_code` meets its contract: a chance's bits, or 2^32 and the number. Assumes nothing.
+-- `light_c::chance_code`: a chance's bits, or 2^32 and the number. Assumes nothing.
 use Prim.Native.Nat.{ℕ, _+_}
 use mathlib.Core.Path.{ap}
 use borrow.Author.Needs.{needs}
@@ -10,5 +10,7 @@ returns-2 c = rw (c .before .before .answer2 .given .1) (ap (λ (n : ℕ). 0x1_0
 
 pub chance-code-spec : {M : Type 1} → statement M
 chance-code-spec =
-    tie.close (tie.spec (λ c. search needs) (λ c κs. search needs) (λ c. search needs) (λ c. search needs) (λ c κs. search needs)
-    (λ c. search needs) (λ c. search needs) (λ c. rw (c .before .before .answer .given .1) (c .word-of-f32 .ensures)) returns-2)
+    tie.close (tie.spec (λ c. search needs) (λ c κs. search needs) (λ c. search needs) (λ c. search needs)
+    (λ c κs. search needs)
+    (λ c. search needs) (λ c. search needs) (λ c. rw (c .before .before .answer .given .1) (c .word-of-f32 .ensures))
+    returns-2)

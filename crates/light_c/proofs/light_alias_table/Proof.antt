@@ -1,4 +1,4 @@
--- `light_c::light_alias_table` meets its contract: the code of a counted answer is the answer's. Assumes nothing.
+-- `light_c::light_alias_table`: the code of a counted answer is the answer's. Assumes nothing.
 use borrow.Author.Needs.{needs}
 use Rattle.words.proofs.AnswerLaws.{code-count}
 use Rattle.light_c.proofs.light_alias_table.Statement.{statement}
@@ -10,4 +10,5 @@ returns c =
     (rw (c .counted-code .ensures, told .0, code-count), told .1)
 
 pub light-alias-table-spec : {M : Type 1} → statement M
-light-alias-table-spec = tie.close (tie.spec (λ c κs. search needs) (λ c κs. search needs) (λ c. search needs) (λ c. search needs) returns)
+light-alias-table-spec =
+    tie.close (tie.spec (λ c κs. search needs) (λ c κs. search needs) (λ c. search needs) (λ c. search needs) returns)

@@ -1,4 +1,4 @@
--- `light_c::light_bounds_block` meets its contract: the code of a counted answer is the answer's. Assumes nothing.
+-- `light_c::light_bounds_block`: the code of a counted answer is the answer's. Assumes nothing.
 use borrow.Author.Needs.{needs}
 use Rattle.words.proofs.AnswerLaws.{code-count}
 use Rattle.light_c.proofs.light_bounds_block.Statement.{statement}

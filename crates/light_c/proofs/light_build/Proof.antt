@@ -47,7 +47,8 @@ returns-2 c =
     let s = start b .args in
     let e = b .build-light-bvh .ensures in
     tree-answered (s .lights) (now (s .block)) (now (s .nodes)) (now (s .table)) (now (s .work))
-    (now (s .answer)) (room b) (sym (ap built (arm .k .given .1)) ∙ e .0, e .1) (c .before .before .write-summary .ensures)
+    (now (s .answer)) (room b) (sym (ap built (arm .k .given .1)) ∙ e .0, e .1)
+    (c .before .before .write-summary .ensures)
 
 returns-3 : tie.Need-returns-3
 returns-3 c =
@@ -56,7 +57,8 @@ returns-3 c =
     let s = start b .args in
     let e = b .build-light-bvh .ensures in
     none-answered (s .lights) (now (s .block)) (now (s .nodes)) (now (s .table)) (now (s .work))
-    (now (s .answer)) (room b) (sym (ap built (arm .enum-told .given .1)) ∙ e .0, e .1) (c .before .before .zero-words .ensures)
+    (now (s .answer)) (room b) (sym (ap built (arm .enum-told .given .1)) ∙ e .0, e .1)
+    (c .before .before .zero-words .ensures)
 
 returns-4 : tie.Need-returns-4
 returns-4 c =
@@ -70,7 +72,10 @@ returns-4 c =
 
 pub light-build-spec : {M : Type 1} → statement M
 light-build-spec =
-    tie.close (tie.spec (λ c κs. search needs) returns (λ c κs. search needs) (λ c. search needs) write-summary-requires (λ c. search needs)
-    (λ c κs. search needs) (λ c. search needs) (λ c κs. search needs) (λ c. search needs) (λ c. search needs) (λ c. search needs)
-    (λ c. search needs) returns-2 (λ c. search needs) (λ c. search needs) (λ c. search needs) (λ c. search needs) returns-3 (λ c. search needs)
+    tie.close (tie.spec (λ c κs. search needs) returns (λ c κs. search needs) (λ c. search needs) write-summary-requires
+    (λ c. search needs)
+    (λ c κs. search needs) (λ c. search needs) (λ c κs. search needs) (λ c. search needs) (λ c. search needs)
+    (λ c. search needs)
+    (λ c. search needs) returns-2 (λ c. search needs) (λ c. search needs) (λ c. search needs) (λ c. search needs)
+    returns-3 (λ c. search needs)
     (λ c. search needs) (λ c. search needs) (λ c. search needs) returns-4)

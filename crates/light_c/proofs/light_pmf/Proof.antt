@@ -1,4 +1,4 @@
--- `light_c::light_pmf` meets its contract: the code of the chance for the query of its six numbers. Assumes nothing.
+-- `light_c::light_pmf`: the code of the chance for the query of its six numbers. Assumes nothing.
 use borrow.Author.Needs.{needs}
 use Rattle.light_c.proofs.light_pmf.Statement.{statement}
 use Rattle.light_c.proofs.light_pmf.Tie as tie

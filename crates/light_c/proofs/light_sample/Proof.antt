@@ -1,4 +1,4 @@
--- `light_c::light_sample` meets its contract: the code of the draw for the query of its six numbers. Assumes nothing.
+-- `light_c::light_sample`: the code of the draw for the query of its six numbers. Assumes nothing.
 use borrow.Author.Needs.{needs}
 use Rattle.light_c.proofs.light_sample.Statement.{statement}
 use Rattle.light_c.proofs.light_sample.Tie as tie

@@ -1,4 +1,4 @@
--- `light_c::packed_code` meets its contract: how many words, 2^32, or 2^33 and the number. Assumes nothing.
+-- `light_c::packed_code`: how many words, 2^32, or 2^33 and the number. Assumes nothing.
 use Prim.Native.Nat.{ℕ, _+_}
 use mathlib.Core.Path.{ap}
 use borrow.Author.Needs.{needs}
@@ -10,5 +10,6 @@ returns-3 c = rw (c .before .before .answer2 .given .1) (ap (λ (n : ℕ). 0x2_0
 
 pub packed-code-spec : {M : Type 1} → statement M
 packed-code-spec =
-    tie.close (tie.spec (λ c. search needs) (λ c. search needs) (λ c. search needs) (λ c κs. search needs) (λ c. search needs)
+    tie.close (tie.spec (λ c. search needs) (λ c. search needs) (λ c. search needs) (λ c κs. search needs)
+    (λ c. search needs)
     (λ c. search needs) (λ c. search needs) (λ c. search needs) returns-3)

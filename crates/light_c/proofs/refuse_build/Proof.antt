@@ -3,7 +3,7 @@ use Prim.Native.Nat.{ℕ, _≤_, _<_}
 use mathlib.Core.Path.{refl, sym, subst, _∙_}
 use denote.Ref.{now}
 use borrow.Author.Needs.{needs}
-use Rattle.words.specs.TrayLaws.{tray-early}
+use Rattle.words.specs.Laws.TrayLaws.{tray-early}
 use Rattle.words.proofs.Reserves.{tray-zeroed}
 use Rattle.light_c.specs.Codes.{answerReserve, summaryList}
 use Rattle.light_c.proofs.refuse_build.Statement.{statement}
@@ -27,4 +27,5 @@ returns-2 c =
     (told .refusal-number .ensures, sym (tray-early summaryList answerReserve answer _ early))
 
 pub refuse-build-spec : {M : Type 1} → statement M
-refuse-build-spec = tie.close (tie.spec (λ c κs. search needs) (λ c κs. search needs) (λ c. search needs) returns returns-2)
+refuse-build-spec =
+    tie.close (tie.spec (λ c κs. search needs) (λ c κs. search needs) (λ c. search needs) returns returns-2)

@@ -2,7 +2,7 @@
 use mathlib.Core.Path.{ap}
 use borrow.Author.Needs.{needs}
 use Rattle.words.specs.Answers.{refused, _then_}
-use Rattle.light_c.specs.Codes.{shortAnswer}
+use Rattle.light_c.specs.AsCoded.ShortAnswer.{shortAnswer}
 use Rattle.light_c.proofs.refuse_short.Statement.{statement}
 use Rattle.light_c.proofs.refuse_short.Tie as tie
 
@@ -20,5 +20,6 @@ returns-2 c =
 
 pub refuse-short-spec : {M : Type 1} → statement M
 refuse-short-spec =
-    tie.close (tie.spec (λ c κs. search needs) (λ c. search needs) (λ c κs. search needs) (λ c. search needs) (λ c κs. search needs) returns
+    tie.close (tie.spec (λ c κs. search needs) (λ c. search needs) (λ c κs. search needs) (λ c. search needs)
+    (λ c κs. search needs) returns
     returns-2)

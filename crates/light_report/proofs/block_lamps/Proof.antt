@@ -1,4 +1,4 @@
--- `light_report::block_lamps` meets its contract: its three tests are the definition's. Assumes nothing.
+-- `light_report::block_lamps`: its three tests are the definition's. Assumes nothing.
 use borrow.Author.Needs.{needs}
 use borrow.Author.Tests.{lt-ltb, le-ltb}
 use Rattle.light_report.specs.Report.{blockLamps}
@@ -12,7 +12,11 @@ returns c = rw (lt-ltb _ 4 (c .if1 .taken))
 returns-2 : tie.Need-returns-2
 unfolding blockLamps
 returns-2 c =
-    rw (le-ltb _ 4 (c .before .before .before .if1 .left), ← c .before .before .word-at .ensures, ← c .before .wide .ensures)
+    rw (
+      le-ltb _ 4 (c .before .before .before .if1 .left),
+      ← c .before .before .word-at .ensures,
+      ← c .before .wide .ensures,
+    )
     (rw (lt-ltb _ _ (c .if2 .taken)))
 
 returns-3 : tie.Need-returns-3
@@ -31,5 +35,6 @@ returns-4 c =
 
 pub block-lamps-spec : {M : Type 1} → statement M
 block-lamps-spec =
-    tie.close (tie.spec returns (λ c κs. search needs) (λ c κs. search needs) returns-2 (λ c. search needs) (λ c. search needs)
+    tie.close (tie.spec returns (λ c κs. search needs) (λ c κs. search needs) returns-2 (λ c. search needs)
+    (λ c. search needs)
     (λ c. search needs) returns-3 returns-4)

@@ -8,7 +8,8 @@ use Rattle.words.specs.Answers.{Answer}
 use Rattle.words.specs.Tray.{tray}
 use Rattle.light_bvh.specs.Build.{LightBVH, buildLightBvh, nodesReserve, nodesWritten, tableWritten}
 use borrow.Author.Needs.{needs}
-use Rattle.light_report.specs.Report.{treeOf, powered}
+use Rattle.light_report.specs.Report.{treeOf}
+use Rattle.light_report.specs.AsCoded.Written.{powered}
 use Rattle.light_report.proofs.build_tree.Statement.{statement}
 use Rattle.light_report.proofs.build_tree.Tie as tie
 
@@ -23,16 +24,19 @@ module _ (c : tie.After-build-light-bvh) where
   block = now (start .args .block)
 
   -- the trays are as long as the reserves of 512 lamps
-  sized : buildLightBvh lamps block (length (now (start .args .nodes))) (length (now (start .args .table))) (length (now (start .args .work)))
+  sized : buildLightBvh lamps block (length (now (start .args .nodes))) (length (now (start .args .table)))
+      (length (now (start .args .work)))
       ≡ treeOf lamps block
   unfolding treeOf
   sized = rw (start .pre .0, start .pre .1, start .pre .2)
 
-  nodes : c .build-light-bvh .last .1 .1 .0 ≡ tray nodesWritten (nodesReserve (getD block 0 0)) (treeOf lamps block) (now (start .args .nodes))
+  nodes : c .build-light-bvh .last .1 .1 .0 ≡
+      tray nodesWritten (nodesReserve (getD block 0 0)) (treeOf lamps block) (now (start .args .nodes))
   nodes = c .build-light-bvh .ensures .1 .0 ∙ ap
       (λ (t : Answer LightBVH). tray nodesWritten (nodesReserve (getD block 0 0)) t (now (start .args .nodes))) sized
 
-  table : c .build-light-bvh .last .1 .1 .1 .0 ≡ tray tableWritten (getD block 0 0) (treeOf lamps block) (now (start .args .table))
+  table : c .build-light-bvh .last .1 .1 .1 .0 ≡
+      tray tableWritten (getD block 0 0) (treeOf lamps block) (now (start .args .table))
   table = c .build-light-bvh .ensures .1 .1 .0 ∙ ap
       (λ (t : Answer LightBVH). tray tableWritten (getD block 0 0) t (now (start .args .table))) sized
 

@@ -2,7 +2,7 @@
 use native.Mathlib.Omega.{arith}
 use borrow.Author.Needs.{needs}
 use borrow.Author.Tests.{lt-ltb, le-ltb}
-use Rattle.light_report.specs.Report.{frontBytes}
+use Rattle.light_report.specs.AsCoded.Written.{frontBytes}
 use Rattle.light_report.proofs.front_bytes.Statement.{statement}
 use Rattle.light_report.proofs.front_bytes.Tie as tie
 

@@ -12,7 +12,8 @@ use Rattle.words.specs.LittleEndian.{bytesOf}
 use Rattle.words.specs.Refusals.{number}
 use Rattle.light_bvh.specs.Build.{LightBVH}
 use Rattle.text.proofs.PutLaws.{fitting-all, words-fit}
-use Rattle.light_report.specs.Report.{reportLamps, reportTree, headerBytes, sizes, taken, nodeBytes, tableBytes}
+use Rattle.light_report.specs.Report.{reportLamps, reportTree, headerBytes}
+use Rattle.light_report.specs.AsCoded.Written.{sizes, taken, nodeBytes, tableBytes}
 use Rattle.light_report.proofs.TreeBytes.{sizes-few, nodes-front, table-front, opened-groups}
 use Rattle.light_report.proofs.TreeBytes.{first-header, tree-room, Ends, ended-first}
 use Rattle.light_report.proofs.open_report.Statement.{statement}
@@ -75,7 +76,8 @@ module _ (c : tie.After-put-words2) where
   abbrev before : tie.After-put-words
   before = c .before .before .before .before .before .before
 
-  table : (c .put-words2 .last .0 ≡ sets (now (start (call (lamps before)) .args .table-bytes)) 0 (tableBytes (tree (call (lamps before)))))
+  table : (c .put-words2 .last .0 ≡
+      sets (now (start (call (lamps before)) .args .table-bytes)) 0 (tableBytes (tree (call (lamps before)))))
       × (c .put-words2 .result ≡ length (tableBytes (tree (call (lamps before)))))
   table =
       let at = lamps before in
@@ -118,7 +120,8 @@ module _ (c : tie.After-put-refused) where
   none : refused (number (why .why .given .0 .0)) ≡ sizes (tree call-2)
   none = sym (ap taken (why .why .given .1)) ∙ call-2 .take-tree .ensures .0
 
-  ended : Ends (tree call-2) (now (start call-2 .args .out)) (said call-2 .put-text .result + c .put-refused .result) (c .put-refused .last .0)
+  ended : Ends (tree call-2) (now (start call-2 .args .out)) (said call-2 .put-text .result + c .put-refused .result)
+      (c .put-refused .last .0)
   ended =
       ended-first (tree call-2) _ none (now (start call-2 .args .out)) (said call-2 .put-text .result)
       (c .put-refused .result)

@@ -1,4 +1,5 @@
--- The lamps are counted, then the tree is made; what is refused before build leaves the trays as they are. Assumes nothing.
+-- The lamps are counted, then the tree is made; what is refused before build leaves the trays as they are. Assumes
+-- nothing.
 use Prim.Native.Nat.{ℕ}
 use mathlib.Core.Path.{_≡_, refl, sym, ap, _∙_}
 use mathlib.Core.List.{List}
@@ -6,8 +7,9 @@ use native.Mathlib.Omega.{arith}
 use denote.Ref.{now}
 use borrow.Author.Needs.{needs}
 use Rattle.words.specs.Answers.{counted, given, _then_}
-use Rattle.light_report.specs.Report.{blockBytes, reportTree, blockLamps, sizes}
-use Rattle.light_report.specs.ReportLaws.{front-word, lamps-there}
+use Rattle.light_report.specs.Report.{blockBytes, reportTree, blockLamps}
+use Rattle.light_report.specs.AsCoded.Written.{sizes}
+use Rattle.light_report.specs.Laws.ReportLaws.{front-word, lamps-there}
 use Rattle.light_report.proofs.TreeBytes.{unbuilt, sizes-given, sizes-refused}
 use Rattle.light_report.proofs.take_tree.Statement.{statement}
 use Rattle.light_report.proofs.take_tree.Tie as tie

@@ -8,7 +8,8 @@ use lib.ListN.{length}
 use Rattle.words.specs.Answers.{Answer}
 use Rattle.light_bvh.specs.Build.{LightBVH}
 use Rattle.text.proofs.PutLaws.{handed}
-use Rattle.light_report.specs.Report.{reportTree, firstLines, nodeBytes, tableBytes}
+use Rattle.light_report.specs.Report.{reportTree}
+use Rattle.light_report.specs.AsCoded.Written.{firstLines, nodeBytes, tableBytes}
 use Rattle.light_report.proofs.TreeBytes.{tree-room, first-room, groups-are, ended-is}
 use Rattle.light_report.proofs.write_report.Statement.{statement}
 use Rattle.light_report.proofs.write_report.Tie as tie

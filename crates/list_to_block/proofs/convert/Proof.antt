@@ -11,7 +11,7 @@ use Rattle.words.specs.Answers.{counted}
 use Rattle.words.specs.LittleEndian.{bytesOf}
 use Rattle.words.specs.Limits.{maxLamps}
 use Rattle.light_rows.specs.Block.{blockWords}
-use Rattle.lamps.specs.Build.{buildLightBounds}
+use Rattle.lamps.specs.BuildBounds.{buildLightBounds}
 use Rattle.text.proofs.PutLaws.{fitting-all}
 use Rattle.list_to_block.specs.ListToBlock.{blockRoom, answerBytes}
 use Rattle.list_to_block.proofs.AnswerBytes.{block-room, block-bytes, block-refused}

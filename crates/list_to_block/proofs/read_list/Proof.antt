@@ -20,8 +20,11 @@ abbrev μ-loop : tie.MeasureT-loop
 
 pub read-list-spec : {M : Type 1} → statement M
 read-list-spec =
-    tie.close (tie.spec Inv-loop μ-loop (λ c. (refl, refl, search needs, search needs, refl)) (λ c. search needs) (λ c κs. search needs)
-    (λ c. search needs) (λ c. search needs) (λ c. search needs) (λ c. search needs) (λ c. search needs) (λ c. search needs)
+    tie.close (tie.spec Inv-loop μ-loop (λ c. (refl, refl, search needs, search needs, refl)) (λ c. search needs)
+    (λ c κs. search needs)
+    (λ c. search needs) (λ c. search needs) (λ c. search needs) (λ c. search needs) (λ c. search needs)
+    (λ c. search needs)
     (λ c. search needs) (λ c. search needs) (λ c κs. search needs) (λ c. search needs) (λ c. search needs)
-    (λ c. (search needs, search needs, search needs, search needs, search needs)) (λ c. search needs) (λ c. search needs)
+    (λ c. (search needs, search needs, search needs, search needs, search needs)) (λ c. search needs)
+    (λ c. search needs)
     (λ c. search needs) (λ c. search needs) (λ c. search needs) (λ c. search needs))

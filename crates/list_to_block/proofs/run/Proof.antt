@@ -20,14 +20,16 @@ module _ (c : tie.After-answer) where
 
   -- of the words and the stray bytes that were read
   abbrev text : List ℕ
-  text = converted (take (read .read-list .result .words - 0) (read .read-list .last .0)) (read .read-list .result .stray)
+  text =
+      converted (take (read .read-list .result .words - 0) (read .read-list .last .0)) (read .read-list .result .stray)
 
   room : length text ≤ length (now (start .args .out))
   room =
       omega (
         arith,
         start .pre .2,
-        converted-room (take (read .read-list .result .words - 0) (read .read-list .last .0)) (read .read-list .result .stray),
+        converted-room (take (read .read-list .result .words - 0) (read .read-list .last .0))
+            (read .read-list .result .stray),
       )
 
 part-write-end-2 : tie.Need-part-write-end-2

@@ -1,4 +1,5 @@
--- `parts_c::bounds_importance` meets its contract: there are words enough for the query, then the record is found, then weighed. Assumes nothing.
+-- `parts_c::bounds_importance`: there are words enough for the query, then the record is found, then weighed. Assumes
+-- nothing.
 use mathlib.Core.Path.{ap, _∙_}
 use denote.Ref.{now}
 use native.Mathlib.Omega.{arith}
@@ -6,7 +7,7 @@ use borrow.Author.Tests.{lt-leb, le-leb}
 use lib.ListN.{length}
 use Rattle.words.specs.Answers.{_then_}
 use Rattle.light_c.specs.Codes.{valueCode}
-use Rattle.parts_c.specs.Codes.{importanceWords}
+use Rattle.parts_c.specs.PartCodes.{importanceWords}
 use borrow.Author.Needs.{needs}
 use Rattle.parts_c.proofs.bounds_importance.Statement.{statement}
 use Rattle.parts_c.proofs.bounds_importance.Tie as tie
@@ -25,7 +26,8 @@ returns-2 c =
 
 returns-3 : tie.Need-returns-3
 unfolding importanceWords _then_
-returns-3 c = rw (le-leb 6 (length (now (c .before .before .before .before .before .before .args .query))) (omega arith))
+returns-3 c =
+    rw (le-leb 6 (length (now (c .before .before .before .before .before .before .args .query))) (omega arith))
     (rw (← c .before .before .read-record .ensures, c .enum-told .given .1))
 
 pub bounds-importance-spec : {M : Type 1} → statement M

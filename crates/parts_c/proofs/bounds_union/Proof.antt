@@ -1,4 +1,4 @@
--- `parts_c::bounds_union` meets its contract: both records are found, then there is room, then they are joined. Assumes nothing.
+-- `parts_c::bounds_union`: both records are found, then there is room, then they are joined. Assumes nothing.
 use mathlib.Core.Path.{refl}
 use denote.Ref.{now}
 use native.Mathlib.Omega.{arith}
@@ -6,7 +6,7 @@ use borrow.Author.Tests.{lt-leb, le-leb}
 use lib.ListN.{length}
 use Rattle.words.specs.Answers.{_then_}
 use Rattle.words.specs.Tray.{tray}
-use Rattle.parts_c.specs.Codes.{unionWords}
+use Rattle.parts_c.specs.PartCodes.{unionWords}
 use borrow.Author.Needs.{needs}
 use Rattle.parts_c.proofs.bounds_union.Statement.{statement}
 use Rattle.parts_c.proofs.bounds_union.Tie as tie
@@ -15,7 +15,10 @@ returns : tie.Need-returns
 unfolding unionWords _then_ tray
 returns c =
     rw (← c .before .before .before .before .before .before .before .before .read-record .ensures)
-    (rw (c .before .before .before .before .before .before .first .given .1, ← c .before .before .before .before .read-record2 .ensures)
+    (rw (
+      c .before .before .before .before .before .before .first .given .1,
+      ← c .before .before .before .before .read-record2 .ensures,
+    )
     (rw (c .before .before .second .given .1)
     (rw (lt-leb 13 (length (now (c .before .before .before .before .before .before .before .before .before .before .before .before .args .out))) (omega arith))
     (refl, refl))))
@@ -27,7 +30,11 @@ returns-2 c =
     rw (← c .before .before .before .before .before .before .before .before .before .before .before .before .read-record .ensures)
     (rw (c .before .before .before .before .before .before .before .before .before .before .first .given .1)
     (rw (← c .before .before .before .before .before .before .before .before .read-record2 .ensures)
-    (rw (c .before .before .before .before .before .before .second .given .1, le-leb 13 (length (now out)) (omega arith))
+    (rw (
+      c .before .before .before .before .before .before .second .given .1,
+      le-leb 13 (length (now out))
+          (omega arith),
+    )
     (c .before .before .write-union .ensures))))
 
 returns-3 : tie.Need-returns-3
@@ -41,5 +48,6 @@ returns-4 c = rw (← c .before .before .read-record .ensures, c .enum-told2 .gi
 
 pub bounds-union-spec : {M : Type 1} → statement M
 bounds-union-spec =
-    tie.close (tie.spec (λ c κs. search needs) (λ c. search needs) (λ c κs. search needs) (λ c. search needs) (λ c κs. search needs)
+    tie.close (tie.spec (λ c κs. search needs) (λ c. search needs) (λ c κs. search needs) (λ c. search needs)
+    (λ c κs. search needs)
     (λ c. search needs) (λ c. search needs) returns (λ c. search needs) returns-2 returns-3 returns-4)

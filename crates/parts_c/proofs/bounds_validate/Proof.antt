@@ -1,7 +1,7 @@
--- `parts_c::bounds_validate` meets its contract: the record is found, then checked. Assumes nothing.
+-- `parts_c::bounds_validate`: the record is found, then checked. Assumes nothing.
 use mathlib.Core.Path.{ap, _∙_}
 use Rattle.words.specs.Answers.{_then_, code}
-use Rattle.parts_c.specs.Codes.{validateWords}
+use Rattle.parts_c.specs.PartCodes.{validateWords}
 use borrow.Author.Needs.{needs}
 use Rattle.parts_c.proofs.bounds_validate.Statement.{statement}
 use Rattle.parts_c.proofs.bounds_validate.Tie as tie
@@ -18,5 +18,6 @@ returns-2 c = rw (← c .before .before .read-record .ensures, c .enum-told .giv
 
 pub bounds-validate-spec : {M : Type 1} → statement M
 bounds-validate-spec =
-    tie.close (tie.spec (λ c κs. search needs) (λ c. search needs) (λ c κs. search needs) (λ c κs. search needs) (λ c. search needs) returns
+    tie.close (tie.spec (λ c κs. search needs) (λ c. search needs) (λ c κs. search needs) (λ c κs. search needs)
+    (λ c. search needs) returns
     returns-2)

@@ -15,9 +15,11 @@ returns c =
 returns-2 : tie.Need-returns-2
 unfolding blockCheck _then_
 returns-2 c =
-    rw (← c .before .before .before .before .check-layout .ensures, c .before .before .why .given .1) (c .refusal-number .ensures)
+    rw (← c .before .before .before .before .check-layout .ensures, c .before .before .why .given .1)
+    (c .refusal-number .ensures)
 
 pub lamps-check-block-spec : {M : Type 1} → statement M
 lamps-check-block-spec =
-    tie.close (tie.spec (λ c κs. search needs) (λ c. search needs) (λ c κs. search needs) (λ c κs. search needs) (λ c. search needs)
+    tie.close (tie.spec (λ c κs. search needs) (λ c. search needs) (λ c κs. search needs) (λ c κs. search needs)
+    (λ c. search needs)
     (λ c κs. search needs) returns returns-2)

@@ -1,4 +1,5 @@
--- `parts_c::words_words_of_bytes`: the code is that of the answer that the call gives, and the words stay as the call left them. Assumes nothing.
+-- `parts_c::words_words_of_bytes`: the code is that of the answer that the call gives, and the words stay as the call
+-- left them. Assumes nothing.
 use mathlib.Core.Path.{_∙_, ap}
 use Rattle.words.specs.Answers.{code}
 use borrow.Author.Needs.{needs}
@@ -6,7 +7,12 @@ use Rattle.parts_c.proofs.words_words_of_bytes.Statement.{statement}
 use Rattle.parts_c.proofs.words_words_of_bytes.Tie as tie
 
 returns : tie.Need-returns
-returns c = (c .counted-code .ensures ∙ ap code (c .before .before .before .words-of-bytes .ensures .0), c .before .before .before .words-of-bytes .ensures .1)
+returns c = (
+  c .counted-code .ensures ∙ ap code
+      (c .before .before .before .words-of-bytes .ensures .0),
+  c .before .before .before .words-of-bytes .ensures .1,
+)
 
 pub words-words-of-bytes-spec : {M : Type 1} → statement M
-words-words-of-bytes-spec = tie.close (tie.spec (λ c κs. search needs) (λ c κs. search needs) (λ c. search needs) returns)
+words-words-of-bytes-spec =
+    tie.close (tie.spec (λ c κs. search needs) (λ c κs. search needs) (λ c. search needs) returns)

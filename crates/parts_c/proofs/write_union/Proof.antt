@@ -1,17 +1,17 @@
--- `parts_c::write_union` meets its contract: its words fill the reserve, or zeros do. Assumes nothing.
+-- `parts_c::write_union`: its words fill the reserve, or zeros do. Assumes nothing.
 use mathlib.Core.Path.{_≡_, refl, sym, ap, _∙_}
 use mathlib.Core.List.{[]}
 use denote.Ref.{now}
 use native.Mathlib.Omega.{arith}
 use lib.ListN.{length}
-use Rattle.words.specs.TrayLaws.{tray-full}
+use Rattle.words.specs.Laws.TrayLaws.{tray-full}
 use Rattle.words.proofs.AnswerLaws.{only-number}
 use Rattle.words.proofs.Reserves.{tray-zeroed}
 use Rattle.words.proofs.Stores.{stored}
 use Rattle.light_bounds.specs.LightBounds.{bounded}
 use Rattle.light_rows.specs.RecordWords.{recordList, recordWords}
 use Rattle.light_bounds.proofs.LateLaws.{late-union}
-use Rattle.light_rows.specs.RecordPlaces.{length-recordList, writtenAt-sets}
+use Rattle.light_rows.specs.Laws.RecordPlaces.{length-recordList, writtenAt-sets}
 use borrow.Author.Needs.{needs}
 use Rattle.parts_c.proofs.write_union.Statement.{statement}
 use Rattle.parts_c.proofs.write_union.Tie as tie
@@ -25,7 +25,8 @@ returns c =
     (c .before .before .before .before .before .«record» .given .1)) (
       refl,
       c .before .before .write-record .ensures ∙ writtenAt-sets out 0 r
-          (c .before .before .before .before .before .before .before .before .before .pre) ∙ stored [] out (recordList r) 0 refl
+          (c .before .before .before .before .before .before .before .before .before .pre) ∙
+          stored [] out (recordList r) 0 refl
           (c .before .before .before .before .before .before .before .before .before .pre)
           ∙ sym (tray-full recordList recordWords out r refl),
     )
@@ -38,10 +39,12 @@ returns-2 c =
     rw told (
       c .refusal-number .ensures,
       c .before .before .before .zero-words .ensures ∙ tray-zeroed recordList recordWords out out _
-          (c .before .before .before .before .before .before .before .before .before .before .pre) refl (only-number (late-union _ _) told),
+          (c .before .before .before .before .before .before .before .before .before .before .pre) refl
+          (only-number (late-union _ _) told),
     )
 
 pub write-union-spec : {M : Type 1} → statement M
 write-union-spec =
-    tie.close (tie.spec (λ c κs. search needs) (λ c. search needs) (λ c κs. search needs) (λ c. search needs) (λ c κs. search needs)
+    tie.close (tie.spec (λ c κs. search needs) (λ c. search needs) (λ c κs. search needs) (λ c. search needs)
+    (λ c κs. search needs)
     (λ c κs. search needs) (λ c. search needs) returns (λ c. search needs) returns-2)

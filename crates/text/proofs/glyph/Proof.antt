@@ -13,4 +13,5 @@ returns-2 c = rw (le-ltb _ 10 (c .if1 .left))
 
 pub glyph-spec : {M : Type 1} → statement M
 glyph-spec =
-    tie.close (tie.spec (λ c. search needs) (λ c. search needs) (λ c. search needs) (λ c. search needs) returns returns-2)
+    tie.close (tie.spec (λ c. search needs) (λ c. search needs) (λ c. search needs) (λ c. search needs) returns
+    returns-2)

@@ -18,5 +18,6 @@ pub lay-digits-spec : {M : Type 1} → statement M
 lay-digits-spec =
     tie.close (tie.spec Inv-loop μ-loop (λ c. spelled-none (c .before .pre)) (λ c. omega arith) (λ c. search needs)
     (λ c κs. spelled-digit-few (c .before .loop .inv))
-    (λ c. search needs) (λ c. search needs) (λ c. search needs) (λ c. omega arith) loop-again (λ c. c .before .loop .inv .same)
+    (λ c. search needs) (λ c. search needs) (λ c. search needs) (λ c. omega arith) loop-again
+    (λ c. c .before .loop .inv .same)
     (λ c. spelled-all (omega arith) (c .before .loop .inv)))

@@ -15,6 +15,7 @@ abbrev μ-loop : tie.MeasureT-loop
 
 pub lay-text-spec : {M : Type 1} → statement M
 lay-text-spec =
-    tie.close (tie.spec Inv-loop μ-loop (λ c. texted-none (c .pre)) (λ c. search needs) (λ c. omega arith) (λ c. omega arith)
+    tie.close (tie.spec Inv-loop μ-loop (λ c. texted-none (c .pre)) (λ c. search needs) (λ c. omega arith)
+    (λ c. omega arith)
     (λ c. omega arith) (λ c. omega arith) (λ c. texted-next (omega arith) (c .before .before .loop .inv))
     (λ c. c .before .loop .inv .same) (λ c. texted-all (omega arith) (c .before .loop .inv)))

@@ -16,10 +16,13 @@ loop-again : tie.Need-loop-again Inv-loop μ-loop
 loop-again c = counted-next (omega arith) (leb-true 10 _ (c .if1 .taken)) (c .before .before .loop .inv)
 
 returns : tie.Need-returns Inv-loop μ-loop
-returns c = (counted-small (leb-false 10 _ (c .if1 .left)) (c .before .before .loop .inv), c .before .before .loop .inv .few)
+returns c =
+    (counted-small (leb-false 10 _ (c .if1 .left)) (c .before .before .loop .inv), c .before .before .loop .inv .few)
 
 returns-2 : tie.Need-returns-2 Inv-loop μ-loop
 returns-2 c = (counted-ten (omega arith) (c .before .loop .inv), c .before .loop .inv .few)
 
 pub places-spec : {M : Type 1} → statement M
-places-spec = tie.close (tie.spec Inv-loop μ-loop (λ c. counted-one) (λ c. omega arith) (λ c. omega arith) loop-again returns returns-2)
+places-spec =
+    tie.close (tie.spec Inv-loop μ-loop (λ c. counted-one) (λ c. omega arith) (λ c. omega arith) loop-again returns
+    returns-2)

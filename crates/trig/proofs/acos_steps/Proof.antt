@@ -1,4 +1,5 @@
--- `trig::acos_steps`: the tests of the argument's size and of the argument part as the definition's, and each range is narrowed from its own arcs. Assumes nothing.
+-- `trig::acos_steps`: the tests of the argument's size and of the argument part as the definition's, and each range is
+-- narrowed from its own arcs. Assumes nothing.
 use mathlib.Core.Path.{_∙_, ap}
 use borrow.Author.Needs.{needs}
 use lib.Ieee.{Float, binary64, ofBits, sub, div, neg}
@@ -16,7 +17,8 @@ returns c =
     let i = t .before .before in
     let x = i .before .before .args .x in
     rw (sized x one64 (i .before .abs .ensures) (i .if1 .taken), sized x half (i .before .abs .ensures) (t .if2 .taken))
-    (c .narrow .ensures ∙ ap (λ (v : Float). narrow (sub binary64 halfPi v)) (c .before .arc .ensures ∙ ap arc (t .before .widen .ensures)))
+    (c .narrow .ensures ∙ ap (λ (v : Float). narrow (sub binary64 halfPi v))
+    (c .before .arc .ensures ∙ ap arc (t .before .widen .ensures)))
 
 returns-2 : tie.Need-returns-2
 unfolding acos ofBits
@@ -24,7 +26,12 @@ returns-2 c =
     let t = c .before .before in
     let i = t .before .before .before in
     let x = i .before .before .args .x in
-    rw (sized x one64 (i .before .abs .ensures) (i .if1 .taken), sized x half (i .before .abs .ensures) (t .before .if2 .left), t .if3 .taken)
+    rw (
+      sized x one64 (i .before .abs .ensures) (i .if1 .taken),
+      sized x half (i .before .abs .ensures)
+          (t .before .if2 .left),
+      t .if3 .taken,
+    )
     (c .narrow2 .ensures ∙ ap narrow (c .before .twice-arc .ensures ∙ ap twiceArc (t .before .before .widen .ensures)))
 
 returns-3 : tie.Need-returns-3
@@ -33,7 +40,12 @@ returns-3 c =
     let t = c .before .before in
     let i = t .before .before .before in
     let x = i .before .before .args .x in
-    rw (sized x one64 (i .before .abs .ensures) (i .if1 .taken), sized x half (i .before .abs .ensures) (t .before .if2 .left), t .if3 .left)
+    rw (
+      sized x one64 (i .before .abs .ensures) (i .if1 .taken),
+      sized x half (i .before .abs .ensures)
+          (t .before .if2 .left),
+      t .if3 .left,
+    )
     (c .narrow3 .ensures ∙ ap (λ (v : Float). narrow (sub binary64 pi v))
     (c .before .twice-arc2 .ensures ∙ ap (λ (w : Float). twiceArc (neg w)) (t .before .before .widen .ensures)))
 
@@ -43,5 +55,7 @@ returns-4 c = beyond (c .before .before .args .x) one64 (c .before .abs .ensures
 
 pub acos-steps-spec : {M : Type 1} → statement M
 acos-steps-spec =
-    tie.close (tie.spec (λ c κs. search needs) (λ c κs. search needs) (λ c κs. search needs) (λ c κs. search needs) returns
-    (λ c κs. search needs) (λ c κs. search needs) returns-2 (λ c κs. search needs) (λ c κs. search needs) returns-3 returns-4)
+    tie.close (tie.spec (λ c κs. search needs) (λ c κs. search needs) (λ c κs. search needs) (λ c κs. search needs)
+    returns
+    (λ c κs. search needs) (λ c κs. search needs) returns-2 (λ c κs. search needs) (λ c κs. search needs) returns-3
+    returns-4)

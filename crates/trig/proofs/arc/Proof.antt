@@ -15,6 +15,8 @@ abbrev μ-loop : tie.MeasureT-loop
 
 pub arc-spec : {M : Type 1} → statement M
 arc-spec =
-    tie.close (tie.spec Inv-loop μ-loop (λ c. turning-start _ _ _) (λ c κs. omega arith) (λ c. omega arith) (λ c. omega arith)
+    tie.close (tie.spec Inv-loop μ-loop (λ c. turning-start _ _ _) (λ c κs. omega arith) (λ c. omega arith)
+    (λ c. omega arith)
     (λ c. turning-next (c .before .before .loop .inv) (omega arith) (c .arc-step .ensures))
-    (λ c. unfold arc in ap (mul binary64 (c .before .before .args .x)) (turning-end (c .before .loop .inv) (omega arith))))
+    (λ c. unfold arc in ap (mul binary64 (c .before .before .args .x))
+    (turning-end (c .before .loop .inv) (omega arith))))

@@ -1,4 +1,5 @@
--- `trig::arc_step`: its operations are the definition's, and the whole numbers up to m = 16 are small enough that f64 holds them. Assumes nothing.
+-- `trig::arc_step`: its operations are the definition's, and the whole numbers up to m = 16 are small enough that f64
+-- holds them. Assumes nothing.
 use Prim.Native.Nat.{_+_, _-_, _*_, _≤_}
 use mathlib.Core.Path.{refl}
 use native.Mathlib.Nat.{mul-le-mul}
@@ -25,5 +26,6 @@ returns c = refl
 
 pub arc-step-spec : {M : Type 1} → statement M
 arc-step-spec =
-    tie.close (tie.spec (λ c. search needs) (λ c. search needs) (λ c. search needs) (λ c. search needs) mul-odd-3 (λ c. search needs)
+    tie.close (tie.spec (λ c. search needs) (λ c. search needs) (λ c. search needs) (λ c. search needs) mul-odd-3
+    (λ c. search needs)
     (λ c. search needs) (λ c. search needs) (λ c. search needs) mul-divisor-3 (λ c. search needs) returns)

@@ -1,4 +1,5 @@
--- `trig::asin_steps`: the tests part as the definition's; above a half the arc is that of the size, and takes the argument's sign at the end. Assumes nothing.
+-- `trig::asin_steps`: the tests part as the definition's; above a half the arc is that of the size, and takes the
+-- argument's sign at the end. Assumes nothing.
 use mathlib.Core.Path.{_≡_, _∙_, ap}
 use mathlib.Core.Bool.{Bool, cond}
 use borrow.Author.Needs.{needs}
@@ -15,12 +16,18 @@ unfolding asin ofBits
 returns c =
     let t = c .before .before .before in
     let s = t .before .before in
-    rw (sized (s .before .args .x) one64 (s .abs .ensures) (t .before .if1 .taken), sized (s .before .args .x) half (s .abs .ensures) (t .if2 .taken))
+    rw (
+      sized (s .before .args .x) one64 (s .abs .ensures) (t .before .if1 .taken),
+      sized (s .before .args .x) half
+          (s .abs .ensures) (t .if2 .taken),
+    )
     (c .narrow .ensures ∙ ap narrow (c .before .arc .ensures ∙ ap arc (c .before .before .widen .ensures)))
 
 -- above a half: π/2 less the arc of the size, with the argument's sign
-above : (c : tie.After-twice-arc) {b : Bool} {r : Float} → lt (c .before .before .before .before .before .args .x) (ofBits binary64 0) ≡ b
-    → r ≡ narrow (cond b (neg (sub binary64 halfPi (c .twice-arc .result))) (sub binary64 halfPi (c .twice-arc .result)))
+above : (c : tie.After-twice-arc) {b : Bool} {r : Float} →
+    lt (c .before .before .before .before .before .args .x) (ofBits binary64 0) ≡ b
+    → r ≡ narrow (cond b (neg (sub binary64 halfPi (c .twice-arc .result)))
+    (sub binary64 halfPi (c .twice-arc .result)))
     → r ≡ asin (c .before .before .before .before .before .args .x)
 unfolding asin ofBits
 above c {b} t h =
@@ -45,5 +52,7 @@ returns-4 c = beyond (c .before .before .args .x) one64 (c .before .abs .ensures
 
 pub asin-steps-spec : {M : Type 1} → statement M
 asin-steps-spec =
-    tie.close (tie.spec (λ c κs. search needs) (λ c κs. search needs) (λ c κs. search needs) (λ c κs. search needs) returns
-    (λ c κs. search needs) (λ c κs. search needs) (λ c κs. search needs) returns-2 (λ c κs. search needs) returns-3 returns-4)
+    tie.close (tie.spec (λ c κs. search needs) (λ c κs. search needs) (λ c κs. search needs) (λ c κs. search needs)
+    returns
+    (λ c κs. search needs) (λ c κs. search needs) (λ c κs. search needs) returns-2 (λ c κs. search needs) returns-3
+    returns-4)

@@ -1,4 +1,5 @@
--- `trig::series`: the loop counts the twenty turns down, and what the turns that are left give is what all twenty give. Assumes nothing.
+-- `trig::series`: the loop counts the twenty turns down, and what the turns that are left give is what all twenty give.
+-- Assumes nothing.
 use native.Mathlib.Omega.{arith}
 use Rattle.trig.specs.Series.{one64, seriesStep, series}
 use Rattle.trig.proofs.Turns.{Turning, turning-start, turning-next, turning-end}
@@ -13,6 +14,7 @@ abbrev μ-loop : tie.MeasureT-loop
 
 pub series-spec : {M : Type 1} → statement M
 series-spec =
-    tie.close (tie.spec Inv-loop μ-loop (λ c. turning-start _ _ _) (λ c κs. omega arith) (λ c. omega arith) (λ c. omega arith)
+    tie.close (tie.spec Inv-loop μ-loop (λ c. turning-start _ _ _) (λ c κs. omega arith) (λ c. omega arith)
+    (λ c. omega arith)
     (λ c. turning-next (c .before .before .loop .inv) (omega arith) (c .series-step .ensures))
     (λ c. unfold series in turning-end (c .before .loop .inv) (omega arith)))

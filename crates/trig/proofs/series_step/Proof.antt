@@ -1,4 +1,5 @@
--- `trig::series_step`: its operations are the definition's, and the whole numbers up to m = 20 are small enough that f64 holds them. Assumes nothing.
+-- `trig::series_step`: its operations are the definition's, and the whole numbers up to m = 20 are small enough that
+-- f64 holds them. Assumes nothing.
 use Prim.Native.Nat.{_+_, _-_, _*_, _≤_}
 use mathlib.Core.Path.{refl}
 use native.Mathlib.Nat.{mul-le-mul}
@@ -20,5 +21,6 @@ returns c = refl
 
 pub series-step-spec : {M : Type 1} → statement M
 series-step-spec =
-    tie.close (tie.spec (λ c. search needs) (λ c. search needs) (λ c. search needs) (λ c. search needs) (λ c. search needs) mul-divisor-3
+    tie.close (tie.spec (λ c. search needs) (λ c. search needs) (λ c. search needs) (λ c. search needs)
+    (λ c. search needs) mul-divisor-3
     (λ c. search needs) returns)

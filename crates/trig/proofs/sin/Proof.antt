@@ -1,4 +1,5 @@
--- `trig::sin`: up to a size of 8 the widened argument times the sine's series of its square is narrowed; beyond it the result is NaN. Assumes nothing.
+-- `trig::sin`: up to a size of 8 the widened argument times the sine's series of its square is narrowed; beyond it the
+-- result is NaN. Assumes nothing.
 use mathlib.Core.Path.{_∙_, ap}
 use borrow.Author.Needs.{needs}
 use lib.Ieee.{Float, binary64, ofBits, mul, div}
@@ -22,4 +23,6 @@ unfolding sin div ofBits
 returns-2 c = beyond (c .before .before .args .x) eight (c .before .abs .ensures) _ (c .if1 .left)
 
 pub sin-spec : {M : Type 1} → statement M
-sin-spec = tie.close (tie.spec (λ c κs. search needs) (λ c κs. search needs) (λ c κs. search needs) (λ c κs. search needs) returns returns-2)
+sin-spec =
+    tie.close (tie.spec (λ c κs. search needs) (λ c κs. search needs) (λ c κs. search needs) (λ c κs. search needs)
+    returns returns-2)

@@ -4,8 +4,8 @@ use crate::inputs::lists::{BLOCK_RECORD, MOST_LAMPS, MOST_WORDS};
 use crate::inputs::random::Random;
 use crate::inputs::records::Record;
 
-/// Refusal 2 is for too many words or lamps, 1 for a length that is not the count's or a side that is not 0 or 1, 4 for a handle
-/// that is not its place.
+/// Refusal 2 is for too many words or lamps, 1 for a length that is not the count's or a side that is not 0
+/// or 1, 4 for a handle that is not its place.
 pub fn check_block(block: &[u32]) -> Result<(), u32> {
     let count = block.first().map_or(0, |count| *count as usize);
     if block.len() > MOST_WORDS || count > MOST_LAMPS {
@@ -61,7 +61,8 @@ impl Random {
         block
     }
 
-    /// The layout of a block of so many lamps made wrong, or at least not surely right: its length, word 0, a handle or a side.
+    /// The layout of a block of so many lamps made wrong, or at least not surely right: its length, word 0, a
+    /// handle or a side.
     pub(crate) fn damage_block(&mut self, block: &mut Vec<u32>, lamps: u64) {
         let bit = 1 << self.below(32);
         let place = self.below(lamps.max(1)) as usize * BLOCK_RECORD + 1;

@@ -78,7 +78,8 @@ pub fn few(width: Width) -> Vec<u64> {
     let limits = [2, normal, infinity - 2];
     words.extend(halves.into_iter().chain(powers).chain(limits).flat_map(around));
     if width == Width::F64 {
-        // f32's limits and their middles: half the smallest, where subnormals end, a carry into the next exponent, overflow
+        // f32's limits and their middles: half the smallest, where subnormals end, a carry into the next
+        // exponent, overflow
         let singles = [0, 1, 0x3f_ffff, 0x7f_fffe, 0x7f_ffff, 0x80_0000, 0x3f7f_ffff, 0x3f80_0000, 0x7f7f_fffe, 0x7f7f_ffff];
         words.extend(singles.into_iter().map(middle).flat_map(around));
         words.extend(around(width.word(f32::MAX.into())));
@@ -109,7 +110,8 @@ pub fn special_cases(f: &Function) -> impl Iterator<Item = Case> {
     choices(if f.arguments < 3 { special(f.width) } else { few(f.width) }, f.arguments)
 }
 
-/// The cases of the stored answers, always the same: choices of the most special words, each of the few, then random ones.
+/// The cases of the stored answers, always the same: choices of the most special words, each of the few, then
+/// random ones.
 pub fn stored_cases(f: &Function) -> Vec<Case> {
     const STORED: usize = 256;
     let mut random = Random::new(f.op.into());
@@ -202,8 +204,9 @@ impl Random {
         middle(single as u32)
     }
 
-    /// A power of four times the square, cut to the fraction's length, of a short number, of a float or of a middle between two;
-    /// or times a number just beside such a middle's square that needs no cut, so that its root all but ties.
+    /// A power of four times the square, cut to the fraction's length, of a short number, of a float or of a
+    /// middle between two; or times a number just beside such a middle's square that needs no cut, so that
+    /// its root all but ties.
     fn square(&mut self, width: Width) -> u64 {
         let (square, short) = (|root: u64| u128::from(root) * u128::from(root), width.fraction.div_ceil(2));
         let square = match self.below(4) {
@@ -224,7 +227,8 @@ impl Random {
     }
 }
 
-/// A number of bits - 1 digits whose square leaves n (1 more than a multiple of 8) when divided by 2^bits, found digit by digit.
+/// A number of bits - 1 digits whose square leaves n (1 more than a multiple of 8) when divided by 2^bits,
+/// found digit by digit.
 fn root_modulo(n: i64, bits: u32) -> u64 {
     let mut root = 1u64;
     for digit in 3..bits {

@@ -1,5 +1,5 @@
-//! Packing: what it takes and answers, what is read back from packed words, and cases for its runs: built trees, words made wrong,
-//! records at the edges between steps, another box, another k, trays of any length.
+//! Packing: what it takes and answers, what is read back from packed words, and cases for its runs: built
+//! trees, words made wrong, records at the edges between steps, another box, another k, trays of any length.
 
 use crate::inputs::random::Random;
 use crate::inputs::records::{Record, UNFIT, Vector};
@@ -294,8 +294,8 @@ impl Random {
         Some(corners)
     }
 
-    /// A case about a built tree: half of them with words of some nodes made wrong, two in five with another box, some with another k,
-    /// another length or another tray.
+    /// A case about a built tree: half of them with words of some nodes made wrong, two in five with another
+    /// box, some with another k, another length or another tray.
     pub fn packing_case(&mut self, words: &Words, (k, all): Built) -> (Case, Vec<Change>) {
         let (mut words, mut all, mut changes) = (words.clone(), all, vec![]);
         match self.below(8) {

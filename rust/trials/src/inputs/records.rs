@@ -102,8 +102,8 @@ impl Random {
         record
     }
 
-    /// One word or more made unfit: any place not finite, ends of a box exchanged, no direction, a power or a cosine out of range,
-    /// an unknown side, or any bits.
+    /// One word or more made unfit: any place not finite, ends of a box exchanged, no direction, a power or a
+    /// cosine out of range, an unknown side, or any bits.
     pub(crate) fn damage(&mut self, record: &mut Record) {
         let axis = self.below(3) as usize;
         match self.below(8) {

@@ -1,4 +1,5 @@
-//! Offices for the benchmarks: lamps as a lighting plan has them, and the points that they light. Metres, lumens, candelas; z is up.
+//! Offices for the benchmarks: lamps as a lighting plan has them, and the points that they light. Metres,
+//! lumens, candelas; z is up.
 
 use crate::inputs::lists::{BLOCK_RECORD, Kind, head, list_of};
 use crate::inputs::random::Random;
@@ -82,8 +83,8 @@ fn panel([x, y, z]: Vector, size: [f32; 2], lumens: f32, dimmed: f32, two_sided:
 }
 
 impl Random {
-    /// The lamp of a square. At a wall every second one washes the wall with light; of the others half are panels, and the rest
-    /// downlights, pendants and desk lamps.
+    /// The lamp of a square. At a wall every second one washes the wall with light; of the others half are
+    /// panels, and the rest downlights, pendants and desk lamps.
     fn office_lamp(&mut self, [x, y]: [f32; 2], from_wall: Option<[f32; 2]>) -> Vec<u32> {
         let dimmed = self.of(&[1.0, 1.0, 0.8, 0.5]);
         if let Some([u, v]) = from_wall.filter(|_| self.chance(2)) {

@@ -1,4 +1,5 @@
-//! Trees: a node's layout as document 01 has it, what build is lent, and blocks for its runs, random, degenerate and damaged.
+//! Trees: a node's layout as document 01 has it, what build is lent, and blocks for its runs, random,
+//! degenerate and damaged.
 
 use crate::inputs::blocks::block_of;
 use crate::inputs::lists::{MOST_LAMPS, MOST_WORDS};
@@ -61,9 +62,10 @@ pub fn all_about(low: Vector, high: Vector, phi: f32) -> Record {
     record_of([low, high], [0.0, 0.0, 1.0], [phi, -1.0, 0.0], 0)
 }
 
-/// Lamps whose tree is as deep as can be, k - 1 forks. The first is a box so large and so strong that no other's cost shows beside
-/// its own: every cut costs the same, and the first bucket is cut off. One lamp lies there: the others stand along the three axes,
-/// each 1.098 times as far out as the next, which is more than 12/11.
+/// Lamps whose tree is as deep as can be, k - 1 forks. The first is a box so large and so strong that no
+/// other's cost shows beside its own: every cut costs the same, and the first bucket is cut off. One lamp
+/// lies there: the others stand along the three axes, each 1.098 times as far out as the next, which is more
+/// than 12/11.
 pub fn deepest(lamps: usize) -> Vec<Record> {
     let size = 2f32.powi(58);
     let along = lamps.div_ceil(3);
@@ -100,7 +102,8 @@ impl Random {
         (if self.chance(20) { 0 } else { 1 + self.below(most) }) as usize
     }
 
-    /// Whole numbers of a size below the bound along the axes that are free, as a mask; along the others those of the place given.
+    /// Whole numbers of a size below the bound along the axes that are free, as a mask; along the others
+    /// those of the place given.
     fn grid_place(&mut self, fixed: Vector, free: u32, bound: u64) -> Vector {
         [0, 1, 2].map(|i| if free >> i & 1 == 1 { self.below(bound) as f32 * self.of(&[1.0, -1.0]) } else { fixed[i] })
     }
@@ -184,8 +187,8 @@ impl Random {
         (0..count).map(record).collect()
     }
 
-    /// How many words are lent for so many lamps: as many as are needed, more, or, for any of the first three, fewer; of the answer as many
-    /// as are needed.
+    /// How many words are lent for so many lamps: as many as are needed, more, or, for any of the first
+    /// three, fewer; of the answer as many as are needed.
     fn tree_rooms(&mut self, lamps: usize) -> [usize; 4] {
         let short = if self.chance(6) { 1 + self.below(7) } else { 0 };
         let mut rooms = reserves(lamps);

@@ -1,5 +1,5 @@
-//! Walks over a tree's words: what they take and answer, and cases for their runs: built trees, trees with words made wrong, queries
-//! about them, u at the edges between lamps.
+//! Walks over a tree's words: what they take and answer, and cases for their runs: built trees, trees with
+//! words made wrong, queries about them, u at the edges between lamps.
 
 use crate::inputs::blocks::block_of;
 use crate::inputs::lists::MOST_LAMPS;

@@ -24,8 +24,8 @@ impl Random {
         count as usize
     }
 
-    /// Weights of one manner: any, all equal, one huge among tiny, few whole numbers, zeros, subnormals, so large that their sum is
-    /// not finite, powers of two, or of all sizes.
+    /// Weights of one manner: any, all equal, one huge among tiny, few whole numbers, zeros, subnormals, so
+    /// large that their sum is not finite, powers of two, or of all sizes.
     pub fn weights(&mut self, count: usize) -> Vec<f32> {
         let one = self.phi();
         let mut weights = vec![one; count];

@@ -1,6 +1,7 @@
-//! The two loops of the reference's walks, over links of which some may be unknown, and over any weighing: what a child weighs is handed
-//! in, so a rule about weights changes neither loop. They stop where the reference would, under its messages, and with messages of their
-//! own at what is unknown; and they tell where they were.
+//! The two loops of the reference's walks, over links of which some may be unknown, and over any weighing:
+//! what a child weighs is handed in, so a rule about weights changes neither loop. They stop where the
+//! reference would, under its messages, and with messages of their own at what is unknown; and they tell
+//! where they were.
 
 use crate::inputs::records::{Query, vectors};
 use crate::inputs::trees::{INTERIOR, LEAF, NODE, PAYLOAD};
@@ -12,7 +13,8 @@ use crate::oracle::reference::{
 };
 use crate::oracle::standins;
 
-/// What a walk reads of a node beside what it weighs: a leaf's handle or a fork's right child, none where the kind is unknown; the parent.
+/// What a walk reads of a node beside what it weighs: a leaf's handle or a fork's right child, none where the
+/// kind is unknown; the parent.
 pub struct Link {
     kind: Option<Kind>,
     parent: u32,

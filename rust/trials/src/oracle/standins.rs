@@ -55,8 +55,9 @@ pub fn is_sign_negative(x: f32) -> bool {
     word(x) >> 31 == 1
 }
 
-/// One of the two whole numbers about x: the one away from zero where `away` says so, given whether x is negative and whether
-/// its fraction is at least a half. A whole x is its own answer. The sign stays, also on a zero.
+/// One of the two whole numbers about x: the one away from zero where `away` says so, given whether x is
+/// negative and whether its fraction is at least a half. A whole x is its own answer. The sign stays, also on
+/// a zero.
 fn whole(x: f32, away: fn(bool, bool) -> bool) -> f32 {
     let sign = x.to_bits() & 0x8000_0000;
     let size = x.to_bits() ^ sign;
@@ -137,8 +138,8 @@ impl Format {
         if exponent == 0 { (word, self.least) } else { (word % hidden + hidden, self.least + exponent - 1) }
     }
 
-    /// The word of the float nearest to m × 2^e, ties to even; `more` says that the value lies between that and (m + 1) × 2^e,
-    /// and needs an m longer than a significand.
+    /// The word of the float nearest to m × 2^e, ties to even; `more` says that the value lies between that
+    /// and (m + 1) × 2^e, and needs an m longer than a significand.
     fn nearest(&self, m: u64, e: i32, more: bool) -> u64 {
         let length = 64 - m.leading_zeros() as i32;
         // digits to cut: all beyond a significand's, and all below the smallest float

@@ -1,9 +1,9 @@
-//! What stands for what in the reference files before they are compiled: literal strings, taken in order, each found at least
-//! once or the build stops. The build script reads this file too.
+//! What stands for what in the reference files before they are compiled: literal strings, taken in order,
+//! each found at least once or the build stops. The build script reads this file too.
 
 pub type Pair = (&'static str, &'static str);
 
-/// What the reference borrows from the rest of pbrt-r4: the small types in `borrowed!` of reference.rs.
+/// What the reference borrows from the rest of pbrt-r4: the small types in `borrowed!` of `reference/sides.rs`.
 pub const BORROWED: &[Pair] = &[
     ("use crate::util::base::Vector3f;", "use super::borrowed::Vector3f;"),
     ("use crate::util::error::PbrtError;", "use super::PbrtError;"),
@@ -19,7 +19,8 @@ pub const BVH_BORROWED: &[Pair] = &[
     ("use crate::util::error::PbrtError;", "use super::PbrtError;"),
 ];
 
-/// The same of light_sampler.rs, whose text is cut before `resolve_light_sampler`: from there on it chooses a kind of sampler.
+/// The same of light_sampler.rs, whose text is cut before `resolve_light_sampler`: from there on it chooses a
+/// kind of sampler.
 pub const SAMPLER_BORROWED: &[Pair] = &[
     ("use crate::gpu::flat;", "use super::light_bounds as flat;"),
     ("use crate::util::error::PbrtError;", "use super::PbrtError;"),
@@ -27,8 +28,8 @@ pub const SAMPLER_BORROWED: &[Pair] = &[
 
 pub const SAMPLER_END: &str = "pub fn resolve_light_sampler(";
 
-/// The same of webgpu/light_bvh.rs, the packing, whose text is cut from the first of these lines to the second: `LightBvhUploadData` is
-/// left out. A message names its node, which no number does.
+/// The same of webgpu/light_bvh.rs, the packing, whose text is cut from the first of these lines to the
+/// second: `LightBvhUploadData` is left out. A message names its node, which no number does.
 pub const PACKED_CUT: [&str; 2] = ["pub struct LightBvhUploadData {", "pub fn pack_light_bvh("];
 
 pub const PACKED_BORROWED: &[Pair] = &[
@@ -49,8 +50,8 @@ pub const PACKED_BOX: &[Pair] =
 /// An error of a union within a group, told apart from the record's own check.
 pub const LOST: &[Pair] = &[("existing.union(current)?", "existing.union(current).map_err(super::lost)?")];
 
-/// The same of a union within a tree, where document 01 has one number for Rust's error at a node and its panic in a split: what
-/// panics there gives the error on.
+/// The same of a union within a tree, where document 01 has one number for Rust's error at a node and its
+/// panic in a split: what panics there gives the error on.
 pub const BVH_LOST: &[Pair] = &[
     (
         ".union(bvh.nodes[right_child as usize].bounds())?",
@@ -256,8 +257,8 @@ pub const PACKED_MARKS: &[Pair] = &[
 pub const BY_VALUE: &[Pair] =
     &[("a: &Vector3f, b: &Vector3f", "a: Vector3f, b: Vector3f"), ("*a", "a"), ("*b", "b"), ("Float::asin(", "asin(")];
 
-/// The methods that the oracle may call once all is put in: none has a figure of its own. Any other stops the build, so that no
-/// function of Rust's library slips in.
+/// The methods that the oracle may call once all is put in: none has a figure of its own. Any other stops the
+/// build, so that no function of Rust's library slips in.
 pub const METHODS: &[&str] = &[
     "standin_min",
     "standin_max",

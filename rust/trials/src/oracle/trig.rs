@@ -1,4 +1,5 @@
-//! Document 01's cos, sin, acos and asin, step by step in f64 as its sentences say, on the stand-ins for narrowing and roots.
+//! Document 01's cos, sin, acos and asin, step by step in f64 as its sentences say, on the stand-ins for
+//! narrowing and roots.
 
 use crate::oracle::standins::{narrow, sqrt64, widen};
 

@@ -1,9 +1,10 @@
 //! The oracle's draws and chances by name over words.
 //!
-//! The checks of lengths (2, 1) are document 01's own. Behind them stand the reference's functions themselves, on the nodes that the words
-//! decode to; the decoder is ours. Where a rule of ours applies, which the reference does not have, the walks of `loops` stand in their
-//! place, with the reference's own `importance`; today that is where some node has an unknown kind or side, which no node of the Rust
-//! can have. Wherever none applies the loops run too, and must answer as the reference does.
+//! The checks of lengths (2, 1) are document 01's own. Behind them stand the reference's functions
+//! themselves, on the nodes that the words decode to; the decoder is ours. Where a rule of ours applies,
+//! which the reference does not have, the walks of `loops` stand in their place, with the reference's own
+//! `importance`; today that is where some node has an unknown kind or side, which no node of the Rust can
+//! have. Wherever none applies the loops run too, and must answer as the reference does.
 
 use crate::inputs::lists::MOST_LAMPS;
 use crate::inputs::records::{Query, vectors};

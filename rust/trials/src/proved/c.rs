@@ -1,9 +1,11 @@
-//! The proved functions as C calls them, and the one place in the trials that declares them: first those of `liblight_c.a`, which ships,
-//! then those of `libparts_c.a`, for the tests alone. The product's own declarations are those of `light_tree/src/sys.rs`;
-//! `include/light_tree.h` tells of each function of the first, and `light_tree/tests/header.rs` holds both files to it.
+//! The proved functions as C calls them, and the one place in the trials that declares them: first those of
+//! `liblight_c.a`, which ships, then those of `libparts_c.a`, for the tests alone. The product's own
+//! declarations are those of `light_tree/src/sys.rs`; `include/light_tree.h` tells of each function of the
+//! first, and `light_tree/tests/header.rs` holds both files to it.
 
-// SAFETY: nothing checks the lines of the second library against the Rattle source. There each function is proved for every input, so
-// those on plain numbers are safe to call; those on slices take each as a pointer and a length, and are wrapped in `proved`.
+// SAFETY: nothing checks the lines of the second library against the Rattle source. There each function is
+// proved for every input, so those on plain numbers are safe to call; those on slices take each as a pointer
+// and a length, and are wrapped in `proved`.
 unsafe extern "C" {
     pub fn light_bounds_block(list: *const u32, list_len: usize, block: *mut u32, block_len: usize) -> u32;
     pub fn light_build(

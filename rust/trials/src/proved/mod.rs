@@ -120,8 +120,8 @@ pub fn sampler_pmf(nodes: &[u8], table: &[u8], query: &Query, handle: u32) -> Ch
     }
 }
 
-/// The packed words of a tree's nodes as bytes, written to the front of `out`: how many they are. The box is there where `present` is
-/// not 0.
+/// The packed words of a tree's nodes as bytes, written to the front of `out`: how many they are. The box is
+/// there where `present` is not 0.
 pub fn packed_by_value(nodes: &[u8], k: usize, present: u32, all: Corners, out: &mut [u8]) -> Packed {
     let (len, out_len) = (nodes.len(), out.len());
     let [a, b, c, d, e, f] = all.map(f32::from_bits);

@@ -1,4 +1,5 @@
-//! The proved programs in target/bin: what each writes for an input, and what it does where nothing can be read or written.
+//! The proved programs in target/bin: what each writes for an input, and what it does where nothing can be
+//! read or written.
 
 use std::fs::File;
 use std::io::Write;
@@ -8,8 +9,8 @@ fn program(name: &str) -> Command {
     Command::new(format!("{}/../../target/bin/{name}", env!("CARGO_MANIFEST_DIR")))
 }
 
-/// Standard output and standard error at the end. A program that has its answer reads no further, so the input need not be taken
-/// whole; it arrives in pieces of these sizes, over and over.
+/// Standard output and standard error at the end. A program that has its answer reads no further, so the
+/// input need not be taken whole; it arrives in pieces of these sizes, over and over.
 fn ended(mut running: Child, input: &[u8], pieces: &[usize]) -> (Vec<u8>, String) {
     let (mut stdin, input, pieces) = (running.stdin.take().unwrap(), input.to_vec(), pieces.to_vec());
     let writer = std::thread::spawn(move || {

@@ -1,5 +1,5 @@
-//! The proved functions and, where the reference is there, the oracle: each is called, and both must answer and write alike. So what a
-//! test says of an answer it says of the product, and of the oracle too.
+//! The proved functions and, where the reference is there, the oracle: each is called, and both must answer
+//! and write alike. So what a test says of an answer it says of the product, and of the oracle too.
 
 use crate::inputs::packing::{Corners, Packed};
 use crate::inputs::records::{Query, Record};

@@ -21,8 +21,8 @@ pub fn validates(seed: u64, cases: u64) -> Tally {
     tally
 }
 
-/// The words that a union is written to lie at the front of a longer slice, whose rest must stay; a refusal 10 zeroes them, a
-/// refusal 1 leaves them.
+/// The words that a union is written to lie at the front of a longer slice, whose rest must stay; a refusal
+/// 10 zeroes them, a refusal 1 leaves them.
 pub fn unions(seed: u64, cases: u64) -> Tally {
     let mut random = Random::new(seed);
     let mut tally = Tally::new();

@@ -1,5 +1,6 @@
-//! The search for a violation of demand 3 on built trees: u in order draw lamps in order, each lamp in one run; the named chance of a lamp
-//! drawn is given, and enters the nodes of the draw; the tree is whole. A draw is handed in, so that broken ones can be found out.
+//! The search for a violation of demand 3 on built trees: u in order draw lamps in order, each lamp in one
+//! run; the named chance of a lamp drawn is given, and enters the nodes of the draw; the tree is whole. A
+//! draw is handed in, so that broken ones can be found out.
 
 use super::progress::Progress;
 use crate::inputs::random::Random;
@@ -67,8 +68,9 @@ impl std::fmt::Display for Search {
     }
 }
 
-/// What of the last paragraph of demand 3 is not so: 2k - 1 nodes, each reached once by child words from the first; a leaf for each lamp with
-/// power, where the table says, and no other; each box holds its children's. And each child's parent word is right.
+/// What of the last paragraph of demand 3 is not so: 2k - 1 nodes, each reached once by child words from the
+/// first; a leaf for each lamp with power, where the table says, and no other; each box holds its children's.
+/// And each child's parent word is right.
 pub fn shape_flaw(records: &[Record], words: &Words) -> Option<&'static str> {
     let powered = |record: &Record| f32::from_bits(record[9]) > 0.0;
     let k = records.iter().filter(|record| powered(record)).count();
@@ -197,9 +199,10 @@ fn spoil_parent(nodes: &mut [u8], place: usize) {
     nodes[NODE_BYTES * place + 8..NODE_BYTES * place + 12].copy_from_slice(&(NONE - 1).to_le_bytes());
 }
 
-/// Whether the named chance of a lamp drawn is given, and whether draw and chance enter exactly the nodes on the way up from its leaf. What
-/// they enter is seen from outside: a node spoilt for the walk turns its answer to 12 where the walk enters it. Nodes in such a way have
-/// one order, root first or leaf first, as their parent words were found right.
+/// Whether the named chance of a lamp drawn is given, and whether draw and chance enter exactly the nodes on
+/// the way up from its leaf. What they enter is seen from outside: a node spoilt for the walk turns its
+/// answer to 12 where the walk enters it. Nodes in such a way have one order, root first or leaf first, as
+/// their parent words were found right.
 fn followed(
     words: &Words,
     Tree { nodes, table }: &Tree,
@@ -272,8 +275,8 @@ impl Search {
         None
     }
 
-    /// Trees of the proved build with the proved chance by name and the draw given, one query a tree; it ends at so many trees, or, where it is
-    /// to, at the first violation.
+    /// Trees of the proved build with the proved chance by name and the draw given, one query a tree; it ends
+    /// at so many trees, or, where it is to, at the first violation.
     pub fn run(draw: Draw, seed: u64, trees: u64, to_the_first: bool) -> Search {
         let mut random = Random::new(seed);
         let (mut search, mut progress) = (Search::default(), Progress::new("trees searched", trees));

@@ -1,6 +1,7 @@
 //! Tests that need the reference.
 
-/// Differential tests. With no reference each is ignored, with that reason, and counts as neither passed nor failed; `.ci/run` names it.
+/// Differential tests. With no reference each is ignored, with that reason, and counts as neither passed nor
+/// failed; `.ci/run` names it.
 #[macro_export]
 macro_rules! differential {
     ($($(#[$text:meta])* fn $name:ident() { $($body:tt)* })*) => {

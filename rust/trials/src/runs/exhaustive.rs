@@ -1,5 +1,5 @@
-//! The proved library functions against the stand-ins and against Rust's own: every argument of a function of one 32-bit word, 10^8
-//! random cases of the others.
+//! The proved library functions against the stand-ins and against Rust's own: every argument of a function of
+//! one 32-bit word, 10^8 random cases of the others.
 
 use super::functions::{Case, FUNCTIONS, Function};
 use super::progress::Progress;

@@ -1,5 +1,5 @@
-//! One table of the library functions, each as proved, as stand-in and as Rust's own, all on words: so that every run that
-//! holds two of them against each other is one loop.
+//! One table of the library functions, each as proved, as stand-in and as Rust's own, all on words: so that
+//! every run that holds two of them against each other is one loop.
 
 use std::convert::identity;
 
@@ -105,8 +105,8 @@ impl Function {
         FUNCTIONS.iter().find(|f| f.name == name).unwrap_or_else(|| panic!("no function {name}"))
     }
 
-    /// Whether the case is a pair of unlike zeros. Document 01 gives the first; Rust leaves open which, and its answer changes
-    /// with the code about the call.
+    /// Whether the case is a pair of unlike zeros. Document 01 gives the first; Rust leaves open which, and
+    /// its answer changes with the code about the call.
     pub fn unlike_zeros(&self, case: &Case) -> bool {
         self.arguments == 2 && (case[0] | case[1]) == 1 << 31 && case[0] != case[1]
     }
@@ -128,7 +128,8 @@ impl Function {
         (0..random_cases).for_each(|_| check(random.case(self)));
     }
 
-    /// The same on special words and on random angles and cosines; counts the answers that are numbers and those that are NaN.
+    /// The same on special words and on random angles and cosines; counts the answers that are numbers and
+    /// those that are NaN.
     pub fn check_angles(&self, seed: u64, random_cases: u64) -> [u64; 2] {
         let mut random = Random::new(seed);
         let words = special(self.width).into_iter().chain((0..random_cases).map(|_| random.angle().into()));

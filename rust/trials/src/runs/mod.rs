@@ -1,5 +1,5 @@
-//! The runs: proved functions against the oracle, against their stand-ins or against what is true of every answer, over random inputs.
-//! Tests run them at a fixed size; the program `run` at any.
+//! The runs: proved functions against the oracle, against their stand-ins or against what is true of every
+//! answer, over random inputs. Tests run them at a fixed size; the program `run` at any.
 
 #[cfg(reference)]
 pub mod alias;

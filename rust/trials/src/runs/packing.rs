@@ -1,5 +1,5 @@
-//! Runs of the proved packing against the oracle, over built and damaged words with the box, k, the lengths and the tray changed too,
-//! counted by how each case ended. What is packed is also read back.
+//! Runs of the proved packing against the oracle, over built and damaged words with the box, k, the lengths
+//! and the tray changed too, counted by how each case ended. What is packed is also read back.
 
 use super::progress::Progress;
 use super::tally::{self, OWN, Tally};
@@ -77,7 +77,8 @@ fn box_reason(all: &Corners) -> Option<u32> {
     }
 }
 
-/// What a case is to be refused for, judged from document 01's table and apart from the reference: every reason there is, in order.
+/// What a case is to be refused for, judged from document 01's table and apart from the reference: every
+/// reason there is, in order.
 struct Judged {
     lengths: Vec<u32>,
     disagree: bool,
@@ -147,7 +148,8 @@ impl Judged {
     }
 }
 
-/// Why the words packed for a node are not those of its words, if they are not: what is kept is read back exact, the rest within its step.
+/// Why the words packed for a node are not those of its words, if they are not: what is kept is read back
+/// exact, the rest within its step.
 fn node_flaw(node: &[u32; NODE], packed: &[u32; PACKED_NODE], all: &Corners) -> Option<&'static str> {
     let read = Unpacked::new(packed);
     let (leaf, figure) = (node[0] & !PAYLOAD == LEAF, |word: u32| f64::from(f32::from_bits(word)));
@@ -292,8 +294,8 @@ pub fn packings(seed: u64, cases: u64) -> Tally {
     })
 }
 
-/// Each word of each node of some small trees that are packed, and each word of their boxes, replaced by each kind of wrong value in turn;
-/// and every length of the tray up to some bytes past the reserve.
+/// Each word of each node of some small trees that are packed, and each word of their boxes, replaced by each
+/// kind of wrong value in turn; and every length of the tray up to some bytes past the reserve.
 pub fn each_word(seed: u64, trees: u64) -> Tally {
     let mut random = Random::new(seed);
     let mut tally = Tally::new();

@@ -7,7 +7,8 @@ use crate::parts::{Ended, numbers};
 use crate::proved::lamps_build_light_bounds;
 use std::io::Write;
 
-/// `columns-input LAMPS GROUPS`: an office's block and groups on its benches and walls, as the program `columns` reads them.
+/// `columns-input LAMPS GROUPS`: an office's block and groups on its benches and walls, as the program
+/// `columns` reads them.
 pub fn columns_input(arguments: &[String]) -> Ended {
     let [lamps, groups] = numbers(arguments, 2, [0; 2])?;
     let mut random = Random::new(0);

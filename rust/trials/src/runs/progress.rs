@@ -1,4 +1,5 @@
-//! How far a long run is, told on standard error every few seconds. Nothing is told until a program asks for it: tests stay quiet.
+//! How far a long run is, told on standard error every few seconds. Nothing is told until a program asks for
+//! it: tests stay quiet.
 
 use std::sync::atomic::{AtomicBool, Ordering};
 use std::time::{Duration, Instant};

@@ -1,4 +1,5 @@
-//! The count of a run: how each case ended, by refusal, by branch of the reference and by what else the run tells apart.
+//! The count of a run: how each case ended, by refusal, by branch of the reference and by what else the run
+//! tells apart.
 
 use crate::oracle::reference::{BRANCHES, Branches, REFUSALS};
 use std::time::Instant;
@@ -26,7 +27,8 @@ impl Tally {
         Tally { labels: branches.chain(errors).map(|label| (label, 0)).collect(), ..Tally::default() }
     }
 
-    /// Counts a case: its answer, the branches on the way to it, and which of the run's own labels it has, in the same order each time.
+    /// Counts a case: its answer, the branches on the way to it, and which of the run's own labels it has, in
+    /// the same order each time.
     pub(crate) fn case<A>(
         &mut self,
         answer: &Result<A, u32>,
@@ -50,8 +52,8 @@ impl Tally {
         }
     }
 
-    /// Ends the test where a case differs, where an answer named or a label with a prefix named is without a case, or where no label
-    /// has the prefix.
+    /// Ends the test where a case differs, where an answer named or a label with a prefix named is without a
+    /// case, or where no label has the prefix.
     pub fn check(&self, answers: &[usize], prefixes: &[&str]) {
         assert!(self.differences == 0, "{} of {} differ: {:#?}", self.differences, self.cases, self.shown);
         answers.iter().for_each(|&n| assert!(self.answers[n] > 0, "no case ended in {}", ending(n)));

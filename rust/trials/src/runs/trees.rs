@@ -1,5 +1,5 @@
-//! Runs of the proved build against the oracle over random blocks, counted by how each case ended; the oracle's trees are held against
-//! what is true of every tree.
+//! Runs of the proved build against the oracle over random blocks, counted by how each case ended; the
+//! oracle's trees are held against what is true of every tree.
 
 use super::progress::turns;
 use super::tally::{self, OWN, Tally};

@@ -1,5 +1,5 @@
-//! Runs of the proved draws and chances against the oracle, over built trees and trees with words made wrong, counted by how each case
-//! ended.
+//! Runs of the proved draws and chances against the oracle, over built trees and trees with words made wrong,
+//! counted by how each case ended.
 
 use super::progress::Progress;
 use super::tally::{self, OWN, Tally};

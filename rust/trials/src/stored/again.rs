@@ -1,5 +1,5 @@
-//! The lists in the oracle's hands: their cases answered again, after a rule changed, so that all others stay byte for byte; or drawn
-//! anew.
+//! The lists in the oracle's hands: their cases answered again, after a rule changed, so that all others stay
+//! byte for byte; or drawn anew.
 
 use super::{Answer, Case, alias, anew, bounds, changed, floats, lamps, packed, store, stored, trees, walks};
 use crate::parts::Ended;

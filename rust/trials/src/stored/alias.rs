@@ -1,5 +1,6 @@
-//! The stored answers of the alias table: 161 words, how many weights, how many words are lent for the bins and for the work, a
-//! refusal's number or 0, the weights (17 words), the bins (60) and the work (80) as they are after the call (a5a5a5a5 before).
+//! The stored answers of the alias table: 161 words, how many weights, how many words are lent for the bins
+//! and for the work, a refusal's number or 0, the weights (17 words), the bins (60) and the work (80) as they
+//! are after the call (a5a5a5a5 before).
 
 use super::{Answer, Case, List, PATTERN, at_most, first, padded};
 #[cfg(reference)]

@@ -1,4 +1,5 @@
-//! Draws each list of stored answers anew: always the same cases, with the oracle's answers. No proved function has a part in them.
+//! Draws each list of stored answers anew: always the same cases, with the oracle's answers. No proved
+//! function has a part in them.
 
 use super::{alias, bounds, floats, lamps, packed, padded, trees, walks};
 use crate::inputs::floats::stored_cases;

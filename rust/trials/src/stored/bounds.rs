@@ -1,6 +1,6 @@
-//! The stored answers of the bounds: forty words, a 13, b 13, a refusal's number or 0, result 13. Kinds 201 to 204 are cos, sin, acos
-//! and asin of the word a; 205 is the check of the record a, 206 the union of a and b, 207 the importance of a for the query b. What
-//! a kind does not use is 0.
+//! The stored answers of the bounds: forty words, a 13, b 13, a refusal's number or 0, result 13. Kinds 201
+//! to 204 are cos, sin, acos and asin of the word a; 205 is the check of the record a, 206 the union of a and
+//! b, 207 the importance of a for the query b. What a kind does not use is 0.
 
 use super::{Answer, Case, List, padded};
 use crate::inputs::records::{Query, Record};

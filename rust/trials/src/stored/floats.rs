@@ -1,5 +1,6 @@
-//! The stored answers of the library functions: six words, a low and high, b, c, the result low and high. A function's kind is 100 and
-//! its number in `functions.rs`. The oracle is the stand-in, which needs no reference.
+//! The stored answers of the library functions: six words, a low and high, b, c, the result low and high. A
+//! function's kind is 100 and its number in `functions.rs`. The oracle is the stand-in, which needs no
+//! reference.
 
 use super::{Answer, Case, List};
 use crate::runs::functions::{self, FUNCTIONS, Function};

@@ -1,5 +1,6 @@
-//! The stored answers of the lamp lists: 243 words, the list's length, how many words are lent, a refusal's number or 0, the list (160
-//! words), the words lent and those behind them as they are after the call (80; a5a5a5a5 before).
+//! The stored answers of the lamp lists: 243 words, the list's length, how many words are lent, a refusal's
+//! number or 0, the list (160 words), the words lent and those behind them as they are after the call (80;
+//! a5a5a5a5 before).
 
 use super::{Answer, Case, List, PATTERN, at_most, first, padded};
 #[cfg(reference)]

@@ -1,8 +1,8 @@
-//! The stored answers of the oracle, a list of cases a part, `answers/PART.words`: little-endian words, a case being its kind, how many
-//! words follow, and those words. A test replays each list by the proved functions, with no need of the reference (`tests/stored.rs`);
-//! `tools/answers` answers their cases again by the oracle, or draws a list anew. A module a part says what its words mean; kinds are
-//! 101 to 117 for floats, 201 to 207 for bounds, 300 for lamp lists, 400 for alias tables, 500 for trees, 600 and 601 for walks, 700 for
-//! packing.
+//! The stored answers of the oracle, a list of cases a part, `answers/PART.words`: little-endian words, a case
+//! being its kind, how many words follow, and those words. A test replays each list by the proved functions,
+//! with no need of the reference (`tests/stored.rs`); `tools/answers` answers their cases again by the oracle,
+//! or draws a list anew. A module a part says what its words mean; kinds are 101 to 117 for floats, 201 to 207
+//! for bounds, 300 for lamp lists, 400 for alias tables, 500 for trees, 600 and 601 for walks, 700 for packing.
 
 #[cfg(reference)]
 pub mod again;
@@ -117,7 +117,8 @@ fn take(left: &mut &[u8]) -> Result<u32, String> {
     Ok(u32::from_le_bytes(*word))
 }
 
-/// The cases that a side answers otherwise than it is stored: each with its place, from 1 on, as it is stored and as it is answered.
+/// The cases that a side answers otherwise than it is stored: each with its place, from 1 on, as it is stored
+/// and as it is answered.
 pub fn changed<A: Answer>(stored: &[A], again: fn(&A) -> A) -> Vec<(usize, Case, Case)> {
     let cases = stored.iter().map(|answer| (answer.case(), again(answer).case()));
     (1..).zip(cases).filter(|(_, (was, is))| was != is).map(|(place, (was, is))| (place, was, is)).collect()

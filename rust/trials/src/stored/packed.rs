@@ -1,6 +1,7 @@
-//! The stored answers of packing: 241 words, the bytes that there are of nodes, k, whether there is a box, the box (6), how many bytes are
-//! lent, a refusal's number or 0, whether words are packed, how many, then nodes (144), a5 past their bytes, and the bytes lent (84) as
-//! they are after the call (a5 before). Refusal 2 needs more than a case holds.
+//! The stored answers of packing: 241 words, the bytes that there are of nodes, k, whether there is a box,
+//! the box (6), how many bytes are lent, a refusal's number or 0, whether words are packed, how many, then
+//! nodes (144), a5 past their bytes, and the bytes lent (84) as they are after the call (a5 before). Refusal
+//! 2 needs more than a case holds.
 
 use super::walks::filled_up;
 use super::{Answer, Case, List, PATTERN, at_most, first, padded};

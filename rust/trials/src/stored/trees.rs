@@ -1,6 +1,6 @@
-//! The stored answers of build: 253 words, the light records' count, the block's length, how many words are lent for nodes, table and
-//! work, a refusal's number or 0, k, whether there is a box, the box (6), the block (71), then nodes (147), table (8) and work (13) as
-//! they are after the call (a5a5a5a5 before).
+//! The stored answers of build: 253 words, the light records' count, the block's length, how many words are
+//! lent for nodes, table and work, a refusal's number or 0, k, whether there is a box, the box (6), the block
+//! (71), then nodes (147), table (8) and work (13) as they are after the call (a5a5a5a5 before).
 
 use super::{Answer, Case, List, PATTERN, at_most, first, padded};
 use crate::inputs::trees::{self, ANSWER, Build, Built, built};

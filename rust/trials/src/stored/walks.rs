@@ -1,6 +1,7 @@
-//! The stored answers of the walks: 229 words, the bytes that there are of nodes and of table, the query (6), u's word or a handle, a
-//! refusal's number or 0, whether a chance is given, the handle drawn, the chance, then nodes (208) and table (8), a5 past their bytes.
-//! Kind 600 is a draw, 601 a chance by name. Refusal 2 needs more than a case holds.
+//! The stored answers of the walks: 229 words, the bytes that there are of nodes and of table, the query (6),
+//! u's word or a handle, a refusal's number or 0, whether a chance is given, the handle drawn, the chance,
+//! then nodes (208) and table (8), a5 past their bytes. Kind 600 is a draw, 601 a chance by name. Refusal 2
+//! needs more than a case holds.
 
 use super::{Answer, Case, List, PATTERN, first, padded};
 use crate::inputs::records::Query;

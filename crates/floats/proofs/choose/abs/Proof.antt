@@ -2,7 +2,7 @@
 use mathlib.Core.Path.{sym, subst}
 use lib.Dec.{T}
 use lib.Ieee.{binary32, ofBits, fits}
-use Rattle.ieee.specs.AbsLaws.{abs-greater}
+use Rattle.ieee.specs.Laws.AbsLaws.{abs-greater}
 use Rattle.floats.proofs.choose.abs.Statement.{statement}
 use Rattle.floats.proofs.choose.abs.Tie as tie
 

@@ -5,14 +5,15 @@ use mathlib.Core.Bool.{not}
 use lib.Dec.{T}
 use lib.Ieee.{binary64, fits, isNan, div, ofBits}
 use lib.Ieee.Fits.{and-i, fits-widens}
-use Rattle.ieee.specs.Nans.{no-nan, a-nan}
+use Rattle.ieee.specs.Laws.Nans.{no-nan, a-nan}
 use Rattle.floats.proofs.narrow.widen.Statement.{statement}
 use Rattle.floats.proofs.narrow.widen.Tie as tie
 
 float-to-float-result : tie.Need-float-to-float-result
 float-to-float-result c =
     let x = c .before .before .args .x in
-    and-i (fits binary64 x) (not (isNan x)) (fits-widens x (subst T (sym (c .before .before .good .0 .1)) tt)) (no-nan x (c .before .if1 .left))
+    and-i (fits binary64 x) (not (isNan x)) (fits-widens x (subst T (sym (c .before .before .good .0 .1)) tt))
+    (no-nan x (c .before .if1 .left))
 
 returns : tie.Need-returns
 unfolding div ofBits

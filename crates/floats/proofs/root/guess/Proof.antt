@@ -7,5 +7,6 @@ use Rattle.floats.proofs.root.guess.Tie as tie
 
 pub guess-spec : {M : Type 1} → statement M
 guess-spec =
-    tie.close (tie.spec (λ c. search needs) (λ c κs. (lt-of-le-of-lt (div-le-self _ _) (c .pre), omega arith)) (λ c κs. search needs)
+    tie.close (tie.spec (λ c. search needs) (λ c κs. (lt-of-le-of-lt (div-le-self _ _) (c .pre), omega arith))
+    (λ c κs. search needs)
     (λ c. search needs))

@@ -1,11 +1,12 @@
--- `floats::root::is_nearest`: the tests are those of `isNearest`, and no step of them is too large for 64 digits. Assumes nothing.
+-- `floats::root::is_nearest`: the tests are those of `isNearest`, and no step of them is too large for 64 digits.
+-- Assumes nothing.
 use Prim.Native.Nat.{ℕ, _+_, _*_, _^_, _≤_}
 use mathlib.Core.Path.{_≡_, refl}
 use native.Mathlib.Nat.{mul-le-mul}
 use native.Mathlib.Omega.{arith}
 use borrow.Author.Needs.{needs}
 use borrow.Author.Tests.{lt-ltb, le-ltb}
-use Rattle.ieee.specs.SqrtNear.{isNearest}
+use Rattle.ieee.specs.Laws.SqrtNear.{isNearest}
 use Rattle.floats.proofs.root.is_nearest.Statement.{statement}
 use Rattle.floats.proofs.root.is_nearest.Tie as tie
 
@@ -22,5 +23,6 @@ returns-2 c = let a = c .before .args in rw (le-ltb (64 * (a .q * a .q) + 16) (a
 
 pub is-nearest-spec : {M : Type 1} → statement M
 is-nearest-spec =
-    tie.close (tie.spec (λ c. omega (arith, square-le c)) (λ c. omega (arith, square-le c)) (λ c. omega (arith, square-le c)) (λ c. search needs)
+    tie.close (tie.spec (λ c. omega (arith, square-le c)) (λ c. omega (arith, square-le c))
+    (λ c. omega (arith, square-le c)) (λ c. search needs)
     (λ c. search needs) (λ c. search needs) (λ c. search needs) (λ c. search needs) returns returns-2)

@@ -5,7 +5,7 @@ use native.Mathlib.Omega.{arith}
 use borrow.Author.Needs.{needs}
 use lib.Dec.{lit≤}
 use lib.Ieee.Nearest.{closest}
-use Rattle.ieee.specs.SqrtWords.{sticky, sticky-lt}
+use Rattle.ieee.specs.Laws.SqrtWords.{sticky, sticky-lt}
 use Rattle.floats.proofs.root.kept_root.Statement.{statement}
 use Rattle.floats.proofs.root.kept_root.Tie as tie
 

@@ -1,9 +1,10 @@
--- `floats::root::sticky_root`: the root's square is n, or the root leaves a rest; both are cases of `sticky`. Assumes nothing.
+-- `floats::root::sticky_root`: the root's square is n, or the root leaves a rest; both are cases of `sticky`. Assumes
+-- nothing.
 use Prim.Native.Nat.{_^_, _<_}
 use native.Mathlib.Omega.{arith}
 use borrow.Author.Needs.{needs}
-use Rattle.ieee.specs.SqrtLaws.{Root, root-of, root-below}
-use Rattle.ieee.specs.SqrtWords.{sticky-exact, sticky-rest}
+use Rattle.ieee.specs.Laws.SqrtLaws.{Root, root-of, root-below}
+use Rattle.ieee.specs.Laws.SqrtWords.{sticky-exact, sticky-rest}
 use Rattle.floats.proofs.root.sticky_root.Statement.{statement}
 use Rattle.floats.proofs.root.sticky_root.Tie as tie
 
@@ -18,6 +19,7 @@ returns-2 c = sticky-rest (c .before .before .args .n) (c .before .root .result)
 
 pub sticky-root-spec : {M : Type 1} → statement M
 sticky-root-spec =
-    tie.close (tie.spec (λ c κs. search needs) (λ c. omega (arith, found c .at-most)) (λ c. omega (arith, short (c .before)))
+    tie.close (tie.spec (λ c κs. search needs) (λ c. omega (arith, found c .at-most))
+    (λ c. omega (arith, short (c .before)))
     (λ c. omega (arith, short (c .before))) (λ c. omega (arith, short (c .before)))
     (λ c. sticky-exact (c .before .before .args .n) (c .before .root .result) (c .if1 .taken)) returns-2)

@@ -1,12 +1,12 @@
--- `floats::root::wide_sticky_root`: what the upper half leaves, over twice the upper half, is the lower half or one more, and the rest of that
--- division says which. Assumes nothing.
+-- `floats::root::wide_sticky_root`: what the upper half leaves, over twice the upper half, is the lower half or one
+-- more, and the rest of that division says which. Assumes nothing.
 use Prim.Native.Nat.{ℕ, _-_, _*_, _/_, _%_, _^_, _≤_, _<_}
 use native.Mathlib.Nat.{mul-le-mul}
 use native.Mathlib.Omega.{arith}
 use borrow.Author.Needs.{needs}
 use lib.Dec.{lit<}
-use Rattle.ieee.specs.SqrtLaws.{Root, root-of, root-below, root-from}
-use Rattle.ieee.specs.SqrtWords.{lower, over, whole-root, lower-le, over-lt, wide-exact, wide-above, wide-below}
+use Rattle.ieee.specs.Laws.SqrtLaws.{Root, root-of, root-below, root-from}
+use Rattle.ieee.specs.Laws.SqrtWords.{lower, over, whole-root, lower-le, over-lt, wide-exact, wide-above, wide-below}
 use Rattle.floats.proofs.root.wide_sticky_root.Statement.{statement}
 use Rattle.floats.proofs.root.wide_sticky_root.Tie as tie
 
@@ -44,7 +44,9 @@ wide c = omega (arith, halves c .from)
 
 returns : tie.Need-returns
 unfolding lower over whole-root
-returns c = wide-exact (c .before .before .args .n) (c .before .root .result) (2 ^ 27) (halves (c .before) .upper) (wide (c .before)) (lit< tt) (c .if1 .taken)
+returns c =
+    wide-exact (c .before .before .args .n) (c .before .root .result) (2 ^ 27) (halves (c .before) .upper)
+    (wide (c .before)) (lit< tt) (c .if1 .taken)
 
 returns-2 : tie.Need-returns-2
 unfolding lower over whole-root
@@ -62,12 +64,17 @@ returns-3 c =
 
 pub wide-sticky-root-spec : {M : Type 1} → statement M
 wide-sticky-root-spec =
-    tie.close (tie.spec (λ c κs. search needs) (λ c. omega (arith, halves c .upper .at-most)) (λ c. halves c .upper .at-most)
-    (λ c. omega (arith, halves c .rest, halves c .to)) (λ c. omega (arith, halves c .to)) (λ c. omega (arith, halves c .from))
-    (λ c. omega (arith, halves c .to)) (λ c. omega (arith, halves c .from)) (λ c. omega (arith, halves c .over-to, halves c .to))
-    (λ c. omega (arith, halves c .to)) (λ c. omega (arith, halves c .to, halves c .lower-to)) (λ c. omega (arith, halves c .square-to))
+    tie.close (tie.spec (λ c κs. search needs) (λ c. omega (arith, halves c .upper .at-most))
+    (λ c. halves c .upper .at-most)
+    (λ c. omega (arith, halves c .rest, halves c .to)) (λ c. omega (arith, halves c .to))
+    (λ c. omega (arith, halves c .from))
+    (λ c. omega (arith, halves c .to)) (λ c. omega (arith, halves c .from))
+    (λ c. omega (arith, halves c .over-to, halves c .to))
+    (λ c. omega (arith, halves c .to)) (λ c. omega (arith, halves c .to, halves c .lower-to))
+    (λ c. omega (arith, halves c .square-to))
     (λ c. omega (arith, halves (c .before) .to, halves (c .before) .lower-to))
     (λ c. omega (arith, halves (c .before .before) .to, halves (c .before .before) .lower-to))
     (λ c. omega (arith, halves (c .before .before) .from))
     (λ c. omega (arith, halves (c .before .before) .to, halves (c .before .before) .lower-to))
-    (λ c. omega (arith, halves (c .before .before) .to, halves (c .before .before) .lower-to)) returns returns-2 returns-3)
+    (λ c. omega (arith, halves (c .before .before) .to, halves (c .before .before) .lower-to)) returns returns-2
+    returns-3)

@@ -1,6 +1,6 @@
 -- `floats::shift::power`: a one shifted by less than the width loses nothing. Assumes nothing.
 use borrow.Author.Needs.{needs}
-use Rattle.ieee.specs.Patterns.{one-shifted}
+use Rattle.ieee.specs.Laws.Patterns.{one-shifted}
 use Rattle.floats.proofs.shift.power.Statement.{statement}
 use Rattle.floats.proofs.shift.power.Tie as tie
 

@@ -10,4 +10,5 @@ use Rattle.floats.proofs.sqrt.digits_root.Tie as tie
 pub digits-root-spec : {M : Type 1} → statement M
 digits-root-spec =
     tie.close (tie.spec (λ c κs. search needs) (λ c κs. search needs) (λ c κs. search needs)
-    (λ c. c .pattern .ensures ∙ ap (λ (z : ℕ). toBits binary32 (rootOf binary32 150 z)) (c .before .before .normalised .ensures .0)))
+    (λ c. c .pattern .ensures ∙ ap (λ (z : ℕ). toBits binary32 (rootOf binary32 150 z))
+    (c .before .before .normalised .ensures .0)))

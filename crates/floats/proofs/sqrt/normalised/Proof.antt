@@ -7,7 +7,7 @@ use native.Mathlib.Omega.{arith}
 use borrow.Author.Needs.{needs}
 use lib.Dec.{lit≤}
 use lib.Count.{leadingZeros}
-use Rattle.ieee.specs.SqrtWords.{Normal, normal, normal-same, once-more}
+use Rattle.ieee.specs.Laws.SqrtWords.{Normal, normal, normal-same, once-more}
 use Rattle.floats.proofs.sqrt.normalised.Statement.{statement}
 use Rattle.floats.proofs.sqrt.normalised.Tie as tie
 

@@ -1,4 +1,5 @@
--- `floats::whole::to_usize`: the cast is taken of the word, and a word that x is stored as stands for x. Assumes nothing.
+-- `floats::whole::to_usize`: the cast is taken of the word, and a word that x is stored as stands for x. Assumes
+-- nothing.
 use Prim.Native.Nat.{ℕ}
 use mathlib.Core.Path.{_∙_, ap, sym, subst}
 use borrow.Author.Needs.{needs}

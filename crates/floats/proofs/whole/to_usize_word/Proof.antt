@@ -1,11 +1,12 @@
--- `floats::whole::to_usize_word`: the tests part the words into the ranges of CastWords, here at 64 bits. Assumes nothing.
+-- `floats::whole::to_usize_word`: the tests part the words into the ranges of CastWords, here at 64 bits. Assumes
+-- nothing.
 use mathlib.Core.Logic.{⊎-elim}
 use native.Mathlib.Omega.{arith}
 use borrow.Author.Needs.{needs}
 use borrow.Author.Tests.{ltb-true, ltb-false}
 use lib.Dec.{lit≤}
 use Rattle.ieee.specs.Whole.{toUsize}
-use Rattle.ieee.specs.CastWords.{cast-below, cast-out, cast-above, cast-part, cast-shift}
+use Rattle.ieee.specs.Laws.CastWords.{cast-below, cast-out, cast-above, cast-part, cast-shift}
 use Rattle.floats.proofs.whole.to_usize_word.Statement.{statement}
 use Rattle.floats.proofs.whole.to_usize_word.Tie as tie
 
@@ -23,13 +24,18 @@ returns-2 c =
 
 returns-3 : tie.Need-returns-3
 unfolding toUsize
-returns-3 c = cast-part (c .before .before .before .before .args .w) 64 (lit≤ tt) (c .before .before .before .if1 .left) (omega arith)
+returns-3 c =
+    cast-part (c .before .before .before .before .args .w) 64 (lit≤ tt) (c .before .before .before .if1 .left)
+    (omega arith)
 
 returns-4 : tie.Need-returns-4
 unfolding toUsize
-returns-4 c = cast-shift (c .before .before .before .before .args .w) 64 (lit≤ tt) (omega arith) (c .before .if3 .left) (omega arith)
+returns-4 c =
+    cast-shift (c .before .before .before .before .args .w) 64 (lit≤ tt) (omega arith) (c .before .if3 .left)
+    (omega arith)
 
 pub to-usize-word-spec : {M : Type 1} → statement M
 to-usize-word-spec =
-    tie.close (tie.spec returns returns-2 (λ c. search needs) (λ c. search needs) (λ c. search needs) (λ c. search needs)
+    tie.close (tie.spec returns returns-2 (λ c. search needs) (λ c. search needs) (λ c. search needs)
+    (λ c. search needs)
     (λ c. search needs) (λ c. search needs) returns-3 returns-4)

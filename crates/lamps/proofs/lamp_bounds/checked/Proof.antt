@@ -1,4 +1,4 @@
--- `lamps::lamp_bounds::checked` meets its contract: the record as it is, where it passes its check. Assumes nothing.
+-- `lamps::lamp_bounds::checked`: the record as it is, where it passes its check. Assumes nothing.
 use borrow.Author.Needs.{needs}
 use Rattle.words.specs.Answers.{_then_}
 use Rattle.lamps.specs.LampBounds.{checked}

@@ -1,4 +1,4 @@
--- `lamps::lamp_bounds::group_bounds` meets its contract: the first triangle is kept as it is, the rest are joined to it. Assumes nothing.
+-- `lamps::lamp_bounds::group_bounds`: the first triangle is kept as it is, the rest are joined to it. Assumes nothing.
 use borrow.Author.Needs.{needs}
 use Prim.Native.Nat.{_/_}
 use native.Mathlib.Omega.{arith}
@@ -17,7 +17,8 @@ returns c =
     rw (
       ← c .before .before .before .validate-emission .ensures,
       c .before .enum-told .given .1,
-      unionFrom-end (args .emission-max) (args .scale) (args .two-sided) (now (args .triangles)) 0 (length (now (args .triangles)) / 13) (refused 9)
+      unionFrom-end (args .emission-max) (args .scale) (args .two-sided) (now (args .triangles)) 0
+          (length (now (args .triangles)) / 13) (refused 9)
           (c .if1 .taken),
     )
 
@@ -27,8 +28,12 @@ returns-2 c =
     let args = c .before .before .before .before .before .before .before .before .before .before .before .args in
     rw (← c .before .before .before .before .before .before .before .before .before .validate-emission .ensures)
     (rw (c .before .before .before .before .before .before .before .enum-told .given .1)
-    (rw (unionFrom-first (args .emission-max) (args .scale) (args .two-sided) (now (args .triangles)) (length (now (args .triangles)) / 13) (omega arith))
-    (rw (← c .before .before .before .before .before .triangle-at .ensures, ← c .before .before .before .before .triangle-record .ensures)
+    (rw (unionFrom-first (args .emission-max) (args .scale) (args .two-sided) (now (args .triangles))
+    (length (now (args .triangles)) / 13) (omega arith))
+    (rw (
+      ← c .before .before .before .before .before .triangle-at .ensures,
+      ← c .before .before .before .before .triangle-record .ensures,
+    )
     (rw (c .before .before .first .given .1) (c .union-rest .ensures)))))
 
 returns-3 : tie.Need-returns-3
@@ -37,8 +42,13 @@ returns-3 c =
     let args = c .before .before .before .before .before .before .before .before .before .before .args in
     rw (← c .before .before .before .before .before .before .before .before .validate-emission .ensures)
     (rw (c .before .before .before .before .before .before .enum-told .given .1)
-    (rw (unionFrom-first (args .emission-max) (args .scale) (args .two-sided) (now (args .triangles)) (length (now (args .triangles)) / 13) (omega arith))
-    (rw (← c .before .before .before .before .triangle-at .ensures, ← c .before .before .before .triangle-record .ensures, c .before .why .given .1))))
+    (rw (unionFrom-first (args .emission-max) (args .scale) (args .two-sided) (now (args .triangles))
+    (length (now (args .triangles)) / 13) (omega arith))
+    (rw (
+      ← c .before .before .before .before .triangle-at .ensures,
+      ← c .before .before .before .triangle-record .ensures,
+      c .before .why .given .1,
+    ))))
 
 returns-4 : tie.Need-returns-4
 unfolding groupBounds _then_
@@ -46,5 +56,6 @@ returns-4 c = rw (← c .before .before .before .validate-emission .ensures, c .
 
 pub group-bounds-spec : {M : Type 1} → statement M
 group-bounds-spec =
-    tie.close (tie.spec (λ c κs. search needs) (λ c. search needs) returns (λ c κs. search needs) (λ c κs. search needs) (λ c. search needs)
+    tie.close (tie.spec (λ c κs. search needs) (λ c. search needs) returns (λ c κs. search needs) (λ c κs. search needs)
+    (λ c. search needs)
     (λ c κs. search needs) (λ c. search needs) (λ c. search needs) returns-2 returns-3 returns-4)

@@ -1,4 +1,4 @@
--- `lamps::lamp_bounds::group_phi` meets its contract: its products run left to right. Assumes nothing.
+-- `lamps::lamp_bounds::group_phi`: its products run left to right. Assumes nothing.
 use mathlib.Core.Path.{refl}
 use Rattle.lamps.specs.LampBounds.{groupPhi}
 use Rattle.lamps.proofs.lamp_bounds.group_phi.Statement.{statement}

@@ -1,4 +1,4 @@
--- `lamps::lamp_bounds::has_no_area` meets its contract: not finite, or not above 0. Assumes nothing.
+-- `lamps::lamp_bounds::has_no_area`: not finite, or not above 0. Assumes nothing.
 use lib.Ieee.{ofBits}
 use borrow.Author.Tests.{not-false}
 use borrow.Author.Needs.{needs}

@@ -1,4 +1,4 @@
--- `lamps::lamp_bounds::light_bounds_for_input` meets its contract: a kind of lamp at a time. Assumes nothing.
+-- `lamps::lamp_bounds::light_bounds_for_input`: a kind of lamp at a time. Assumes nothing.
 use borrow.Author.Needs.{needs}
 use Rattle.lamps.specs.LampBounds.{lightBoundsForInput}
 use Rattle.lamps.proofs.lamp_bounds.light_bounds_for_input.Statement.{statement}
@@ -18,5 +18,6 @@ returns-3 c = rw (c .before .before .lamp3 .given .1) (c .group-bounds .ensures)
 
 pub light-bounds-for-input-spec : {M : Type 1} → statement M
 light-bounds-for-input-spec =
-    tie.close (tie.spec (λ c. search needs) (λ c κs. search needs) (λ c. search needs) (λ c κs. search needs) (λ c. search needs)
+    tie.close (tie.spec (λ c. search needs) (λ c κs. search needs) (λ c. search needs) (λ c κs. search needs)
+    (λ c. search needs)
     (λ c κs. search needs) returns returns-2 returns-3)

@@ -1,4 +1,4 @@
--- `lamps::lamp_bounds::spot_record` meets its contract: the position, the direction, then the record. Assumes nothing.
+-- `lamps::lamp_bounds::spot_record`: the position, the direction, then the record. Assumes nothing.
 use borrow.Author.Needs.{needs}
 use Rattle.words.specs.Answers.{_then_}
 use Rattle.lamps.specs.LampBounds.{spotRecord}
@@ -23,10 +23,17 @@ returns-2 c =
 
 returns-3 : tie.Need-returns-3
 unfolding spotRecord _then_
-returns-3 c = rw (← c .before .before .before .before .point-box .ensures, ← c .before .before .before .check .ensures, c .before .why2 .given .1)
+returns-3 c =
+    rw (
+      ← c .before .before .before .before .point-box .ensures,
+      ← c .before .before .before .check .ensures,
+      c .before .why2 .given .1,
+    )
 
 pub spot-record-spec : {M : Type 1} → statement M
 spot-record-spec =
-    tie.close (tie.spec (λ c κs. search needs) (λ c κs. search needs) (λ c. search needs) (λ c κs. search needs) (λ c. search needs)
-    (λ c κs. search needs) (λ c κs. search needs) (λ c κs. search needs) (λ c. search needs) (λ c. search needs) returns returns-2
+    tie.close (tie.spec (λ c κs. search needs) (λ c κs. search needs) (λ c. search needs) (λ c κs. search needs)
+    (λ c. search needs)
+    (λ c κs. search needs) (λ c κs. search needs) (λ c κs. search needs) (λ c. search needs) (λ c. search needs) returns
+    returns-2
     returns-3)

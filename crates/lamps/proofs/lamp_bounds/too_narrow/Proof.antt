@@ -1,4 +1,4 @@
--- `lamps::lamp_bounds::too_narrow` meets its contract: the cosine is 1, and the ends differ. Assumes nothing.
+-- `lamps::lamp_bounds::too_narrow`: the cosine is 1, and the ends differ. Assumes nothing.
 use lib.Ieee.{ofBits, ne}
 use Rattle.lamps.proofs.lamp_bounds.too_narrow.Statement.{statement}
 use Rattle.lamps.proofs.lamp_bounds.too_narrow.Tie as tie

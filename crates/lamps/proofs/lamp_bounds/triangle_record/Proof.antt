@@ -1,4 +1,4 @@
--- `lamps::lamp_bounds::triangle_record` meets its contract: the box, the area, then what faces. Assumes nothing.
+-- `lamps::lamp_bounds::triangle_record`: the box, the area, then what faces. Assumes nothing.
 use borrow.Author.Needs.{needs}
 use Rattle.words.specs.Answers.{_then_}
 use Rattle.lamps.specs.LampBounds.{triangleRecord}
@@ -7,7 +7,11 @@ use Rattle.lamps.proofs.lamp_bounds.triangle_record.Tie as tie
 
 returns : tie.Need-returns
 unfolding triangleRecord _then_
-returns c = rw (← c .before .before .before .before .before .triangle-bounds .ensures, ← c .before .before .before .before .check .ensures)
+returns c =
+    rw (
+      ← c .before .before .before .before .before .triangle-bounds .ensures,
+      ← c .before .before .before .before .check .ensures,
+    )
     (rw (c .before .before .enum-told .given .1, ← c .before .has-no-area .ensures, c .if1 .taken))
 
 returns-2 : tie.Need-returns-2
@@ -15,12 +19,21 @@ unfolding triangleRecord _then_
 returns-2 c =
     rw (← c .before .before .before .before .before .before .before .triangle-bounds .ensures)
     (rw (← c .before .before .before .before .before .before .check .ensures, c .before .before .before .before .enum-told .given .1)
-    (rw (← c .before .before .before .has-no-area .ensures, c .before .before .if1 .left, ← c .before .group-phi .ensures)
+    (rw (
+      ← c .before .before .before .has-no-area .ensures,
+      c .before .before .if1 .left,
+      ← c .before .group-phi .ensures,
+    )
     (c .faced-record .ensures)))
 
 returns-3 : tie.Need-returns-3
 unfolding triangleRecord _then_
-returns-3 c = rw (← c .before .before .before .before .triangle-bounds .ensures, ← c .before .before .before .check .ensures, c .before .why .given .1)
+returns-3 c =
+    rw (
+      ← c .before .before .before .before .triangle-bounds .ensures,
+      ← c .before .before .before .check .ensures,
+      c .before .why .given .1,
+    )
 
 pub triangle-record-spec : {M : Type 1} → statement M
 triangle-record-spec =

@@ -1,4 +1,5 @@
--- `lamps::lamp_bounds::union_rest` meets its contract: what is left to join from triangle k on gives the same answer at each turn. Assumes nothing.
+-- `lamps::lamp_bounds::union_rest`: what is left to join from triangle k on gives the same answer at each turn. Assumes
+-- nothing.
 use Prim.Native.Nat.{_+_, _*_, _-_, _≤_}
 use mathlib.Core.Path.{_≡_, refl, sym, _∙_}
 use native.Mathlib.Omega.{arith}
@@ -13,7 +14,8 @@ use Rattle.lamps.proofs.lamp_bounds.union_rest.Tie as tie
 
 abbrev Inv-loop : tie.InvT-loop
 Inv-loop emission-max scale two-sided triangles n result₀ k₀ result k = (1 ≤ k) × (k ≤ n) ×
-    (unionFrom emission-max scale two-sided triangles 13 (n - 1) (given result₀) ≡ unionFrom emission-max scale two-sided triangles (13 * k) (n - k)
+    (unionFrom emission-max scale two-sided triangles 13 (n - 1) (given result₀) ≡
+    unionFrom emission-max scale two-sided triangles (13 * k) (n - k)
     (given result))
 
 abbrev μ-loop : tie.MeasureT-loop
@@ -21,19 +23,26 @@ abbrev μ-loop : tie.MeasureT-loop
 
 -- one triangle more
 next : (c : tie.After-grown Inv-loop μ-loop)
-    → unionFrom (c .before .before .before .before .before .args .emission-max) (c .before .before .before .before .before .args .scale)
-    (c .before .before .before .before .before .args .two-sided) (now (c .before .before .before .before .before .args .triangles)) 13
-    (c .before .before .before .before .before .args .n - 1) (given (c .before .before .before .before .before .args .first))
+    → unionFrom (c .before .before .before .before .before .args .emission-max)
+    (c .before .before .before .before .before .args .scale)
+    (c .before .before .before .before .before .args .two-sided)
+    (now (c .before .before .before .before .before .args .triangles)) 13
+    (c .before .before .before .before .before .args .n - 1)
+    (given (c .before .before .before .before .before .args .first))
     ≡ bounded (c .grown .result)
-    then λ s. unionFrom (c .before .before .before .before .before .args .emission-max) (c .before .before .before .before .before .args .scale)
-    (c .before .before .before .before .before .args .two-sided) (now (c .before .before .before .before .before .args .triangles))
-    (13 * c .before .before .before .loop .k + 13) (c .before .before .before .before .before .args .n - c .before .before .before .loop .k - 1) (given s)
+    then λ s. unionFrom (c .before .before .before .before .before .args .emission-max)
+    (c .before .before .before .before .before .args .scale)
+    (c .before .before .before .before .before .args .two-sided)
+    (now (c .before .before .before .before .before .args .triangles))
+    (13 * c .before .before .before .loop .k + 13)
+    (c .before .before .before .before .before .args .n - c .before .before .before .loop .k - 1) (given s)
 next c =
     let loop = c .before .before .before .loop in
     let args = c .before .before .before .before .before .args in
     rw (
       loop .inv .2,
-      unionFrom-next (args .emission-max) (args .scale) (args .two-sided) (now (args .triangles)) (13 * loop .k) (args .n - loop .k) (loop .result)
+      unionFrom-next (args .emission-max) (args .scale) (args .two-sided) (now (args .triangles)) (13 * loop .k)
+          (args .n - loop .k) (loop .result)
           (omega arith),
       ← c .before .triangle-at .ensures,
       ← c .grown .ensures,
@@ -56,10 +65,13 @@ returns-2 : tie.Need-returns-2 Inv-loop μ-loop
 returns-2 c =
     let loop = c .before .loop in
     let args = c .before .before .before .args in
-    sym (loop .inv .2 ∙ unionFrom-end (args .emission-max) (args .scale) (args .two-sided) (now (args .triangles)) (13 * loop .k) (args .n - loop .k)
+    sym (loop .inv .2 ∙ unionFrom-end (args .emission-max) (args .scale) (args .two-sided) (now (args .triangles))
+    (13 * loop .k) (args .n - loop .k)
     (given (loop .result)) (omega arith))
 
 pub union-rest-spec : {M : Type 1} → statement M
 union-rest-spec =
-    tie.close (tie.spec Inv-loop μ-loop (λ c. (omega arith, omega arith, refl)) (λ c. omega arith) (λ c κs. search needs)
-    (λ c κs. search needs) (λ c. search needs) (λ c. search needs) returns (λ c. search needs) (λ c. omega arith) loop-again returns-2)
+    tie.close (tie.spec Inv-loop μ-loop (λ c. (omega arith, omega arith, refl)) (λ c. omega arith)
+    (λ c κs. search needs)
+    (λ c κs. search needs) (λ c. search needs) (λ c. search needs) returns (λ c. search needs) (λ c. omega arith)
+    loop-again returns-2)

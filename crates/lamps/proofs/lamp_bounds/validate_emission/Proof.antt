@@ -1,4 +1,4 @@
--- `lamps::lamp_bounds::validate_emission` meets its contract: one refusal for four causes. Assumes nothing.
+-- `lamps::lamp_bounds::validate_emission`: one refusal for four causes. Assumes nothing.
 use Rattle.lamps.specs.LampBounds.{validateEmission}
 use borrow.Author.Needs.{needs}
 use Rattle.lamps.proofs.lamp_bounds.validate_emission.Statement.{statement}

@@ -1,4 +1,5 @@
--- `lamps::lamp_list::check_lamps` meets its contract: the lamps before `i` are read, and `placed` says whether their handles are their places. Assumes nothing.
+-- `lamps::lamp_list::check_lamps`: the lamps before `i` are read, and `placed` says whether their handles are their
+-- places. Assumes nothing.
 use Prim.Native.Nat.{ℕ, _-_, _+_, _<_}
 use mathlib.Core.Path.{_≡_, refl, ap, sym, _∙_}
 use mathlib.Core.List.{List, [], _∷_, _++_}
@@ -18,7 +19,8 @@ use Rattle.lamps.proofs.lamp_list.check_lamps.Tie as tie
 
 abbrev Inv-loop : tie.InvT-loop
 Inv-loop list m i₀ cursor₀ placed₀ i cursor placed =
-    (m ≡ getD list 0 0) × (m < 4294967296) × ((done : List Reading) × LampsRead list i (cursor .at) done × (placed ≡ inPlace 0 done))
+    (m ≡ getD list 0 0) × (m < 4294967296) ×
+    ((done : List Reading) × LampsRead list i (cursor .at) done × (placed ≡ inPlace 0 done))
 
 abbrev μ-loop : tie.MeasureT-loop
 μ-loop list m i₀ cursor₀ placed₀ i cursor placed = m - i
@@ -51,8 +53,10 @@ loop-again c =
       (
         done ++ r ∷ [],
         walked-one (lampWalk list) r (loop .inv .2 .1) (omega (arith, loop .inv .0))
-            (sym (c .before .before .before .before .before .before .next .ensures) ∙ ap step (c .before .before .before .before .reading .given .1)),
-        c .before .still-placed .ensures ∙ rw (loop .inv .2 .2, c .before .before .lamp-handle .ensures, inPlace-snoc 0 done r, z),
+            (sym (c .before .before .before .before .before .before .next .ensures) ∙
+            ap step (c .before .before .before .before .reading .given .1)),
+        c .before .still-placed .ensures ∙
+            rw (loop .inv .2 .2, c .before .before .lamp-handle .ensures, inPlace-snoc 0 done r, z),
       ),
     )
 
@@ -60,7 +64,8 @@ returns-2 : tie.Need-returns-2 Inv-loop μ-loop
 returns-2 c =
     let loop = c .before .before .before .before .loop in
     rw (
-      placed-all (now (c .before .before .before .before .before .before .before .before .before .args .list)) (loop .inv .2 .1)
+      placed-all (now (c .before .before .before .before .before .before .before .before .before .args .list))
+          (loop .inv .2 .1)
           (omega (arith, loop .inv .0)) (eq-eqb _ _ (c .before .if1 .taken)),
       ← loop .inv .2 .2,
       c .if2 .taken,
@@ -71,7 +76,8 @@ returns-3 : tie.Need-returns-3 Inv-loop μ-loop
 returns-3 c =
     let loop = c .before .before .before .before .loop in
     rw (
-      placed-all (now (c .before .before .before .before .before .before .before .before .before .args .list)) (loop .inv .2 .1)
+      placed-all (now (c .before .before .before .before .before .before .before .before .before .args .list))
+          (loop .inv .2 .1)
           (omega (arith, loop .inv .0)) (eq-eqb _ _ (c .before .if1 .taken)),
       ← loop .inv .2 .2,
       c .if2 .left,
@@ -80,7 +86,8 @@ returns-3 c =
 returns-4 : tie.Need-returns-4 Inv-loop μ-loop
 returns-4 c =
     let loop = c .before .before .before .loop in
-    rw (placed-ragged (now (c .before .before .before .before .before .before .before .before .args .list)) (loop .inv .2 .1)
+    rw (placed-ragged (now (c .before .before .before .before .before .before .before .before .args .list))
+    (loop .inv .2 .1)
     (omega (arith, loop .inv .0)) (ne-eqb _ _ (c .if1 .left)))
 
 pub check-lamps-spec : {M : Type 1} → statement M

@@ -1,4 +1,4 @@
--- `lamps::lamp_list::check_list` meets its contract: 2 first. Assumes nothing.
+-- `lamps::lamp_list::check_list`: 2 first. Assumes nothing.
 use Rattle.lamps.specs.LampList.{lampList}
 use borrow.Author.Needs.{needs}
 use Rattle.lamps.proofs.lamp_list.check_list.Statement.{statement}

@@ -1,4 +1,4 @@
--- `lamps::lamp_list::group_at` meets its contract: there are words enough for its head, or it is ragged. Assumes nothing.
+-- `lamps::lamp_list::group_at`: there are words enough for its head, or it is ragged. Assumes nothing.
 use mathlib.Core.Path.{sym, _∙_}
 use borrow.Author.Tests.{leb-true}
 use borrow.Author.Needs.{needs}

@@ -1,4 +1,5 @@
--- `lamps::lamp_list::group_fits` meets its contract: to compare a count with what is left by division is to compare the sum. Assumes nothing.
+-- `lamps::lamp_list::group_fits`: to compare a count with what is left by division is to compare the sum. Assumes
+-- nothing.
 use Prim.Native.Nat.{ℕ, _+_, _*_, _-_, _/_, _≤_}
 use mathlib.Core.Path.{_≡_, sym, _∙_}
 use denote.Ref.{now}
@@ -17,7 +18,8 @@ divided n from len h = go (decLe n ((len - from) / 13))
   where
     go : Dec (n ≤ (len - from) / 13) → leb n ((len - from) / 13) ≡ leb (from + 13 * n) len
     go (yes l) = le-leb n ((len - from) / 13) l ∙ sym (le-leb (from + 13 * n) len (omega arith))
-    go (no l) = let g = lt-of-not-le l in lt-leb n ((len - from) / 13) g ∙ sym (lt-leb (from + 13 * n) len (omega arith))
+    go (no l) =
+        let g = lt-of-not-le l in lt-leb n ((len - from) / 13) g ∙ sym (lt-leb (from + 13 * n) len (omega arith))
 
 returns : tie.Need-returns
 returns c =
@@ -27,6 +29,7 @@ returns c =
 
 pub group-fits-spec : {M : Type 1} → statement M
 group-fits-spec =
-    tie.close (tie.spec (λ c. search needs) (λ c. search needs) (λ c. search needs) (λ c κs. search needs) (λ c. search needs)
+    tie.close (tie.spec (λ c. search needs) (λ c. search needs) (λ c. search needs) (λ c κs. search needs)
+    (λ c. search needs)
     (λ c. search needs) (λ c. search needs) (λ c κs. search needs) (λ c. search needs) (λ c. search needs) returns
     (λ c. rw (← c .before .is-list-side .ensures, c .if1 .left)))

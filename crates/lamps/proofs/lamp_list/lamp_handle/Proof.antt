@@ -1,4 +1,4 @@
--- `lamps::lamp_list::lamp_handle` meets its contract: each kind has its own. Assumes nothing.
+-- `lamps::lamp_list::lamp_handle`: each kind has its own. Assumes nothing.
 use borrow.Author.Needs.{needs}
 use Rattle.lamps.specs.LampList.{handle}
 use Rattle.lamps.proofs.lamp_list.lamp_handle.Statement.{statement}
@@ -6,5 +6,6 @@ use Rattle.lamps.proofs.lamp_list.lamp_handle.Tie as tie
 
 pub lamp-handle-spec : {M : Type 1} → statement M
 lamp-handle-spec =
-    tie.close (tie.spec (λ c. search needs) (λ c. search needs) (λ c. search needs) (λ c. rw (c .before .lamp .given .1))
+    tie.close (tie.spec (λ c. search needs) (λ c. search needs) (λ c. search needs)
+    (λ c. rw (c .before .lamp .given .1))
     (λ c. rw (c .before .lamp2 .given .1)) (λ c. rw (c .before .lamp3 .given .1)))

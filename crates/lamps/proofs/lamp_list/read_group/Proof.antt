@@ -1,4 +1,4 @@
--- `lamps::lamp_list::read_group` meets its contract: word by word; its triangles end in the list. Assumes nothing.
+-- `lamps::lamp_list::read_group`: word by word; its triangles end in the list. Assumes nothing.
 use native.Mathlib.Omega.{arith}
 use borrow.Author.Needs.{needs}
 use Rattle.lamps.proofs.lamp_list.read_group.Statement.{statement}
@@ -11,7 +11,11 @@ returns c =
 
 pub read-group-spec : {M : Type 1} → statement M
 read-group-spec =
-    tie.close (tie.spec (λ c. search needs) (λ c. search needs) (λ c. search needs) (λ c κs. search needs) (λ c. search needs)
-    (λ c. search needs) (λ c. search needs) (λ c κs. search needs) (λ c. search needs) (λ c. search needs) (λ c. search needs)
-    (λ c κs. search needs) (λ c. search needs) (λ c. search needs) (λ c. search needs) (λ c. search needs) (λ c. search needs)
-    (λ c. search needs) (λ c κs. search needs) (λ c. omega (arith, c .wide .ensures)) (λ c. omega (arith, c .wide .ensures)) returns)
+    tie.close (tie.spec (λ c. search needs) (λ c. search needs) (λ c. search needs) (λ c κs. search needs)
+    (λ c. search needs)
+    (λ c. search needs) (λ c. search needs) (λ c κs. search needs) (λ c. search needs) (λ c. search needs)
+    (λ c. search needs)
+    (λ c κs. search needs) (λ c. search needs) (λ c. search needs) (λ c. search needs) (λ c. search needs)
+    (λ c. search needs)
+    (λ c. search needs) (λ c κs. search needs) (λ c. omega (arith, c .wide .ensures))
+    (λ c. omega (arith, c .wide .ensures)) returns)

@@ -1,4 +1,4 @@
--- `lamps::lamp_list::read_point` meets its contract: word by word. Assumes nothing.
+-- `lamps::lamp_list::read_point`: word by word. Assumes nothing.
 use mathlib.Core.Path.{_∙_}
 use borrow.Author.Needs.{needs}
 use Rattle.lamps.proofs.lamp_list.read_point.Statement.{statement}
@@ -14,6 +14,8 @@ returns c = c .alone .ensures ∙ rw (
 
 pub read-point-spec : {M : Type 1} → statement M
 read-point-spec =
-    tie.close (tie.spec (λ c. search needs) (λ c. search needs) (λ c κs. search needs) (λ c. search needs) (λ c κs. search needs)
-    (λ c. search needs) (λ c. search needs) (λ c. search needs) (λ c κs. search needs) (λ c. search needs) (λ c. search needs)
+    tie.close (tie.spec (λ c. search needs) (λ c. search needs) (λ c κs. search needs) (λ c. search needs)
+    (λ c κs. search needs)
+    (λ c. search needs) (λ c. search needs) (λ c. search needs) (λ c κs. search needs) (λ c. search needs)
+    (λ c. search needs)
     (λ c. search needs) (λ c κs. search needs) (λ c. search needs) (λ c κs. search needs) returns)

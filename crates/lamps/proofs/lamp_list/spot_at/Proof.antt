@@ -1,4 +1,4 @@
--- `lamps::lamp_list::spot_at` meets its contract: there are words enough, or it is ragged. Assumes nothing.
+-- `lamps::lamp_list::spot_at`: there are words enough, or it is ragged. Assumes nothing.
 use mathlib.Core.Path.{ap, sym, _∙_}
 use borrow.Author.Tests.{leb-true}
 use Rattle.words.specs.Answers.{given}

@@ -1,4 +1,4 @@
--- `light_bounds::bounds::centroid` meets its contract: axis by axis, with nothing to show. Assumes nothing.
+-- `light_bounds::bounds::centroid`: axis by axis, with nothing to show. Assumes nothing.
 use mathlib.Core.Path.{refl}
 use Rattle.light_bounds.specs.Bounds.{centroid}
 use Rattle.light_bounds.proofs.bounds.centroid.Statement.{statement}

@@ -1,4 +1,4 @@
--- `light_bounds::bounds::diagonal` meets its contract: axis by axis, with nothing to show. Assumes nothing.
+-- `light_bounds::bounds::diagonal`: axis by axis, with nothing to show. Assumes nothing.
 use mathlib.Core.Path.{refl}
 use Rattle.light_bounds.specs.Bounds.{diagonal}
 use Rattle.light_bounds.proofs.bounds.diagonal.Statement.{statement}

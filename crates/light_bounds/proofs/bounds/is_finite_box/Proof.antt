@@ -1,4 +1,4 @@
--- `light_bounds::bounds::is_finite_box` meets its contract: its min, then its max. Assumes nothing.
+-- `light_bounds::bounds::is_finite_box`: its min, then its max. Assumes nothing.
 use borrow.Author.Needs.{needs}
 use Rattle.light_bounds.proofs.bounds.is_finite_box.Statement.{statement}
 use Rattle.light_bounds.proofs.bounds.is_finite_box.Tie as tie

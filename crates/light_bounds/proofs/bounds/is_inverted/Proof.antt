@@ -1,4 +1,4 @@
--- `light_bounds::bounds::is_inverted` meets its contract: axis by axis. Assumes nothing.
+-- `light_bounds::bounds::is_inverted`: axis by axis. Assumes nothing.
 
 use Rattle.light_bounds.proofs.bounds.is_inverted.Statement.{statement}
 use Rattle.light_bounds.proofs.bounds.is_inverted.Tie as tie

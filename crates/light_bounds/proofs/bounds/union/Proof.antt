@@ -1,4 +1,4 @@
--- `light_bounds::bounds::union` meets its contract: the lesser of the mins, the greater of the maxes. Assumes nothing.
+-- `light_bounds::bounds::union`: the lesser of the mins, the greater of the maxes. Assumes nothing.
 use Rattle.light_bounds.specs.Bounds.{boxUnion}
 use borrow.Author.Needs.{needs}
 use Rattle.light_bounds.proofs.bounds.union.Statement.{statement}

@@ -1,4 +1,4 @@
--- `light_bounds::cones::everywhere` meets its contract: the constants are the definition's words. Assumes nothing.
+-- `light_bounds::cones::everywhere`: the constants are the definition's words. Assumes nothing.
 use mathlib.Core.Path.{refl}
 use lib.Ieee.{neg, ofBits}
 use Rattle.light_bounds.proofs.cones.everywhere.Statement.{statement}

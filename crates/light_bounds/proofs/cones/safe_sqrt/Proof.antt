@@ -1,4 +1,4 @@
--- `light_bounds::cones::safe_sqrt` meets its contract: the root of what is not below 0. Assumes nothing.
+-- `light_bounds::cones::safe_sqrt`: the root of what is not below 0. Assumes nothing.
 use mathlib.Core.Path.{_∙_, ap}
 use lib.Ieee.{binary32}
 use Rattle.ieee.specs.Sqrt.{sqrt}

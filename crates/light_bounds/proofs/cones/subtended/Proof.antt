@@ -1,4 +1,4 @@
--- `light_bounds::cones::subtended` meets its contract: the diagonal's length that is handed in is the definition's. Assumes nothing.
+-- `light_bounds::cones::subtended`: the diagonal's length that is handed in is the definition's. Assumes nothing.
 use mathlib.Core.Path.{_≡_, sym, _∙_, ap}
 use lib.Ieee.{neg, ofBits}
 use Rattle.light_bounds.specs.Bounds.{centroid, diagonal}
@@ -17,7 +17,8 @@ distance : (c : tie.After-dot) → (let s = c .before .before .before .args in d
     (minus (centroid (s .bounds)) (s .p))) ≡ c .dot .result
 distance c =
     let p = c .before .before .before .args .p in
-    sym (c .dot .ensures ∙ ap (λ (v : Vec3). dot v v) (c .before .sub .ensures ∙ ap (λ (v : Vec3). minus v p) (c .before .before .centroid .ensures)))
+    sym (c .dot .ensures ∙ ap (λ (v : Vec3). dot v v)
+    (c .before .sub .ensures ∙ ap (λ (v : Vec3). minus v p) (c .before .before .centroid .ensures)))
 
 returns : tie.Need-returns
 unfolding boundSubtendedDirections neg ofBits
@@ -25,14 +26,28 @@ returns c = rw (size (c .before .before .before .before), distance (c .before), 
 
 returns-2 : tie.Need-returns-2
 unfolding boundSubtendedDirections neg ofBits
-returns-2 c = rw (size (c .before .before .before .before .before), distance (c .before .before), c .before .if1 .left, c .if2 .taken)
+returns-2 c =
+    rw (
+      size (c .before .before .before .before .before),
+      distance
+          (c .before .before),
+      c .before .if1 .left,
+      c .if2 .taken,
+    )
 
 returns-3 : tie.Need-returns-3
 unfolding boundSubtendedDirections
-returns-3 c = rw (size (c .before .before .before .before .before .before), distance (c .before .before .before), c .before .before .if1 .left)
+returns-3 c =
+    rw (
+      size (c .before .before .before .before .before .before),
+      distance
+          (c .before .before .before),
+      c .before .before .if1 .left,
+    )
     (rw (c .before .if2 .left) (c .safe-sqrt .ensures))
 
 pub subtended-spec : {M : Type 1} → statement M
 subtended-spec =
-    tie.close (tie.spec (λ c κs. search needs) (λ c κs. search needs) (λ c κs. search needs) returns returns-2 (λ c κs. search needs)
+    tie.close (tie.spec (λ c κs. search needs) (λ c κs. search needs) (λ c κs. search needs) returns returns-2
+    (λ c κs. search needs)
     returns-3)

@@ -1,11 +1,12 @@
--- `light_bounds::cones::union_direction_cones` meets its contract: the angle of all directions is PI, and the first test's sum is cut to PI. Assumes nothing.
+-- `light_bounds::cones::union_direction_cones`: the angle of all directions is PI, and the first test's sum is cut to
+-- PI. Assumes nothing.
 use mathlib.Core.Path.{_≡_, refl, sym, _∙_, ap, subst}
 use mathlib.Core.Bool.{Bool, true, cond}
 use lib.Dec.{T}
 use lib.Ieee.{Float, binary32, ofBits, toBits, lt, le, isNan}
 use lib.Ieee.Bits.{ofBits-toBits}
 use Rattle.ieee.specs.Choose.{fmin, clamp}
-use Rattle.ieee.specs.ChooseOrder.{fmin-cap}
+use Rattle.ieee.specs.Laws.ChooseOrder.{fmin-cap}
 use Rattle.ieee.specs.Single.{_⊕_, onef, minusOne, pi}
 use Rattle.trig.specs.Trig.{acos}
 use Rattle.trig.proofs.KnownArcs.{acos-minus-one}
@@ -39,8 +40,10 @@ unfolding ofBits
 returns c =
     let s = c .before .before in
     let is : s .args .cos-a ≡ minusOne =
-    sym (ofBits-toBits binary32 (s .args .cos-a) (subst T (sym (s .good .1 .0 .1)) tt)) ∙ ap (ofBits binary32) (sym (c .before .word-of-f32 .ensures) ∙ c .if1 .taken) in
+    sym (ofBits-toBits binary32 (s .args .cos-a) (subst T (sym (s .good .1 .0 .1)) tt)) ∙
+    ap (ofBits binary32) (sym (c .before .word-of-f32 .ensures) ∙ c .if1 .taken) in
     rw is (sym (all-directions (s .args .a) (s .args .b) (s .args .cos-b)))
 
 pub union-direction-cones-spec : {M : Type 1} → statement M
-union-direction-cones-spec = tie.close (tie.spec (λ c κs. search needs) returns (λ c κs. search needs) (λ c. search needs))
+union-direction-cones-spec =
+    tie.close (tie.spec (λ c κs. search needs) returns (λ c κs. search needs) (λ c. search needs))

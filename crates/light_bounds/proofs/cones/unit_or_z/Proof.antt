@@ -1,4 +1,4 @@
--- `light_bounds::cones::unit_or_z` meets its contract: z where there is no direction. Assumes nothing.
+-- `light_bounds::cones::unit_or_z`: z where there is no direction. Assumes nothing.
 use mathlib.Core.Path.{sym, ap}
 use borrow.Author.Needs.{needs}
 use Rattle.light_bounds.specs.Cones.{axisOr}

@@ -1,4 +1,4 @@
--- `light_bounds::importance::cos_w` meets its contract: a two-sided lamp loses the sign. Assumes nothing.
+-- `light_bounds::importance::cos_w`: a two-sided lamp loses the sign. Assumes nothing.
 use mathlib.Core.Path.{_∙_, ap}
 use Rattle.ieee.specs.Choose.{fabs}
 use Rattle.light_bounds.specs.Importance.{cosW}

@@ -1,4 +1,4 @@
--- `light_bounds::importance::facing` meets its contract: a sine is taken only where the angle is not cut to 0. Assumes nothing.
+-- `light_bounds::importance::facing`: a sine is taken only where the angle is not cut to 0. Assumes nothing.
 use mathlib.Core.Path.{ap₂}
 use lib.Ieee.{Float}
 use Rattle.ieee.specs.Single.{_⊕_, _⊗_}
@@ -21,4 +21,5 @@ returns-2 c =
     (ap₂ (λ (s t : Float). i ⊗ k ⊕ s ⊗ t) (c .before .sine .ensures) (c .sine2 .ensures))
 
 pub facing-spec : {M : Type 1} → statement M
-facing-spec = tie.close (tie.spec (λ c κs. search needs) (λ c κs. search needs) (λ c κs. search needs) returns returns-2)
+facing-spec =
+    tie.close (tie.spec (λ c κs. search needs) (λ c κs. search needs) (λ c κs. search needs) returns returns-2)

@@ -1,4 +1,4 @@
--- `light_bounds::importance::finished` meets its contract: a way of being seen at a time. Assumes nothing.
+-- `light_bounds::importance::finished`: a way of being seen at a time. Assumes nothing.
 use mathlib.Core.Path.{ap}
 use Rattle.words.specs.Answers.{_then_, given}
 use Rattle.light_bounds.specs.Importance.{finish}
@@ -24,5 +24,6 @@ returns-4 c = rw (c .before .view3 .given .1)
 
 pub finished-spec : {M : Type 1} → statement M
 finished-spec =
-    tie.close (tie.spec (λ c. search needs) (λ c. search needs) (λ c κs. search needs) (λ c. search needs) (λ c κs. search needs)
+    tie.close (tie.spec (λ c. search needs) (λ c. search needs) (λ c κs. search needs) (λ c. search needs)
+    (λ c κs. search needs)
     (λ c. search needs) returns returns-2 returns-3 returns-4)

@@ -11,8 +11,11 @@ use Rattle.light_bounds.proofs.importance.geometry.Statement.{statement
 use Rattle.light_bounds.proofs.importance.geometry.Tie as tie
 
 -- from the centre to the point
-delta : (c : tie.After-sub) → (let s = c .before .before .args in minus (s .query .p) (centroid (s .record .bounds))) ≡ c .sub .result
-delta c = sym (c .sub .ensures ∙ ap (λ (v : Vec3). minus (c .before .before .args .query .p) v) (c .before .centroid .ensures))
+delta : (c : tie.After-sub) → (let s = c .before .before .args in minus (s .query .p) (centroid (s .record .bounds))) ≡
+    c .sub .result
+delta c =
+    sym (c .sub .ensures ∙ ap (λ (v : Vec3). minus (c .before .before .args .query .p) v)
+    (c .before .centroid .ensures))
 
 returns : tie.Need-returns
 unfolding geometry

@@ -1,7 +1,7 @@
 -- A query is weighed as a walk holds it, which changes no weight. Assumes nothing.
 use mathlib.Core.Path.{_∙_}
 use Rattle.light_bounds.specs.Importance.{weigh}
-use Rattle.light_bounds.specs.WeighingLaws.{weigh-prepared}
+use Rattle.light_bounds.specs.Laws.WeighingLaws.{weigh-prepared}
 use borrow.Author.Needs.{needs}
 use Rattle.light_bounds.proofs.importance.importance.Statement.{statement}
 use Rattle.light_bounds.proofs.importance.importance.Tie as tie

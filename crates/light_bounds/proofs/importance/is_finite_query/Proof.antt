@@ -1,4 +1,4 @@
--- `light_bounds::importance::is_finite_query` meets its contract: the point, then the normal. Assumes nothing.
+-- `light_bounds::importance::is_finite_query`: the point, then the normal. Assumes nothing.
 use borrow.Author.Needs.{needs}
 use Rattle.light_bounds.proofs.importance.is_finite_query.Statement.{statement}
 use Rattle.light_bounds.proofs.importance.is_finite_query.Tie as tie

@@ -1,4 +1,4 @@
--- `light_bounds::importance::less_the_box` meets its contract: a sine is taken only where the angle is not cut to 0. Assumes nothing.
+-- `light_bounds::importance::less_the_box`: a sine is taken only where the angle is not cut to 0. Assumes nothing.
 use mathlib.Core.Path.{ap}
 use lib.Ieee.{Float}
 use Rattle.ieee.specs.Single.{_⊕_, _⊗_}

@@ -1,5 +1,5 @@
 -- The three parts, each by its own function. Assumes nothing.
-use Rattle.light_bounds.specs.Weighing.{prepared}
+use Rattle.light_bounds.specs.AsCoded.Weighing.{prepared}
 use borrow.Author.Needs.{needs}
 use Rattle.light_bounds.proofs.importance.prepare.Statement.{statement}
 use Rattle.light_bounds.proofs.importance.prepare.Tie as tie

@@ -1,4 +1,4 @@
--- `light_bounds::importance::sine` meets its contract: one less the square, rooted. Assumes nothing.
+-- `light_bounds::importance::sine`: one less the square, rooted. Assumes nothing.
 use Rattle.light_bounds.specs.Importance.{sine}
 use borrow.Author.Needs.{needs}
 use Rattle.light_bounds.proofs.importance.sine.Statement.{statement}

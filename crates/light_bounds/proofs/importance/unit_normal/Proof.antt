@@ -1,5 +1,5 @@
 -- A normal whose dot is 0 is none; of any other the length is taken here, once for a walk. Assumes nothing.
-use Rattle.light_bounds.specs.Weighing.{unitNormal}
+use Rattle.light_bounds.specs.AsCoded.Weighing.{unitNormal}
 use borrow.Author.Needs.{needs}
 use Rattle.light_bounds.proofs.importance.unit_normal.Statement.{statement}
 use Rattle.light_bounds.proofs.importance.unit_normal.Tie as tie

@@ -1,7 +1,7 @@
 -- The record's check, then the query. Assumes nothing.
 use Rattle.words.specs.Answers.{_then_}
 use Rattle.light_bounds.specs.Importance.{importanceBy}
-use Rattle.light_bounds.specs.Weighing.{weighHeld}
+use Rattle.light_bounds.specs.AsCoded.Weighing.{weighHeld}
 use borrow.Author.Needs.{needs}
 use Rattle.light_bounds.proofs.importance.weigh_prepared.Statement.{statement}
 use Rattle.light_bounds.proofs.importance.weigh_prepared.Tie as tie

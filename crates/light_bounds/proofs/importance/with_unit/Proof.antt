@@ -3,7 +3,7 @@ use mathlib.Core.Path.{_∙_, ap}
 use lib.Ieee.{Float}
 use Rattle.words.specs.Answers.{given}
 use Rattle.light_bounds.specs.Importance.{facing, normalFactor}
-use Rattle.light_bounds.specs.Weighing.{withHeld}
+use Rattle.light_bounds.specs.AsCoded.Weighing.{withHeld}
 use borrow.Author.Needs.{needs}
 use Rattle.light_bounds.proofs.importance.with_unit.Statement.{statement}
 use Rattle.light_bounds.proofs.importance.with_unit.Tie as tie

@@ -1,4 +1,4 @@
--- `light_bounds::light_bounds::are_cosines` meets its contract: one, then the other. Assumes nothing.
+-- `light_bounds::light_bounds::are_cosines`: one, then the other. Assumes nothing.
 use borrow.Author.Needs.{needs}
 use Rattle.light_bounds.proofs.light_bounds.are_cosines.Statement.{statement}
 use Rattle.light_bounds.proofs.light_bounds.are_cosines.Tie as tie

@@ -1,4 +1,4 @@
--- `light_bounds::light_bounds::is_cosine` meets its contract: its two ends. Assumes nothing.
+-- `light_bounds::light_bounds::is_cosine`: its two ends. Assumes nothing.
 use Rattle.light_bounds.specs.LightBounds.{isCosine}
 use lib.Ieee.{neg, ofBits}
 use Rattle.light_bounds.proofs.light_bounds.is_cosine.Statement.{statement}

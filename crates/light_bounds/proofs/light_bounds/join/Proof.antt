@@ -1,4 +1,5 @@
--- `light_bounds::light_bounds::join` meets its contract: where neither power is 0, each part of the record is that of the definition. Assumes nothing.
+-- `light_bounds::light_bounds::join`: where neither power is 0, each part of the record is that of the definition.
+-- Assumes nothing.
 use mathlib.Core.Path.{_∙_}
 use Rattle.light_bounds.specs.LightBounds.{join}
 use borrow.Author.Needs.{needs}
@@ -20,9 +21,14 @@ returns-3 c =
     ∙ rw (c .before .before .before .before .before .before .before .before .before .before .if1 .left)
     (rw (c .before .before .before .before .before .before .before .before .if2 .left)
     (rw (← c .before .before .before .before .before .before .before .union-direction-cones .ensures)
-    (rw (← c .before .before .before .before .before .union .ensures, ← c .before .before .min .ensures, ← c .before .either .ensures))))
+    (rw (
+      ← c .before .before .before .before .before .union .ensures,
+      ← c .before .before .min .ensures,
+      ← c .before .either .ensures,
+    ))))
 
 pub join-spec : {M : Type 1} → statement M
 join-spec =
-    tie.close (tie.spec returns returns-2 (λ c κs. search needs) (λ c κs. search needs) (λ c κs. search needs) (λ c κs. search needs)
+    tie.close (tie.spec returns returns-2 (λ c κs. search needs) (λ c κs. search needs) (λ c κs. search needs)
+    (λ c κs. search needs)
     (λ c κs. search needs) returns-3)

@@ -1,4 +1,4 @@
--- `light_bounds::light_bounds::validate_cone` meets its contract: 5, then the ranges. Assumes nothing.
+-- `light_bounds::light_bounds::validate_cone`: 5, then the ranges. Assumes nothing.
 use Rattle.light_bounds.specs.LightBounds.{coneCheck}
 use borrow.Author.Needs.{needs}
 use Rattle.light_bounds.proofs.light_bounds.validate_cone.Statement.{statement}

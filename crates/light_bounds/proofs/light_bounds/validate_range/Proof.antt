@@ -1,4 +1,4 @@
--- `light_bounds::light_bounds::validate_range` meets its contract: 7 before 8. Assumes nothing.
+-- `light_bounds::light_bounds::validate_range`: 7 before 8. Assumes nothing.
 use Rattle.light_bounds.specs.LightBounds.{rangeCheck}
 use borrow.Author.Needs.{needs}
 use Rattle.light_bounds.proofs.light_bounds.validate_range.Statement.{statement}
@@ -25,4 +25,5 @@ returns-4 c =
     (rw (← c .before .are-cosines .ensures, c .if3 .left))
 
 pub validate-range-spec : {M : Type 1} → statement M
-validate-range-spec = tie.close (tie.spec (λ c κs. search needs) returns returns-2 (λ c κs. search needs) returns-3 returns-4)
+validate-range-spec =
+    tie.close (tie.spec (λ c κs. search needs) returns returns-2 (λ c κs. search needs) returns-3 returns-4)

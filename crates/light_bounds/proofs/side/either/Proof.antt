@@ -1,4 +1,4 @@
--- `light_bounds::side::either` meets its contract: a side that is two-sided is both. Assumes nothing.
+-- `light_bounds::side::either`: a side that is two-sided is both. Assumes nothing.
 use mathlib.Core.Path.{_≡_, refl}
 use Rattle.light_bounds.proofs.side.either.Statement.{statement}
 use Rattle.light_bounds.proofs.side.either.Tie as tie

@@ -1,4 +1,4 @@
--- `light_bounds::vecmath::angle_between` meets its contract: a branch for each side of a right angle. Assumes nothing.
+-- `light_bounds::vecmath::angle_between`: a branch for each side of a right angle. Assumes nothing.
 use mathlib.Core.Path.{_∙_, ap}
 use lib.Ieee.{Float}
 use Rattle.ieee.specs.Single.{_⊖_, _⊗_, _⊘_, twof, pi}
@@ -22,5 +22,6 @@ returns-2 c = rw (← c .before .before .before .before .dot .ensures, c .before
 
 pub angle-between-spec : {M : Type 1} → statement M
 angle-between-spec =
-    tie.close (tie.spec (λ c κs. search needs) (λ c κs. search needs) (λ c κs. search needs) (λ c κs. search needs) (λ c κs. search needs)
+    tie.close (tie.spec (λ c κs. search needs) (λ c κs. search needs) (λ c κs. search needs) (λ c κs. search needs)
+    (λ c κs. search needs)
     (λ c κs. search needs) (λ c κs. search needs) returns returns-2)

@@ -1,4 +1,4 @@
--- `light_bounds::vecmath::cross` meets its contract: axis by axis, with nothing to show. Assumes nothing.
+-- `light_bounds::vecmath::cross`: axis by axis, with nothing to show. Assumes nothing.
 use mathlib.Core.Path.{refl}
 use Rattle.light_bounds.specs.Vecmath.{cross}
 use Rattle.light_bounds.proofs.vecmath.cross.Statement.{statement}

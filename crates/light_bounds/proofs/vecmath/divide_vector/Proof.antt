@@ -1,4 +1,4 @@
--- `light_bounds::vecmath::divide_vector` meets its contract: axis by axis, with nothing to show. Assumes nothing.
+-- `light_bounds::vecmath::divide_vector`: axis by axis, with nothing to show. Assumes nothing.
 use mathlib.Core.Path.{refl}
 use Rattle.light_bounds.specs.Vecmath.{divided}
 use Rattle.light_bounds.proofs.vecmath.divide_vector.Statement.{statement}

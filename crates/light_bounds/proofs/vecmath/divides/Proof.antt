@@ -1,4 +1,4 @@
--- `light_bounds::vecmath::divides` meets its contract: finite, and then not 0. Assumes nothing.
+-- `light_bounds::vecmath::divides`: finite, and then not 0. Assumes nothing.
 use lib.Ieee.{ofBits, ne}
 use borrow.Author.Needs.{needs}
 use Rattle.light_bounds.proofs.vecmath.divides.Statement.{statement}
@@ -9,4 +9,5 @@ unfolding ofBits ne
 returns c = rw (← c .before .is-finite .ensures, c .if1 .taken)
 
 pub divides-spec : {M : Type 1} → statement M
-divides-spec = tie.close (tie.spec (λ c κs. search needs) returns (λ c. rw (← c .before .is-finite .ensures, c .if1 .left)))
+divides-spec =
+    tie.close (tie.spec (λ c κs. search needs) returns (λ c. rw (← c .before .is-finite .ensures, c .if1 .left)))

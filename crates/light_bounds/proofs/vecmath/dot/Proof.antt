@@ -1,4 +1,4 @@
--- `light_bounds::vecmath::dot` meets its contract: the sum as it is written. Assumes nothing.
+-- `light_bounds::vecmath::dot`: the sum as it is written. Assumes nothing.
 use mathlib.Core.Path.{refl}
 use Rattle.light_bounds.specs.Vecmath.{dot}
 use Rattle.light_bounds.proofs.vecmath.dot.Statement.{statement}

@@ -1,4 +1,4 @@
--- `light_bounds::vecmath::is_finite` meets its contract: a float between the infinities is finite, and only such a one. Assumes nothing.
+-- `light_bounds::vecmath::is_finite`: a float between the infinities is finite, and only such a one. Assumes nothing.
 use mathlib.Core.Path.{_≡_, refl, sym, subst}
 use mathlib.Core.Bool.{true, false}
 use lib.Ieee.{Float, nan, inf, fin, ofBits, div, neg, lt}

@@ -1,4 +1,4 @@
--- `light_bounds::vecmath::length` meets its contract: the root of the dot. Assumes nothing.
+-- `light_bounds::vecmath::length`: the root of the dot. Assumes nothing.
 use mathlib.Core.Path.{_∙_, ap}
 use lib.Ieee.{binary32}
 use Rattle.ieee.specs.Sqrt.{sqrt}

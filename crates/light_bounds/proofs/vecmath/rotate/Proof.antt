@@ -1,4 +1,4 @@
--- `light_bounds::vecmath::rotate` meets its contract: each step of the sum is a call, and is put in its place. Assumes nothing.
+-- `light_bounds::vecmath::rotate`: each step of the sum is a call, and is put in its place. Assumes nothing.
 use mathlib.Core.Path.{_∙_, ap, ap₂}
 use lib.Ieee.{Float}
 use Rattle.ieee.specs.Single.{_⊖_, _⊗_, onef}
@@ -23,9 +23,11 @@ returns c =
     ∙ ap₂ plus
     (c6 .add .ensures ∙ ap₂ plus (c3 .scale-vector .ensures ∙ ap (scaled (a .v)) (c2 .cos .ensures))
     (c5 .scale-vector2 .ensures ∙ ap₂ scaled (c4 .cross .ensures) (c1 .sin .ensures)))
-    (c8 .scale-vector3 .ensures ∙ ap (scaled (a .axis)) (ap₂ (λ (d k : Float). d ⊗ (onef ⊖ k)) (c7 .dot .ensures) (c2 .cos .ensures)))
+    (c8 .scale-vector3 .ensures ∙ ap (scaled (a .axis))
+    (ap₂ (λ (d k : Float). d ⊗ (onef ⊖ k)) (c7 .dot .ensures) (c2 .cos .ensures)))
 
 pub rotate-spec : {M : Type 1} → statement M
 rotate-spec =
-    tie.close (tie.spec (λ c κs. search needs) (λ c κs. search needs) (λ c κs. search needs) (λ c κs. search needs) (λ c κs. search needs)
+    tie.close (tie.spec (λ c κs. search needs) (λ c κs. search needs) (λ c κs. search needs) (λ c κs. search needs)
+    (λ c κs. search needs)
     (λ c κs. search needs) (λ c κs. search needs) (λ c κs. search needs) (λ c κs. search needs) returns)

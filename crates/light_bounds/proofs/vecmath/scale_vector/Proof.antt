@@ -1,4 +1,4 @@
--- `light_bounds::vecmath::scale_vector` meets its contract: axis by axis, with nothing to show. Assumes nothing.
+-- `light_bounds::vecmath::scale_vector`: axis by axis, with nothing to show. Assumes nothing.
 use mathlib.Core.Path.{refl}
 use Rattle.light_bounds.specs.Vecmath.{scaled}
 use Rattle.light_bounds.proofs.vecmath.scale_vector.Statement.{statement}

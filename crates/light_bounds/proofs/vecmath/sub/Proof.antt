@@ -1,4 +1,4 @@
--- `light_bounds::vecmath::sub` meets its contract: axis by axis, with nothing to show. Assumes nothing.
+-- `light_bounds::vecmath::sub`: axis by axis, with nothing to show. Assumes nothing.
 use mathlib.Core.Path.{refl}
 use Rattle.light_bounds.specs.Vecmath.{minus}
 use Rattle.light_bounds.proofs.vecmath.sub.Statement.{statement}

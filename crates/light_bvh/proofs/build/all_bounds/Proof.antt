@@ -27,7 +27,8 @@ loop-again c =
     let block = now (c .before .before .before .before .before .before .args .block) in
     let powered = c .before .is-powered .ensures in (
       omega arith,
-      ⊎-elim (λ w. ap allBoundsOf (w .3) ∙ w .2 .ensures ∙ rw (loop .inv .1, w .1 .ensures) (sym (all-in block (loop .i) (sym powered ∙ w .0 .taken))))
+      ⊎-elim (λ w. ap allBoundsOf (w .3) ∙ w .2 .ensures ∙
+          rw (loop .inv .1, w .1 .ensures) (sym (all-in block (loop .i) (sym powered ∙ w .0 .taken))))
           (λ w. ap allBoundsOf (w .1) ∙ loop .inv .1 ∙ sym (all-out block (loop .i) (sym powered ∙ w .0 .left)))
           (c .if2 .came),
     )

@@ -1,5 +1,5 @@
--- `light_bvh::build::build_light_bvh` meets its contract: a check of the block or of the lent words refuses, or a record does, or the rows are built.
--- Assumes nothing.
+-- `light_bvh::build::build_light_bvh`: a check of the block or of the lent words refuses, or a record does, or the rows
+-- are built. Assumes nothing.
 use Prim.Native.Nat.{ℕ, _≤_}
 use mathlib.Core.Path.{_≡_, sym, ap, _∙_}
 use mathlib.Core.Bool.{false}
@@ -24,7 +24,8 @@ rows c = c .before .m .given .0 .0
 
 checked : (c : tie.After-known-told)
     → (let args = start c .args in
-    buildCheck (args .lights) (now (args .block)) (length (now (args .nodes))) (length (now (args .table))) (length (now (args .work))) ≡ given (rows c))
+    buildCheck (args .lights) (now (args .block)) (length (now (args .nodes))) (length (now (args .table)))
+    (length (now (args .work))) ≡ given (rows c))
 checked c = sym (c .before .before .before .check-build .ensures) ∙ ap counted (c .before .m .given .1)
 
 facts : (c : tie.After-known-told)
@@ -34,7 +35,8 @@ facts : (c : tie.After-known-told)
     × (isShort (rows c) (length (now (args .nodes))) (length (now (args .table))) (length (now (args .work))) ≡ false))
 facts c =
     let args = start c .args in
-    build-checked (args .lights) (now (args .block)) (length (now (args .nodes))) (length (now (args .table))) (length (now (args .work))) (rows c) (checked c)
+    build-checked (args .lights) (now (args .block)) (length (now (args .nodes))) (length (now (args .table)))
+    (length (now (args .work))) (rows c) (checked c)
 
 build-rows-requires : tie.Need-build-rows-requires
 build-rows-requires c κs =
@@ -48,8 +50,10 @@ returns c =
     let at = told .before .before .before in
     let args = start at .args in
     let told′ = built .build-rows .ensures in
-    outcome-rows (args .lights) (now (args .block)) (now (args .nodes)) (now (args .table)) (now (args .work)) (rows at) (checked at)
-    (sym (told .before .before .check-records .ensures) ∙ ap validity (told .enum-told .given .1)) (told′ .0) (told′ .1 .0) (told′ .1 .1 .0)
+    outcome-rows (args .lights) (now (args .block)) (now (args .nodes)) (now (args .table)) (now (args .work)) (rows at)
+    (checked at)
+    (sym (told .before .before .check-records .ensures) ∙ ap validity (told .enum-told .given .1)) (told′ .0)
+    (told′ .1 .0) (told′ .1 .1 .0)
     (told′ .1 .1 .1)
 
 returns-2 : tie.Need-returns-2
@@ -59,19 +63,24 @@ returns-2 c =
     let at = told .before .before .before in
     let args = start at .args in
     let told′ = zeroed .zero-reserves .ensures in
-    outcome-late (args .lights) (now (args .block)) (now (args .nodes)) (now (args .table)) (now (args .work)) (rows at) (checked at)
-    (number (told .why .given .0 .0)) (sym (told .before .before .check-records .ensures) ∙ ap validity (told .why .given .1)) (told′ .0) (told′ .1 .0)
+    outcome-late (args .lights) (now (args .block)) (now (args .nodes)) (now (args .table)) (now (args .work)) (rows at)
+    (checked at)
+    (number (told .why .given .0 .0))
+    (sym (told .before .before .check-records .ensures) ∙ ap validity (told .why .given .1)) (told′ .0) (told′ .1 .0)
     (told′ .1 .1)
 
 returns-3 : tie.Need-returns-3
 returns-3 c =
     let told = c .before .before .before in
     let args = told .before .before .before .before .before .args in
-    outcome-early (args .lights) (now (args .block)) (now (args .nodes)) (now (args .table)) (now (args .work)) (number (c .before .why2 .given .0 .0))
+    outcome-early (args .lights) (now (args .block)) (now (args .nodes)) (now (args .table)) (now (args .work))
+    (number (c .before .why2 .given .0 .0))
     (sym (told .check-build .ensures) ∙ ap counted (c .before .why2 .given .1))
 
 pub build-light-bvh-spec : {M : Type 1} → statement M
 build-light-bvh-spec =
-    tie.close (tie.spec (λ c κs. search needs) (λ c. search needs) (λ c κs. facts c .1) (λ c. search needs) build-rows-requires (λ c. search needs)
-    (λ c κs. facts (c .before .before .before .before .before .before .before) .1) (λ c. search needs) (λ c. search needs) (λ c. search needs)
+    tie.close (tie.spec (λ c κs. search needs) (λ c. search needs) (λ c κs. facts c .1) (λ c. search needs)
+    build-rows-requires (λ c. search needs)
+    (λ c κs. facts (c .before .before .before .before .before .before .before) .1) (λ c. search needs)
+    (λ c. search needs) (λ c. search needs)
     (λ c. search needs) returns (λ c. search needs) (λ c. search needs) (λ c. search needs) returns-2 returns-3)

@@ -1,5 +1,5 @@
--- The fronts of the table, the work and the nodes are lent for the tree of the powered rows, and what is left of them is
--- the definition's at each of the three ends; where there is a tree there is a box. Assumes nothing.
+-- The fronts of the table, the work and the nodes are lent for the tree of the powered rows, and what is left of them
+-- is the definition's at each of the three ends; where there is a tree there is a box. Assumes nothing.
 use Prim.Native.Nat.{_≤_, _<_}
 use mathlib.Core.Path.{_≡_, sym, ap, _∙_}
 use native.Mathlib.Omega.{arith}
@@ -28,15 +28,18 @@ abbrev tested : tie.After-slice-known11 → tie.Else1
 tested c = tried c .before .before .before .before
 
 got : (c : tie.After-gather-handles) → let args = start c .args in
-    Gathered (now (args .block)) (args .m) (now (args .nodes)) (now (args .table)) (now (args .work)) (c .gather-handles .last .1 .1 .0)
+    Gathered (now (args .block)) (args .m) (now (args .nodes)) (now (args .table)) (now (args .work))
+    (c .gather-handles .last .1 .1 .0)
     (c .gather-handles .result)
 got c =
     let pre = start c .pre in
     gathered _ _ _ _ _ _ _ (pre .0) (pre .1 .0) (pre .1 .1 .0) (pre .1 .1 .1) (c .gather-handles .ensures .0)
     (c .gather-handles .ensures .1)
 
-lent : (c : tie.After-slice-known11) → let s = gather (tested c) in let args = start s .args in let last = tried c .build-subtree .last in
-    Lent (now (args .block)) (args .m) (now (args .nodes)) (now (args .table)) (now (args .work)) (s .gather-handles .last .1 .1 .0)
+lent : (c : tie.After-slice-known11) → let s =
+    gather (tested c) in let args = start s .args in let last = tried c .build-subtree .last in
+    Lent (now (args .block)) (args .m) (now (args .nodes)) (now (args .table)) (now (args .work))
+    (s .gather-handles .last .1 .1 .0)
     (s .gather-handles .result) (last .1 .0) (last .1 .1 .0) (last .1 .1 .1 .0)
 lent c =
     let kept = tried c .build-subtree .kept in
@@ -49,7 +52,8 @@ lent c =
     }
 
 -- the numbers of it
-numbers : (c : tie.Else1) → let k = gather c .gather-handles .result in let m = start (gather c) .args .m in (0 < k) × (k ≤ m) × (m ≤ 4096)
+numbers : (c : tie.Else1) → let k =
+    gather c .gather-handles .result in let m = start (gather c) .args .m in (0 < k) × (k ≤ m) × (m ≤ 4096)
 numbers c = let g = got (gather c) in (omega (arith, c .if1 .left), g .within, g .few)
 
 -- ---- the needs
@@ -57,8 +61,11 @@ numbers c = let g = got (gather c) in (omega (arith, c .if1 .left), g .within, g
 gather-handles-requires : tie.Need-gather-handles-requires
 gather-handles-requires c κs =
     let pre = c .before .before .before .before .before .pre in
-    let args = c .before .before .before .before .before .args in
-    (pre .0, reserves-fit (args .m) (length (now (args .nodes))) (length (now (args .table))) (length (now (args .work))) (pre .1 .1 .1) .1)
+    let args = c .before .before .before .before .before .args in (
+      pre .0,
+      reserves-fit (args .m) (length (now (args .nodes))) (length (now (args .table)))
+          (length (now (args .work))) (pre .1 .1 .1) .1,
+    )
 
 returns : tie.Need-returns
 returns c =
@@ -66,7 +73,8 @@ returns c =
     let zeroed = filled .before .before .before .before .before .before .before .before in
     let tested = zeroed .before .before .before .before in
     let told = zeroed .zero-reserves .ensures in
-    rows-none (got (tested .before .before .before)) (tested .if1 .taken) (told .0) (told .1 .0) (filled .fill-words .ensures) (told .1 .1)
+    rows-none (got (tested .before .before .before)) (tested .if1 .taken) (told .0) (told .1 .0)
+    (filled .fill-words .ensures) (told .1 .1)
 
 part-build-subtree-end : tie.Need-part-build-subtree-end
 part-build-subtree-end c =
@@ -104,7 +112,9 @@ table-leaves-requires c κs =
     (omega arith, e)
 
 -- behind the table's leaves
-few : (c : tie.After-table-leaves) → let s = tested (c .before .before .before .before .before .before .before .before .before .before .before .before .before) in
+few : (c : tie.After-table-leaves) → let s =
+    tested (c .before .before .before .before .before .before .before .before .before .before .before .before .before)
+    in
     start (gather s) .args .m ≤ 4096
 few c = numbers (tested (c .before .before .before .before .before .before .before .before .before .before .before .before .before)) .2
 
@@ -126,7 +136,8 @@ same-table : (c : tie.After-all-bounds)
 same-table c = tabled c .table-leaves .kept .1 .1 .0 ∙ cleared c .fill-words2 .kept .0 ∙ table-size (lent (built c))
 
 same-work : (c : tie.After-all-bounds)
-    → length (c .before .before .before .zero-words2 .last .0) ≡ length (now (start (gather (tested (built c))) .args .work))
+    → length (c .before .before .before .zero-words2 .last .0) ≡
+    length (now (start (gather (tested (built c))) .args .work))
 same-work c = c .before .before .before .zero-words2 .kept .0 ∙ work-size (lent (built c))
 
 returns-2 : tie.Need-returns-2
@@ -142,7 +153,8 @@ returns-2 c =
 returns-3 : tie.Need-returns-3
 returns-3 c =
     let boxed = c .before .before in
-    absurd (rows-boxed (lent (built boxed)) (sym (ap allBoundsOf (c .enum-told2 .given .1)) ∙ boxed .all-bounds .ensures))
+    absurd (rows-boxed (lent (built boxed))
+    (sym (ap allBoundsOf (c .enum-told2 .given .1)) ∙ boxed .all-bounds .ensures))
 
 returns-4 : tie.Need-returns-4
 returns-4 c =
@@ -150,17 +162,26 @@ returns-4 c =
     let told = zeroed .zero-reserves2 .ensures in
     let lost = zeroed .before .before .before .before in
     let s = lost .before .before in
-    rows-lost (lent s) (tried s .build-subtree .ensures .0) (lost .enum-told3 .given .1) (told .0) (told .1 .0) (told .1 .1)
+    rows-lost (lent s) (tried s .build-subtree .ensures .0) (lost .enum-told3 .given .1) (told .0) (told .1 .0)
+    (told .1 .1)
 
 pub build-rows-spec : {M : Type 1} → statement M
 build-rows-spec =
-    tie.close (tie.spec gather-handles-requires (λ c κs. search needs) (λ c κs. search needs) (λ c. search needs) (λ c. search needs)
-    (λ c. search needs) returns (λ c. omega (arith, numbers c)) (λ c. search needs) (λ c. omega (arith, numbers c)) (λ c. search needs)
-    (λ c. search needs) part-build-subtree-end (λ c. search needs) (λ c. search needs) part-build-subtree-end-2 (λ c. search needs)
+    tie.close (tie.spec gather-handles-requires (λ c κs. search needs) (λ c κs. search needs) (λ c. search needs)
+    (λ c. search needs)
+    (λ c. search needs) returns (λ c. omega (arith, numbers c)) (λ c. search needs) (λ c. omega (arith, numbers c))
+    (λ c. search needs)
+    (λ c. search needs) part-build-subtree-end (λ c. search needs) (λ c. search needs) part-build-subtree-end-2
+    (λ c. search needs)
     (λ c. search needs) part-build-subtree-end-3 build-subtree-requires (λ c. search needs) (λ c. search needs)
-    (λ c. omega (arith, numbers (tested (c .before .before .before)))) (λ c. search needs) (λ c κs. search needs) (λ c κs. search needs)
-    mul-table-leaves (λ c. search needs) table-leaves-requires (λ c. omega (arith, few (c .before .before .before))) (λ c κs. search needs)
-    (λ c κs. few (c .before .before .before .before .before .before)) (λ c. search needs) (λ c. search needs) (λ c. search needs)
-    (λ c κs. search needs) (λ c. search needs) (λ c. same-table (c .before .before .before)) (λ c. same-work (c .before .before .before)) returns-2
-    (λ c. search needs) (λ c. same-table (c .before .before)) (λ c. same-work (c .before .before)) returns-3 (λ c. search needs)
+    (λ c. omega (arith, numbers (tested (c .before .before .before)))) (λ c. search needs) (λ c κs. search needs)
+    (λ c κs. search needs)
+    mul-table-leaves (λ c. search needs) table-leaves-requires (λ c. omega (arith, few (c .before .before .before)))
+    (λ c κs. search needs)
+    (λ c κs. few (c .before .before .before .before .before .before)) (λ c. search needs) (λ c. search needs)
+    (λ c. search needs)
+    (λ c κs. search needs) (λ c. search needs) (λ c. same-table (c .before .before .before))
+    (λ c. same-work (c .before .before .before)) returns-2
+    (λ c. search needs) (λ c. same-table (c .before .before)) (λ c. same-work (c .before .before)) returns-3
+    (λ c. search needs)
     (λ c. search needs) (λ c. search needs) returns-4)

@@ -1,4 +1,4 @@
--- `light_bvh::build::check_records` meets its contract: up to i every record is valid. Assumes nothing.
+-- `light_bvh::build::check_records`: up to i every record is valid. Assumes nothing.
 use Prim.Native.Nat.{ℕ, _-_, _≤_}
 use mathlib.Core.Path.{_≡_, refl, sym, ap, subst, _∙_}
 use denote.Ref.{now}
@@ -37,7 +37,8 @@ returns : tie.Need-returns Inv-loop μ-loop
 returns c =
     let at = c .before .before .before .before .before .before .before in
     let args = at .before .before .args in
-    let one = ap validate (sym (c .before .before .before .before .light .ensures)) ∙ sym (c .before .before .before .validate .ensures)
+    let one = ap validate (sym (c .before .before .before .before .light .ensures)) ∙
+    sym (c .before .before .before .validate .ensures)
     ∙ ap validity (c .before .why .given .1) in
     sym (validated-refused (now (args .block)) (args .m) (at .loop .i) (number (c .before .why .given .0 .0))
     (omega arith) (at .loop .inv .1) one)
@@ -51,5 +52,6 @@ returns-2 c =
 
 pub check-records-spec : {M : Type 1} → statement M
 check-records-spec =
-    tie.close (tie.spec Inv-loop μ-loop loop-holds (λ c κs. search needs) (λ c κs. search needs) (λ c κs. search needs) (λ c. search needs)
+    tie.close (tie.spec Inv-loop μ-loop loop-holds (λ c κs. search needs) (λ c κs. search needs) (λ c κs. search needs)
+    (λ c. search needs)
     (λ c. omega arith) (λ c. omega arith) loop-again (λ c. search needs) returns returns-2)

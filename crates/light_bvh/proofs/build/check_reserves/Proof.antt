@@ -1,4 +1,4 @@
--- `light_bvh::build::check_reserves` meets its contract: each reserve in turn is long enough, or one is short. Assumes nothing.
+-- `light_bvh::build::check_reserves`: each reserve in turn is long enough, or one is short. Assumes nothing.
 use Prim.Native.Nat.{_≤_}
 use mathlib.Core.Logic.{⊎-elim}
 use native.Mathlib.Omega.{arith}
@@ -28,9 +28,11 @@ returns-4 : tie.Need-returns-4
 returns-4 c =
     let args = c .before .before .before .args in
     let room : nodesReserve (args .m) ≤ args .nodes =
-    ⊎-elim (λ w. ltb-false (args .nodes) (nodesReserve (args .m)) (w .1 .left)) (λ w. omega (arith, w .left)) (c .before .before .if1 .came) in
+    ⊎-elim (λ w. ltb-false (args .nodes) (nodesReserve (args .m)) (w .1 .left)) (λ w. omega (arith, w .left))
+    (c .before .before .if1 .came) in
     rw (not-short (args .m) (args .nodes) (args .table) (args .work) room (omega arith) (omega arith))
 
 pub check-reserves-spec : {M : Type 1} → statement M
 check-reserves-spec =
-    tie.close (tie.spec (λ c. search needs) (λ c. search needs) (λ c. search needs) returns returns-2 (λ c. search needs) returns-3 returns-4)
+    tie.close (tie.spec (λ c. search needs) (λ c. search needs) (λ c. search needs) returns returns-2
+    (λ c. search needs) returns-3 returns-4)

@@ -1,4 +1,4 @@
--- `light_bvh::build::gather_handles` meets its contract: of the rows up to i the powered ones' handles are at the front. Assumes nothing.
+-- `light_bvh::build::gather_handles`: of the rows up to i the powered ones' handles are at the front. Assumes nothing.
 use Prim.Native.Nat.{_-_}
 use mathlib.Core.Path.{sym, _∙_}
 use mathlib.Core.Logic.{⊎-elim}
@@ -23,7 +23,8 @@ loop-holds c =
 loop-again : tie.Need-loop-again Inv-loop μ-loop
 loop-again c =
     let loop = c .before .before .before .before .loop in
-    ⊎-elim (λ w. rw (w .1, w .2) (gathering-in (loop .inv) (omega arith) (sym (c .before .is-powered .ensures) ∙ w .0 .taken)))
+    ⊎-elim (λ w. rw (w .1, w .2) (gathering-in (loop .inv) (omega arith)
+    (sym (c .before .is-powered .ensures) ∙ w .0 .taken)))
     (λ w. rw (w .1, w .2) (gathering-out (loop .inv) (omega arith) (sym (c .before .is-powered .ensures) ∙ w .0 .left)))
     (c .if2 .came)
 
@@ -32,5 +33,7 @@ returns c = gathering-all (c .before .before .loop .inv) (omega arith)
 
 pub gather-handles-spec : {M : Type 1} → statement M
 gather-handles-spec =
-    tie.close (tie.spec Inv-loop μ-loop loop-holds (λ c κs. search needs) (λ c κs. search needs) (λ c. search needs) (λ c. omega arith)
-    (λ c. omega arith) (λ c. omega arith) (λ c. omega arith) loop-again (λ c. c .before .before .loop .inv .same) returns)
+    tie.close (tie.spec Inv-loop μ-loop loop-holds (λ c κs. search needs) (λ c κs. search needs) (λ c. search needs)
+    (λ c. omega arith)
+    (λ c. omega arith) (λ c. omega arith) (λ c. omega arith) loop-again (λ c. c .before .before .loop .inv .same)
+    returns)

@@ -9,7 +9,7 @@ use lib.ListN.{length, getD, set, length-set}
 use borrow.Author.Needs.{needs}
 use Rattle.words.specs.Heads.{kindOf, handleOf}
 use Rattle.light_rows.specs.Nodes.{nodePlace}
-use Rattle.light_bvh.specs.Build.{tabledBelow}
+use Rattle.light_bvh.specs.AsCoded.Tables.{tabledBelow}
 use Rattle.light_bvh.proofs.BuildLaws.{tabled-leaf, tabled-past, tabled-other}
 use Rattle.light_bvh.proofs.build.table_leaves.Statement.{statement}
 use Rattle.light_bvh.proofs.build.table_leaves.Tie as tie

@@ -1,5 +1,5 @@
--- The right tree's nodes lie behind the left one's 2n - 1, so neither call sees the other's; the measure is the stretch's
--- length: each half is shorter. Assumes nothing.
+-- The right tree's nodes lie behind the left one's 2n - 1, so neither call sees the other's; the measure is the
+-- stretch's length: each half is shorter. Assumes nothing.
 use Prim.Native.Nat.{ℕ, _+_, _*_, _-_, _^_, _≤_, _<_, zero-le}
 use mathlib.Core.Path.{_≡_, refl, sym, ap, _∙_}
 use mathlib.Core.List.{List}
@@ -9,11 +9,13 @@ use denote.Ref.{now}
 use lib.ListN.{length, take, drop}
 use lib.Seq.{length-take-le}
 use Rattle.words.specs.Answers.{given, counted}
-use Rattle.light_bvh.specs.Subtree.{subtree, done, subtreeWords, splitCount}
+use Rattle.light_bvh.specs.AsCoded.Stretches.{subtree, done, subtreeWords, splitCount}
 use Rattle.light_bvh.specs.declared.subtree.Subtree.{Subtree}
 use Rattle.light_bvh.specs.declared.subtree.Subtree.the-variants.{Built, Lost}
-use Rattle.light_bvh.proofs.SubtreeLaws.{cut-of, Stand, whole, leaf-left, lost-left, no-left, no-right, both-left, front-is, done-moved, words-moved}
-use Rattle.light_bvh.proofs.SubtreeLaws.{left-asks, right-asks, handlesLeft, nodesLeft, handles-left, nodes-left, front-length}
+use Rattle.light_bvh.proofs.SubtreeLaws.{cut-of, Stand, whole, leaf-left, lost-left, no-left}
+use Rattle.light_bvh.proofs.SubtreeLaws.{no-right, both-left, front-is, done-moved, words-moved}
+use Rattle.light_bvh.proofs.SubtreeLaws.{left-asks, right-asks, handlesLeft, nodesLeft}
+use Rattle.light_bvh.proofs.SubtreeLaws.{handles-left, nodes-left, front-length}
 use Rattle.light_bvh.proofs.SubtreeLaws.{back-is, back-length, root-length, nodes-are}
 use borrow.Rule.Slice.PartMut.{midOf, putMid, same-len-mid}
 use borrow.Author.Needs.{needs}
@@ -103,7 +105,8 @@ module _ (t : ℕ) where
       let pre = start c .pre .1 in
       let two : 2 ≤ length (stretch c) = omega (arith, pre .0, split .before .before .before .if1 .left) in
       let kept : length (tray c) ≡ length (now (start c .args .work)) = split .split-stretch .kept .1 .1 .0 in
-      let count : splitCount (blockOf c) (stretch c) ≡ given (left c) = sym (split .split-stretch .ensures .0) ∙ ap counted (c .before .left .given .1) in
+      let count : splitCount (blockOf c) (stretch c) ≡ given (left c) = sym (split .split-stretch .ensures .0) ∙
+      ap counted (c .before .left .given .1) in
       record {
         cut = cut-of (blockOf c) (stretch c) (parted c) (left c) count (split .split-stretch .ensures .1) two;
         room = omega (arith, pre .1 .0, kept);
@@ -146,9 +149,12 @@ module _ (t : ℕ) where
       let label = wrote .before .before .before in
       let one = label .before .before .before in
       let start = one .before .before .before .before .before in
-      leaf-left (now (start .args .block)) (now (start .args .handles)) (now (start .args .nodes)) (wrote .write-leaf .last .0) (start .args .at)
-      (start .args .parent) (label .label .result) (wrote .before .light .result) (one .if1 .taken) (start .pre .1 .1 .1 .0)
-      (start .pre .1 .1 .1 .1 .1) (label .label .ensures) (wrote .before .light .ensures) (wrote .write-leaf .ensures .1)
+      leaf-left (now (start .args .block)) (now (start .args .handles)) (now (start .args .nodes))
+      (wrote .write-leaf .last .0) (start .args .at)
+      (start .args .parent) (label .label .result) (wrote .before .light .result) (one .if1 .taken)
+      (start .pre .1 .1 .1 .0)
+      (start .pre .1 .1 .1 .1 .1) (label .label .ensures) (wrote .before .light .ensures)
+      (wrote .write-leaf .ensures .1)
 
   -- ---- the left tree
 
@@ -238,10 +244,12 @@ module _ (t : ℕ) where
   nodes-length f = nodes-left (stand (told f)) (h1 f) (n1 f) (same-h f) (same-n f)
 
   mul-build-subtree-3 : lts.Need-mul-build-subtree-3 (calls t) (before t) build-subtree.Post
-  mul-build-subtree-3 c = let n = numbers (told (c .before .before .before .before .before .before .before .before)) in omega arith
+  mul-build-subtree-3 c =
+      let n = numbers (told (c .before .before .before .before .before .before .before .before)) in omega arith
 
   sub-build-subtree-4 : lts.Need-sub-build-subtree-4 (calls t) (before t) build-subtree.Post
-  sub-build-subtree-4 c = let n = numbers (told (c .before .before .before .before .before .before .before .before)) in omega arith
+  sub-build-subtree-4 c =
+      let n = numbers (told (c .before .before .before .before .before .before .before .before)) in omega arith
 
   part-build-subtree-start-4 : lts.Need-part-build-subtree-start-4 (calls t) (before t) build-subtree.Post
   part-build-subtree-start-4 c =
@@ -257,45 +265,67 @@ module _ (t : ℕ) where
       e
 
   sub-build-subtree-5 : lts.Need-sub-build-subtree-5 (calls t) (before t) build-subtree.Post
-  sub-build-subtree-5 c = let n = numbers (told (c .before .before .before .before .before .before .before .before .before)) in omega arith
+  sub-build-subtree-5 c =
+      let n = numbers (told (c .before .before .before .before .before .before .before .before .before)) in omega arith
 
   part-build-subtree-end-5 : lts.Need-part-build-subtree-end-5 (calls t) (before t) build-subtree.Post
   part-build-subtree-end-5 c = rest-within (c .before .before .before .before .before .before .before .before .before)
 
   mul-build-subtree-5 : lts.Need-mul-build-subtree-5 (calls t) (before t) build-subtree.Post
-  mul-build-subtree-5 c = let n = numbers (told (c .before .before .before .before .before .before .before .before .before .before)) in omega arith
+  mul-build-subtree-5 c =
+      let n = numbers (told (c .before .before .before .before .before .before .before .before .before .before))
+      in omega arith
 
   mul-build-subtree-6 : lts.Need-mul-build-subtree-6 (calls t) (before t) build-subtree.Post
-  mul-build-subtree-6 c = let n = numbers (told (c .before .before .before .before .before .before .before .before .before .before)) in omega arith
+  mul-build-subtree-6 c =
+      let n = numbers (told (c .before .before .before .before .before .before .before .before .before .before))
+      in omega arith
 
   words-within : (f : First) → 32 * left (told f) ≤ length (nodes f)
   words-within f = let n = numbers (told f) in omega (arith, nodes-length f)
 
   cast-build-subtree : lts.Need-cast-build-subtree (calls t) (before t) build-subtree.Post
-  cast-build-subtree c = let n = numbers (told (c .before .before .before .before .before .before .before .before .before .before .before)) in omega arith
+  cast-build-subtree c =
+      let n = numbers (told (c .before .before .before .before .before .before .before .before .before .before .before))
+      in omega arith
 
   mul-build-subtree-7 : lts.Need-mul-build-subtree-7 (calls t) (before t) build-subtree.Post
-  mul-build-subtree-7 c = let n = numbers (told (c .before .before .before .before .before .before .before .before .before .before .before)) in omega arith
+  mul-build-subtree-7 c =
+      let n = numbers (told (c .before .before .before .before .before .before .before .before .before .before .before))
+      in omega arith
 
   add-build-subtree-2 : lts.Need-add-build-subtree-2 (calls t) (before t) build-subtree.Post
-  add-build-subtree-2 c = let n = numbers (told (c .before .before .before .before .before .before .before .before .before .before .before)) in omega arith
+  add-build-subtree-2 c =
+      let n = numbers (told (c .before .before .before .before .before .before .before .before .before .before .before))
+      in omega arith
 
   build-subtree-requires-2 : lts.Need-build-subtree-requires-2 (calls t) (before t) build-subtree.Post
   build-subtree-requires-2 c κs =
       let f = c .before .before .before .before .before .before .before .before .before .before .before in
       let s = stand (told f) in
       let work = take (length (stretch (told f)) - left (told f) - 0) (tray1 f) in (
-        omega (arith, back-length s (h1 f) (n1 f) (same-h f) (same-n f), s .cut .some, s .cut .rest, start (told f) .pre .0),
+        omega (
+          arith,
+          back-length s (h1 f) (n1 f) (same-h f) (same-n f),
+          s .cut .some,
+          s .cut .rest,
+          start
+              (told f) .pre .0,
+        ),
         right-asks s (h1 f) (n1 f) (same-h f) (same-n f) work (omega (arith, rest-front f)),
       )
 
   -- ---- the node over both
 
   mul-join-children : lts.Need-mul-join-children (calls t) (before t) build-subtree.Post
-  mul-join-children c = let n = numbers (told (first (c .before .before .before .before .before .before .before .before .before))) in omega arith
+  mul-join-children c =
+      let n = numbers (told (first (c .before .before .before .before .before .before .before .before .before)))
+      in omega arith
 
   join-children-requires : lts.Need-join-children-requires (calls t) (before t) build-subtree.Post
-  join-children-requires c κs = let n = numbers (told (first (c .before .before .before .before .before .before .before .before .before))) in omega arith
+  join-children-requires c κs =
+      let n = numbers (told (first (c .before .before .before .before .before .before .before .before .before)))
+      in omega arith
 
   -- ---- what is left: the lengths
 
@@ -309,15 +339,18 @@ module _ (t : ℕ) where
       length (putMid (left c) (length (stretch c) - left c) (handles (first s)) (h2 s)) ≡ length (stretch c)
   handles2-length s =
       let c = told (first s) in
-      same-len-mid (left c) (length (stretch c) - left c) (handles (first s)) (h2 s) (s .build-subtree2 .kept .1 .0) ∙ handles-length (first s)
+      same-len-mid (left c) (length (stretch c) - left c) (handles (first s)) (h2 s) (s .build-subtree2 .kept .1 .0) ∙
+      handles-length (first s)
 
   abbrev nodes2 : Second → List ℕ
-  nodes2 s = let c = told (first s) in putMid (32 * left c) (length (nodes (first s)) - 32 * left c) (nodes (first s)) (n2 s)
+  nodes2 s =
+      let c = told (first s) in putMid (32 * left c) (length (nodes (first s)) - 32 * left c) (nodes (first s)) (n2 s)
 
   nodes2-length : (s : Second) → length (nodes2 s) ≡ length (nodesOf (told (first s)))
   nodes2-length s =
       let c = told (first s) in
-      same-len-mid (32 * left c) (length (nodes (first s)) - 32 * left c) (nodes (first s)) (n2 s) (s .build-subtree2 .kept .1 .1 .1 .0)
+      same-len-mid (32 * left c) (length (nodes (first s)) - 32 * left c) (nodes (first s)) (n2 s)
+      (s .build-subtree2 .kept .1 .1 .1 .0)
       ∙ nodes-length (first s)
 
   tray-length : (c : Told) → length (tray c) ≡ length (now (start c .args .work))
@@ -337,21 +370,28 @@ module _ (t : ℕ) where
 
   told-left : (f : First) (r : Subtree) → f .build-subtree .result ≡ r
       → done (whole (blockOf (told f)) (take (left (told f)) (parted (told f)))) ≡ subtree r
-  told-left f r e = done-moved (blockOf (told f)) _ _ (f .build-subtree .result) r (front-is (stand (told f))) (f .build-subtree .ensures .0) e
+  told-left f r e =
+      done-moved (blockOf (told f)) _ _ (f .build-subtree .result) r (front-is (stand (told f)))
+      (f .build-subtree .ensures .0) e
 
   words-left : (f : First) → let c = told f in
-      n1 f ≡ subtreeWords (start c .args .at + 1) (start c .args .at) (whole (blockOf c) (take (left c) (parted c))) (n1 f)
-  words-left f = words-moved (blockOf (told f)) _ _ _ _ (n1 f) (front-is (stand (told f))) (f .build-subtree .ensures .1)
+      n1 f ≡ subtreeWords (start c .args .at + 1) (start c .args .at) (whole (blockOf c) (take (left c) (parted c)))
+      (n1 f)
+  words-left f =
+      words-moved (blockOf (told f)) _ _ _ _ (n1 f) (front-is (stand (told f))) (f .build-subtree .ensures .1)
 
-  back : (s : Second) → let c = told (first s) in midOf (left c) (length (stretch c) - left c) (handles (first s)) ≡ drop (left c) (parted c)
+  back : (s : Second) → let c =
+      told (first s) in midOf (left c) (length (stretch c) - left c) (handles (first s)) ≡ drop (left c) (parted c)
   back s = let f = first s in back-is (stand (told f)) (h1 f) (n1 f) (same-h f) (same-n f)
 
   told-right : (s : Second) (r : Subtree) → s .build-subtree2 .result ≡ r
       → done (whole (blockOf (told (first s))) (drop (left (told (first s))) (parted (told (first s))))) ≡ subtree r
-  told-right s r e = done-moved (blockOf (told (first s))) _ _ (s .build-subtree2 .result) r (back s) (s .build-subtree2 .ensures .0) e
+  told-right s r e =
+      done-moved (blockOf (told (first s))) _ _ (s .build-subtree2 .result) r (back s) (s .build-subtree2 .ensures .0) e
 
   words-right : (s : Second) → let c = told (first s) in
-      n2 s ≡ subtreeWords (start c .args .at + 2 * left c) (start c .args .at) (whole (blockOf c) (drop (left c) (parted c))) (n2 s)
+      n2 s ≡ subtreeWords (start c .args .at + 2 * left c) (start c .args .at)
+      (whole (blockOf c) (drop (left c) (parted c))) (n2 s)
   words-right s = words-moved (blockOf (told (first s))) _ _ _ _ (n2 s) (back s) (s .build-subtree2 .ensures .1)
 
   returns-2 : lts.Need-returns-2 (calls t) (before t) build-subtree.Post
@@ -361,10 +401,14 @@ module _ (t : ℕ) where
       let f = first s in
       let p = told f in
       let st = stand p in
-      both-left (st .cut) (start p .args .at) (start p .args .parent) (take 16 (nodesOf p)) (n1 f) (n2 s) (nodes2 s) (at-fits p)
-      (root-length st (h1 f) (n1 f) (same-h f) (same-n f)) (told-left f Built (s .before .before .before .before .enum-told .given .1)) (words-left f)
-      (told-right s Built (joined .before .before .enum-told2 .given .1)) (words-right s) (nodes-are st (h1 f) (n1 f) (same-h f) (same-n f) (n2 s))
-      (joined .join-children .result) (joined .join-children .last .0) (joined .join-children .ensures .0) (joined .join-children .ensures .1)
+      both-left (st .cut) (start p .args .at) (start p .args .parent) (take 16 (nodesOf p)) (n1 f) (n2 s) (nodes2 s)
+      (at-fits p)
+      (root-length st (h1 f) (n1 f) (same-h f) (same-n f))
+      (told-left f Built (s .before .before .before .before .enum-told .given .1)) (words-left f)
+      (told-right s Built (joined .before .before .enum-told2 .given .1)) (words-right s)
+      (nodes-are st (h1 f) (n1 f) (same-h f) (same-n f) (n2 s))
+      (joined .join-children .result) (joined .join-children .last .0) (joined .join-children .ensures .0)
+      (joined .join-children .ensures .1)
 
   returns-3 : lts.Need-returns-3 (calls t) (before t) build-subtree.Post
   returns-3 c =
@@ -378,7 +422,8 @@ module _ (t : ℕ) where
   returns-4 c =
       let f = c .before .before .before .before .before .before .before .before in
       let p = told f in
-      no-left (stand p .cut) (start p .args .at) (start p .args .parent) (nodes f) (told-left f Lost (c .enum-told4 .given .1))
+      no-left (stand p .cut) (start p .args .at) (start p .args .parent) (nodes f)
+      (told-left f Lost (c .enum-told4 .given .1))
 
   returns-5 : lts.Need-returns-5 (calls t) (before t) build-subtree.Post
   returns-5 c =
@@ -386,21 +431,27 @@ module _ (t : ℕ) where
       let one = split .before .before .before in
       let start = one .before .before .before .before .before in
       let two : 2 ≤ length (now (start .args .handles)) = omega (arith, start .pre .1 .0, one .if1 .left) in
-      lost-left (now (start .args .block)) (now (start .args .handles)) (start .args .at) (start .args .parent) _ (now (start .args .nodes))
+      lost-left (now (start .args .block)) (now (start .args .handles)) (start .args .at) (start .args .parent) _
+      (now (start .args .nodes))
       (sym (split .split-stretch .ensures .0) ∙ ap counted (c .enum-told5 .given .1)) two
 
 pub +build-subtree-spec : {M : Type 1} → statement M
 +build-subtree-spec =
     close μ (λ t. lts.spec (calls t) (before t) build-subtree.Post
-    (slice-read-label t) (λ c κs. tt) (slice-read-light t) (λ c κs. tt) (λ c κs. tt) (λ c. c .before .before .write-leaf .kept .0) (returns t)
-    (split-stretch-requires t) (λ c. search needs) (λ c. zero-le) (λ c. zero-le) (part-build-subtree-end t) (λ c. zero-le) (λ c. zero-le)
+    (slice-read-label t) (λ c κs. tt) (slice-read-light t) (λ c κs. tt) (λ c κs. tt)
+    (λ c. c .before .before .write-leaf .kept .0) (returns t)
+    (split-stretch-requires t) (λ c. search needs) (λ c. zero-le) (λ c. zero-le) (part-build-subtree-end t)
+    (λ c. zero-le) (λ c. zero-le)
     (part-build-subtree-end-2 t) (λ c. search needs) (mul-build-subtree-2 t)
-    (sub-build-subtree-3 t) (part-build-subtree-start-3 t) (part-build-subtree-end-3 t) (add-build-subtree t) (build-subtree-requires t)
+    (sub-build-subtree-3 t) (part-build-subtree-start-3 t) (part-build-subtree-end-3 t) (add-build-subtree t)
+    (build-subtree-requires t)
     (λ c. search needs) (mul-build-subtree-3 t) (sub-build-subtree-4 t) (part-build-subtree-start-4 t)
     (part-build-subtree-end-4 t) (sub-build-subtree-5 t) (λ c. zero-le) (λ c. zero-le)
     (part-build-subtree-end-5 t) (λ c. search needs) (mul-build-subtree-5 t)
-    (mul-build-subtree-6 t) (λ c. words-within t (c .before .before .before .before .before .before .before .before .before .before))
-    (λ c. words-within t (c .before .before .before .before .before .before .before .before .before .before)) (λ c. le-refl _) (cast-build-subtree t)
+    (mul-build-subtree-6 t) (λ c. words-within t
+    (c .before .before .before .before .before .before .before .before .before .before))
+    (λ c. words-within t (c .before .before .before .before .before .before .before .before .before .before))
+    (λ c. le-refl _) (cast-build-subtree t)
     (mul-build-subtree-7 t) (add-build-subtree-2 t) (build-subtree-requires-2 t) (λ c. search needs)
     (mul-join-children t) (join-children-requires t) (λ c. search needs) (λ c. search needs)
     (λ c. search needs)

@@ -19,5 +19,6 @@ returns-2 c =
 
 pub join-children-spec : {M : Type 1} → statement M
 join-children-spec =
-    tie.close (tie.spec (λ c κs. search needs) (λ c. search needs) (λ c. search needs) (λ c. search needs) (λ c. search needs) (λ c κs. search needs)
+    tie.close (tie.spec (λ c κs. search needs) (λ c. search needs) (λ c. search needs) (λ c. search needs)
+    (λ c. search needs) (λ c κs. search needs)
     (λ c. search needs) (λ c. search needs) returns (λ c. search needs) returns-2)

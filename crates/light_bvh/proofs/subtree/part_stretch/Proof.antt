@@ -1,10 +1,10 @@
--- `light_bvh::subtree::part_stretch` meets its contract: a work as long as the stretch is never refused. Assumes nothing.
+-- `light_bvh::subtree::part_stretch`: a work as long as the stretch is never refused. Assumes nothing.
 use mathlib.Core.Path.{_≡_, sym, ap, _∙_}
 use denote.Ref.{now}
 use lib.ListN.{length}
 use Rattle.words.specs.Answers.{given, refused, _then_}
 use Rattle.light_split.specs.Split.{chooseSplit, chosen}
-use Rattle.light_bvh.specs.Subtree.{splitCount, splitHandles}
+use Rattle.light_bvh.specs.AsCoded.Stretches.{splitCount, splitHandles}
 use Rattle.light_bvh.proofs.SubtreeLaws.{parted-is}
 use borrow.Author.Needs.{needs}
 use Rattle.light_bvh.proofs.subtree.part_stretch.Statement.{statement}
@@ -33,5 +33,6 @@ returns-2 c =
 
 pub part-stretch-spec : {M : Type 1} → statement M
 part-stretch-spec =
-    tie.close (tie.spec (λ c κs. search needs) (λ c. search needs) (λ c κs. search needs) (λ c. search needs) (λ c. search needs)
+    tie.close (tie.spec (λ c κs. search needs) (λ c. search needs) (λ c κs. search needs) (λ c. search needs)
+    (λ c. search needs)
     (λ c. search needs) returns (λ c. search needs) returns-2)

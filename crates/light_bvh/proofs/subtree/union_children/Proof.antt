@@ -1,5 +1,5 @@
 -- `light_bvh::subtree::union_children` meets its contract: the union of the records as they are read. Assumes nothing.
-use Rattle.light_bvh.specs.Subtree.{unionAt}
+use Rattle.light_bvh.specs.AsCoded.Stretches.{unionAt}
 use borrow.Author.Needs.{needs}
 use Rattle.light_bvh.proofs.subtree.union_children.Statement.{statement}
 use Rattle.light_bvh.proofs.subtree.union_children.Tie as tie

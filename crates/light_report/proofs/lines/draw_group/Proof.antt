@@ -1,4 +1,4 @@
--- `light_report::lines::draw_group` shows the draw, then the chance by name of the lamp drawn. Assumes nothing.
+-- `light_report::lines::draw_group`: the draw, then the chance by name of the lamp drawn. Assumes nothing.
 use borrow.Author.Needs.{needs}
 use Rattle.words.specs.Answers.{_then_}
 use Rattle.light_report.specs.Lines.{shown, named}
@@ -11,7 +11,8 @@ returns c =
     let draw = c .before .before .before .before .before .before .before in
     let chance = c .before .before .before in
     rw (← draw .before .before .query-of-bytes .ensures, ← draw .before .float-at .ensures, ← draw .bvh-light-sampler-sample .ensures)
-    (rw (chance .before .before .handle .given .1) (rw (← chance .bvh-light-sampler-pmf .ensures, c .before .named .given .1)))
+    (rw (chance .before .before .handle .given .1)
+    (rw (← chance .bvh-light-sampler-pmf .ensures, c .before .named .given .1)))
 
 returns-2 : tie.Need-returns-2
 unfolding shown named _then_
@@ -19,7 +20,8 @@ returns-2 c =
     let draw = c .before .before .before .before .before .before .before in
     let chance = c .before .before .before in
     rw (← draw .before .before .query-of-bytes .ensures, ← draw .before .float-at .ensures, ← draw .bvh-light-sampler-sample .ensures)
-    (rw (chance .before .before .handle .given .1) (rw (← chance .bvh-light-sampler-pmf .ensures, c .before .why .given .1)))
+    (rw (chance .before .before .handle .given .1)
+    (rw (← chance .bvh-light-sampler-pmf .ensures, c .before .why .given .1)))
 
 returns-3 : tie.Need-returns-3
 unfolding shown named _then_
@@ -37,5 +39,7 @@ returns-4 c =
 
 pub draw-group-spec : {M : Type 1} → statement M
 draw-group-spec =
-    tie.close (tie.spec (λ c κs. search needs) (λ c κs. search needs) (λ c κs. search needs) (λ c. search needs) (λ c κs. search needs)
-    (λ c. search needs) (λ c. search needs) (λ c. search needs) (λ c. search needs) returns returns-2 returns-3 returns-4)
+    tie.close (tie.spec (λ c κs. search needs) (λ c κs. search needs) (λ c κs. search needs) (λ c. search needs)
+    (λ c κs. search needs)
+    (λ c. search needs) (λ c. search needs) (λ c. search needs) (λ c. search needs) returns returns-2 returns-3
+    returns-4)

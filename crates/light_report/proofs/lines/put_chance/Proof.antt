@@ -6,7 +6,8 @@ use denote.Ref.{now}
 use borrow.Author.Needs.{needs}
 use lib.ListN.{length, set, length-set}
 use lib.Seq.{length-sets}
-use Rattle.text.specs.Text.{Put, hexBytes}
+use Rattle.text.specs.Text.{hexBytes}
+use Rattle.text.specs.AsCoded.Puts.{Put}
 use Rattle.text.proofs.PutLaws.{put-fits, put-then, put-one, length-hex}
 use Rattle.light_report.specs.Lines.{chanceBytes}
 use Rattle.light_report.proofs.lines.put_chance.Statement.{statement}
@@ -16,7 +17,8 @@ module _ (c : tie.After-put-hex) where
   abbrev start : tie.Start
   start = c .before .before .before .before
 
-  digits : Put (set (now (start .args .out)) (start .args .at) 32) (start .args .at + 1) (hexBytes (c .before .word-of-f32 .result))
+  digits : Put (set (now (start .args .out)) (start .args .at) 32) (start .args .at + 1)
+      (hexBytes (c .before .word-of-f32 .result))
       (c .put-hex .last .0) (start .args .at + 1 + c .put-hex .result)
   digits =
       put-fits (rw (

@@ -1,4 +1,4 @@
--- `light_report::lines::put_group` meets its contract: the line of what is drawn. Assumes nothing.
+-- `light_report::lines::put_group`: the line of what is drawn. Assumes nothing.
 use borrow.Author.Needs.{needs}
 use Rattle.light_report.proofs.lines.put_group.Statement.{statement}
 use Rattle.light_report.proofs.lines.put_group.Tie as tie

@@ -6,7 +6,8 @@ use denote.Ref.{now}
 use borrow.Author.Needs.{needs}
 use lib.ListN.{length}
 use lib.Seq.{length-sets}
-use Rattle.text.specs.Text.{Put, decimalBytes}
+use Rattle.text.specs.Text.{decimalBytes}
+use Rattle.text.specs.AsCoded.Puts.{Put}
 use Rattle.text.proofs.PutLaws.{put-fits, put-then, put-one, decimal-short}
 use Rattle.light_report.specs.Lines.{lineBytes}
 use Rattle.light_report.proofs.lines.put_lamp.Statement.{statement}

@@ -4,7 +4,8 @@ use native.Mathlib.Omega.{arith}
 use denote.Ref.{now}
 use borrow.Author.Needs.{needs}
 use Rattle.words.specs.Refusals.{number}
-use Rattle.text.specs.Text.{Put, refusalLine}
+use Rattle.text.specs.Text.{refusalLine}
+use Rattle.text.specs.AsCoded.Puts.{Put}
 use Rattle.text.proofs.PutLaws.{put-fits, refusal-short}
 use Rattle.light_report.specs.Lines.{noneBytes, lineBytes}
 use Rattle.light_report.proofs.lines.put_line.Statement.{statement}
@@ -14,7 +15,8 @@ module _ (c : tie.After-put-text) where
   abbrev start : tie.Start
   start = c .before .before .before .before .before .before
 
-  none : Put (now (start .args .out)) (start .args .at) noneBytes (c .put-text .last .0) (start .args .at + c .put-text .result)
+  none : Put (now (start .args .out)) (start .args .at) noneBytes (c .put-text .last .0)
+      (start .args .at + c .put-text .result)
   none = put-fits (omega (arith, start .pre)) (c .put-text .ensures .0) (c .put-text .ensures .1)
 
 module _ (c : tie.After-put-refused) where
@@ -24,7 +26,8 @@ module _ (c : tie.After-put-refused) where
   abbrev start-2 : tie.Start
   start-2 = why .before .before .before
 
-  line : Put (now (start-2 .args .out)) (start-2 .args .at) (refusalLine (number (why .shown2 .given .0 .0))) (c .put-refused .last .0)
+  line : Put (now (start-2 .args .out)) (start-2 .args .at) (refusalLine (number (why .shown2 .given .0 .0)))
+      (c .put-refused .last .0)
       (start-2 .args .at + c .put-refused .result)
   line = put-fits (omega (arith, refusal-short (number (why .shown2 .given .0 .0)), start-2 .pre))
       (c .put-refused .ensures .0) (c .put-refused .ensures .1)

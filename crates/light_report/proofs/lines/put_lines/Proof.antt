@@ -1,4 +1,4 @@
--- `light_report::lines::put_lines` meets its contract: a turn puts a group's line behind those that are written. Assumes nothing.
+-- `light_report::lines::put_lines`: a turn puts a group's line behind those that are written. Assumes nothing.
 use Prim.Native.Nat.{_+_, _*_, _-_}
 use mathlib.Core.Path.{_≡_}
 use native.Mathlib.Omega.{arith}
@@ -28,10 +28,13 @@ returns-2 : tie.Need-returns-2 Inv-loop μ-loop
 returns-2 c =
     let put = c .before .before .put-line .ensures in
     let else1 = c .before .before .before .before in
-    reported-part (omega arith) (else1 .if1 .left) (else1 .before .before .loop .inv) (record { is = put .0; past = put .1 .0 }) (put .1 .1)
+    reported-part (omega arith) (else1 .if1 .left) (else1 .before .before .loop .inv)
+    (record { is = put .0; past = put .1 .0 }) (put .1 .1)
 
 pub put-lines-spec : {M : Type 1} → statement M
 put-lines-spec =
-    tie.close (tie.spec Inv-loop μ-loop (λ c. reported-none (c .before .before .before .before .pre)) (λ c. omega arith) (λ c. omega arith)
-    (λ c. omega arith) (λ c. omega arith) (λ c. omega arith) (λ c κs. omega arith) (λ c. omega arith) (λ c. omega arith) loop-again
+    tie.close (tie.spec Inv-loop μ-loop (λ c. reported-none (c .before .before .before .before .pre)) (λ c. omega arith)
+    (λ c. omega arith)
+    (λ c. omega arith) (λ c. omega arith) (λ c. omega arith) (λ c κs. omega arith) (λ c. omega arith) (λ c. omega arith)
+    loop-again
     (λ c. search needs) returns (λ c κs. omega arith) (λ c. search needs) returns-2)

@@ -7,7 +7,7 @@ use lib.ListN.{set, length-set}
 use lib.Seq.{sets}
 use Rattle.light_rows.specs.Block.{handlePlace, recordPlace}
 use Rattle.light_rows.specs.RecordWords.{recordList}
-use Rattle.light_rows.specs.RecordPlaces.{writtenAt-sets}
+use Rattle.light_rows.specs.Laws.RecordPlaces.{writtenAt-sets}
 use borrow.Author.Needs.{needs}
 use Rattle.light_rows.proofs.block.put_row.Statement.{statement}
 use Rattle.light_rows.proofs.block.put_row.Tie as tie

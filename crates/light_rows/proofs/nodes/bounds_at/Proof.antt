@@ -1,10 +1,10 @@
--- `light_rows::nodes::bounds_at` meets its contract: there are words enough, and its record is read, or there is none. Assumes nothing.
+-- `light_rows::nodes::bounds_at`: there are words enough, and its record is read, or there is none. Assumes nothing.
 use mathlib.Core.Path.{sym}
 use denote.Ref.{now}
 use Rattle.words.specs.LittleEndian.{wordsOf}
 use Rattle.words.proofs.LittleEndianLaws.{length-wordsOf}
 use Rattle.light_rows.specs.Nodes.{boundsAt}
-use Rattle.light_rows.specs.TreeLaws.{boundsAt-past}
+use Rattle.light_rows.specs.Laws.TreeLaws.{boundsAt-past}
 use borrow.Author.Needs.{needs}
 use Rattle.light_rows.proofs.nodes.bounds_at.Statement.{statement}
 use Rattle.light_rows.proofs.nodes.bounds_at.Tie as tie

@@ -1,9 +1,9 @@
--- `light_rows::nodes::node_at` meets its contract: there are words enough, and its three are read, or there is no node. Assumes nothing.
+-- `light_rows::nodes::node_at`: there are words enough, and its three are read, or there is no node. Assumes nothing.
 use mathlib.Core.Path.{sym, _∙_}
 use denote.Ref.{now}
 use Rattle.words.specs.LittleEndian.{wordsOf}
 use Rattle.words.proofs.LittleEndianLaws.{length-wordsOf}
-use Rattle.light_rows.specs.TreeLaws.{nodeAt-room, nodeAt-past}
+use Rattle.light_rows.specs.Laws.TreeLaws.{nodeAt-room, nodeAt-past}
 use borrow.Author.Needs.{needs}
 use Rattle.light_rows.proofs.nodes.node_at.Statement.{statement}
 use Rattle.light_rows.proofs.nodes.node_at.Tie as tie
@@ -23,5 +23,6 @@ returns-2 c =
 
 pub node-at-spec : {M : Type 1} → statement M
 node-at-spec =
-    tie.close (tie.spec (λ c. search needs) (λ c κs. search needs) (λ c. search needs) (λ c κs. search needs) (λ c. search needs)
+    tie.close (tie.spec (λ c. search needs) (λ c κs. search needs) (λ c. search needs) (λ c κs. search needs)
+    (λ c. search needs)
     (λ c κs. search needs) (λ c κs. search needs) returns returns-2)

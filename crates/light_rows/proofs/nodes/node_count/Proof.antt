@@ -1,4 +1,4 @@
--- `light_rows::nodes::node_count` meets its contract: its tests are the definition's. Assumes nothing.
+-- `light_rows::nodes::node_count`: its tests are the definition's. Assumes nothing.
 use borrow.Author.Tests.{lt-ltb, le-ltb, eq-eqb, ne-eqb}
 use Rattle.light_rows.specs.Nodes.{nodeCount}
 use Rattle.light_rows.proofs.nodes.node_count.Statement.{statement}

@@ -30,4 +30,5 @@ returns-3 c =
 
 pub write-node-spec : {M : Type 1} → statement M
 write-node-spec =
-    tie.close (tie.spec returns returns-2 (λ c. search needs) (λ c. search needs) (λ c κs. search needs) (λ c. search needs) returns-3)
+    tie.close (tie.spec returns returns-2 (λ c. search needs) (λ c. search needs) (λ c κs. search needs)
+    (λ c. search needs) returns-3)

@@ -1,4 +1,4 @@
--- `light_rows::query_words::float_at` meets its contract: the word, then its float. Assumes nothing.
+-- `light_rows::query_words::float_at`: the word, then its float. Assumes nothing.
 use borrow.Author.Needs.{needs}
 use Rattle.light_rows.proofs.query_words.float_at.Statement.{statement}
 use Rattle.light_rows.proofs.query_words.float_at.Tie as tie

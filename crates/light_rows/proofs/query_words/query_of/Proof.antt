@@ -1,4 +1,4 @@
--- `light_rows::query_words::query_of` meets its contract: its two vectors. Assumes nothing.
+-- `light_rows::query_words::query_of`: its two vectors. Assumes nothing.
 use Rattle.light_rows.specs.QueryWords.{queryOf}
 use borrow.Author.Needs.{needs}
 use Rattle.light_rows.proofs.query_words.query_of.Statement.{statement}

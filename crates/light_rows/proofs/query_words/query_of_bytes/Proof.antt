@@ -1,4 +1,4 @@
--- `light_rows::query_words::query_of_bytes` meets its contract: float by float. Assumes nothing.
+-- `light_rows::query_words::query_of_bytes`: float by float. Assumes nothing.
 use borrow.Author.Needs.{needs}
 use Rattle.light_rows.specs.QueryWords.{queryOf}
 use Rattle.light_rows.specs.RecordWords.{vecAt}
@@ -14,5 +14,6 @@ returns c =
 
 pub query-of-bytes-spec : {M : Type 1} → statement M
 query-of-bytes-spec =
-    tie.close (tie.spec (λ c κs. search needs) (λ c κs. search needs) (λ c κs. search needs) (λ c κs. search needs) (λ c κs. search needs)
+    tie.close (tie.spec (λ c κs. search needs) (λ c κs. search needs) (λ c κs. search needs) (λ c κs. search needs)
+    (λ c κs. search needs)
     (λ c κs. search needs) returns)

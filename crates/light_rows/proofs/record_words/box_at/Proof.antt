@@ -2,7 +2,7 @@
 use Prim.Native.Nat.{_+_}
 use native.Mathlib.Omega.{arith}
 use denote.Ref.{now}
-use Rattle.light_rows.specs.RecordPlaces.{vecAt-past}
+use Rattle.light_rows.specs.Laws.RecordPlaces.{vecAt-past}
 use borrow.Author.Needs.{needs}
 use Rattle.light_rows.proofs.record_words.box_at.Statement.{statement}
 use Rattle.light_rows.proofs.record_words.box_at.Tie as tie

@@ -2,8 +2,8 @@
 use mathlib.Core.Path.{ap, sym, _∙_}
 use denote.Ref.{now}
 use borrow.Author.Tests.{leb-true}
-use Rattle.light_rows.specs.RecordRow.{judgedRow}
-use Rattle.light_rows.specs.RecordPlaces.{recordAt-is, recordAt-past}
+use Rattle.light_rows.specs.AsCoded.RecordRow.{judgedRow}
+use Rattle.light_rows.specs.Laws.RecordPlaces.{recordAt-is, recordAt-past}
 use borrow.Author.Needs.{needs}
 use Rattle.light_rows.proofs.record_words.read_record.Statement.{statement}
 use Rattle.light_rows.proofs.record_words.read_record.Tie as tie
@@ -21,4 +21,5 @@ returns-2 c =
     sym (recordAt-past 1 (now (args .words)) (args .at) (sym (c .before .fits2 .ensures) ∙ c .if1 .left))
 
 pub read-record-spec : {M : Type 1} → statement M
-read-record-spec = tie.close (tie.spec (λ c κs. search needs) (λ c κs. search needs) (λ c κs. search needs) returns returns-2)
+read-record-spec =
+    tie.close (tie.spec (λ c κs. search needs) (λ c κs. search needs) (λ c κs. search needs) returns returns-2)

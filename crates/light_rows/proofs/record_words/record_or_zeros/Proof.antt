@@ -1,7 +1,7 @@
 -- `light_rows::record_words::record_or_zeros` decodes what it fetches. Assumes nothing.
 use mathlib.Core.Path.{ap, sym, _∙_}
-use Rattle.light_rows.specs.RecordPlaces.{readRecord-is}
-use Rattle.light_rows.specs.RecordRow.{recordOf}
+use Rattle.light_rows.specs.Laws.RecordPlaces.{readRecord-is}
+use Rattle.light_rows.specs.AsCoded.RecordRow.{recordOf}
 use borrow.Author.Needs.{needs}
 use Rattle.light_rows.proofs.record_words.record_or_zeros.Statement.{statement}
 use Rattle.light_rows.proofs.record_words.record_or_zeros.Tie as tie

@@ -1,7 +1,7 @@
 -- `light_rows::record_words::row_at` fetches part by part; past the end each word is 0. Assumes nothing.
 use mathlib.Core.Path.{sym}
 use denote.Ref.{now}
-use Rattle.light_rows.specs.RecordPlaces.{rowAt-past}
+use Rattle.light_rows.specs.Laws.RecordPlaces.{rowAt-past}
 use borrow.Author.Needs.{needs}
 use Rattle.light_rows.proofs.record_words.row_at.Statement.{statement}
 use Rattle.light_rows.proofs.record_words.row_at.Tie as tie
@@ -20,4 +20,7 @@ returns-2 c =
     (rw (c .before .word-or-zero3 .ensures, c .word-or-zero4 .ensures)))
 
 pub row-at-spec : {M : Type 1} → statement M
-row-at-spec = tie.close (tie.spec (λ c κs. search needs) returns (λ c. search needs) (λ c κs. search needs) (λ c. search needs) (λ c κs. search needs) (λ c. search needs) (λ c κs. search needs) (λ c. search needs) (λ c κs. search needs) (λ c. search needs) (λ c κs. search needs) (λ c. search needs) (λ c κs. search needs) returns-2)
+row-at-spec =
+    tie.close (tie.spec (λ c κs. search needs) returns (λ c. search needs) (λ c κs. search needs) (λ c. search needs)
+    (λ c κs. search needs) (λ c. search needs) (λ c κs. search needs) (λ c. search needs) (λ c κs. search needs)
+    (λ c. search needs) (λ c κs. search needs) (λ c. search needs) (λ c κs. search needs) returns-2)

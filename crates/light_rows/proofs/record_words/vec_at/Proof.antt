@@ -1,7 +1,7 @@
 -- `light_rows::record_words::vec_at` decodes what it fetches. Assumes nothing.
 use mathlib.Core.Path.{ap, sym, _∙_}
-use Rattle.light_rows.specs.RecordPlaces.{vecAt-is}
-use Rattle.light_rows.specs.RecordRow.{vecOf}
+use Rattle.light_rows.specs.Laws.RecordPlaces.{vecAt-is}
+use Rattle.light_rows.specs.AsCoded.RecordRow.{vecOf}
 use borrow.Author.Needs.{needs}
 use Rattle.light_rows.proofs.record_words.vec_at.Statement.{statement}
 use Rattle.light_rows.proofs.record_words.vec_at.Tie as tie

@@ -1,4 +1,4 @@
--- `light_sampler::fork::fork` meets its contract: no weight at all, or parted by the left share. Assumes nothing.
+-- `light_sampler::fork::fork`: no weight at all, or parted by the left share. Assumes nothing.
 use lib.Ieee.{ofBits}
 use Rattle.light_sampler.specs.Fork.{fork}
 use borrow.Author.Needs.{needs}

@@ -1,4 +1,4 @@
--- `light_sampler::fork::part` meets its contract: the definition's test and its steps. Assumes nothing.
+-- `light_sampler::fork::part`: the definition's test and its steps. Assumes nothing.
 use lib.Ieee.{ofBits}
 use Rattle.light_sampler.specs.Fork.{parted}
 use borrow.Author.Needs.{needs}

@@ -5,10 +5,10 @@ use borrow.Author.Needs.{needs}
 use lib.Ieee.{ofBits}
 use Rattle.ieee.specs.Single.{onef}
 use Rattle.words.specs.LittleEndian.{wordsOf}
-use Rattle.light_bounds.specs.Weighing.{prepared}
+use Rattle.light_bounds.specs.AsCoded.Weighing.{prepared}
 use Rattle.light_bounds.specs.declared.importance.Query.{Query}
 use Rattle.light_rows.specs.Nodes.{node, nodeAt}
-use Rattle.light_sampler.specs.Turns.{factorOf, parentOf, aboveOf}
+use Rattle.light_sampler.specs.AsCoded.Turns.{factorOf, parentOf, aboveOf}
 use Rattle.light_sampler.specs.Walks.{ascend}
 use Rattle.light_sampler.proofs.WalkLaws.{rise-held, ascend-spent, ascend-unknown, ascend-root}
 use Rattle.light_sampler.proofs.WalkLaws.{ascend-refused, ascend-nought, ascend-part}
@@ -32,9 +32,11 @@ returns : tie.Need-returns Inv-loop μ-loop
 returns c =
     let at = c .before .before .before .before in
     let loop = at .before .before .loop in
-    let stands = ap parentOf (sym (loop .inv .0)) ∙ sym (at .parent-of .ensures) ∙ ap aboveOf (c .before .before .parent .given .1) in
+    let stands = ap parentOf (sym (loop .inv .0)) ∙ sym (at .parent-of .ensures) ∙
+    ap aboveOf (c .before .before .parent .given .1) in
     let start = at .before .before .before .before in
-    sym (ascend-root _ _ _ _ _ (at .before .loop-test .taken) stands (c .if1 .taken)) ∙ loop .inv .1 _ (start .prepare .ensures)
+    sym (ascend-root _ _ _ _ _ (at .before .loop-test .taken) stands (c .if1 .taken)) ∙
+    loop .inv .1 _ (start .prepare .ensures)
 
 loop-again : tie.Need-loop-again Inv-loop μ-loop
 loop-again c =
@@ -42,10 +44,12 @@ loop-again c =
     let inner = above .before in
     let at = inner .before .before .before .before in
     let loop = at .before .before .loop in
-    let stands = ap parentOf (sym (loop .inv .0)) ∙ sym (at .parent-of .ensures) ∙ ap aboveOf (inner .before .before .parent .given .1) in (
+    let stands = ap parentOf (sym (loop .inv .0)) ∙ sym (at .parent-of .ensures) ∙
+    ap aboveOf (inner .before .before .parent .given .1) in (
       above .node-at2 .ensures,
       λ q h.
-          let step = rise-held _ _ q h _ _ ∙ sym (c .before .before .before .rise .ensures) ∙ ap factorOf (c .before .share .given .1) in
+          let step = rise-held _ _ q h _ _ ∙ sym (c .before .before .before .rise .ensures) ∙
+          ap factorOf (c .before .share .given .1) in
           sym (ascend-part _ _ _ _ _ (at .before .loop-test .taken) stands (inner .if1 .left) step) ∙ loop .inv .1 q h,
     )
 
@@ -56,9 +60,12 @@ returns-2 c =
     let at = inner .before .before .before .before in
     let loop = at .before .before .loop in
     let start = at .before .before .before .before in
-    let stands = ap parentOf (sym (loop .inv .0)) ∙ sym (at .parent-of .ensures) ∙ ap aboveOf (inner .before .before .parent .given .1) in
-    let step = rise-held _ _ _ (start .prepare .ensures) _ _ ∙ sym (c .before .before .rise .ensures) ∙ ap factorOf (c .enum-told .given .1) in
-    sym (ascend-nought _ _ _ _ _ (at .before .loop-test .taken) stands (inner .if1 .left) step) ∙ loop .inv .1 _ (start .prepare .ensures)
+    let stands = ap parentOf (sym (loop .inv .0)) ∙ sym (at .parent-of .ensures) ∙
+    ap aboveOf (inner .before .before .parent .given .1) in
+    let step = rise-held _ _ _ (start .prepare .ensures) _ _ ∙ sym (c .before .before .rise .ensures) ∙
+    ap factorOf (c .enum-told .given .1) in
+    sym (ascend-nought _ _ _ _ _ (at .before .loop-test .taken) stands (inner .if1 .left) step) ∙
+    loop .inv .1 _ (start .prepare .ensures)
 
 returns-3 : tie.Need-returns-3 Inv-loop μ-loop
 returns-3 c =
@@ -66,25 +73,33 @@ returns-3 c =
     let at = inner .before .before .before .before in
     let loop = at .before .before .loop in
     let start = at .before .before .before .before in
-    let stands = ap parentOf (sym (loop .inv .0)) ∙ sym (at .parent-of .ensures) ∙ ap aboveOf (inner .before .before .parent .given .1) in
+    let stands = ap parentOf (sym (loop .inv .0)) ∙ sym (at .parent-of .ensures) ∙
+    ap aboveOf (inner .before .before .parent .given .1) in
     let step =
-    rise-held _ _ _ (start .prepare .ensures) _ _ ∙ sym (c .before .before .before .rise .ensures) ∙ ap factorOf (c .before .why .given .1) in
-    sym (ascend-refused _ _ _ _ _ (at .before .loop-test .taken) stands (inner .if1 .left) step) ∙ loop .inv .1 _ (start .prepare .ensures)
+    rise-held _ _ _ (start .prepare .ensures) _ _ ∙ sym (c .before .before .before .rise .ensures) ∙
+    ap factorOf (c .before .why .given .1) in
+    sym (ascend-refused _ _ _ _ _ (at .before .loop-test .taken) stands (inner .if1 .left) step) ∙
+    loop .inv .1 _ (start .prepare .ensures)
 
 returns-4 : tie.Need-returns-4 Inv-loop μ-loop
 returns-4 c =
     let at = c .before .before in
     let loop = at .before .before .loop in
-    let stands = ap parentOf (sym (loop .inv .0)) ∙ sym (at .parent-of .ensures) ∙ ap aboveOf (c .enum-told2 .given .1) in
+    let stands = ap parentOf (sym (loop .inv .0)) ∙ sym (at .parent-of .ensures) ∙
+    ap aboveOf (c .enum-told2 .given .1) in
     sym (ascend-unknown _ _ _ _ _ (at .before .loop-test .taken) stands)
     ∙ loop .inv .1 _ (at .before .before .before .before .prepare .ensures)
 
 returns-5 : tie.Need-returns-5 Inv-loop μ-loop
 returns-5 c =
-    sym (ascend-spent _ _ _ _ _ (c .loop-test .left)) ∙ c .before .loop .inv .1 _ (c .before .before .before .prepare .ensures)
+    sym (ascend-spent _ _ _ _ _ (c .loop-test .left)) ∙
+    c .before .loop .inv .1 _ (c .before .before .before .prepare .ensures)
 
 pub ascend-spec : {M : Type 1} → statement M
 ascend-spec =
-    tie.close (tie.spec Inv-loop μ-loop (λ c κs. search needs) (λ c κs. search needs) loop-holds (λ c. omega arith) (λ c κs. search needs)
-    (λ c. search needs) returns (λ c. search needs) (λ c κs. search needs) (λ c κs. c .node-at2 .ensures) (λ c. search needs) (λ c. search needs)
-    (λ c. omega arith) loop-again (λ c. search needs) returns-2 (λ c. search needs) returns-3 (λ c. search needs) returns-4 returns-5)
+    tie.close (tie.spec Inv-loop μ-loop (λ c κs. search needs) (λ c κs. search needs) loop-holds (λ c. omega arith)
+    (λ c κs. search needs)
+    (λ c. search needs) returns (λ c. search needs) (λ c κs. search needs) (λ c κs. c .node-at2 .ensures)
+    (λ c. search needs) (λ c. search needs)
+    (λ c. omega arith) loop-again (λ c. search needs) returns-2 (λ c. search needs) returns-3 (λ c. search needs)
+    returns-4 returns-5)

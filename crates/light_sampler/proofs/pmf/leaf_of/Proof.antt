@@ -1,4 +1,4 @@
--- `light_sampler::pmf::leaf_of` meets its contract: within the table a word is read, past its end there is none. Assumes nothing.
+-- `light_sampler::pmf::leaf_of`: within the table a word is read, past its end there is none. Assumes nothing.
 use mathlib.Core.Path.{sym, _∙_}
 use denote.Ref.{now}
 use lib.ListN.{List·getD-eq-default}
@@ -15,7 +15,8 @@ returns : tie.Need-returns
 unfolding leafOf
 returns c =
     let args = c .before .before .before .args in
-    c .word-at .ensures ∙ getD-within (wordsOf (now (args .table))) (args .handle) 0 invalidIndex (rw length-wordsOf (c .before .if1 .taken))
+    c .word-at .ensures ∙ getD-within (wordsOf (now (args .table))) (args .handle) 0 invalidIndex
+    (rw length-wordsOf (c .before .if1 .taken))
 
 returns-2 : tie.Need-returns-2
 unfolding leafOf

@@ -13,4 +13,5 @@ returns-3 : tie.Need-returns-3
 returns-3 c = rw (c .enum-told .given .1)
 
 pub parent-of-spec : {M : Type 1} → statement M
-parent-of-spec = tie.close (tie.spec (λ c. search needs) (λ c. search needs) (λ c. search needs) returns returns-2 returns-3)
+parent-of-spec =
+    tie.close (tie.spec (λ c. search needs) (λ c. search needs) (λ c. search needs) returns returns-2 returns-3)

@@ -1,4 +1,4 @@
--- `light_sampler::pmf::part_of` meets its contract: the total, the left place, the right place, in that order. Assumes nothing.
+-- `light_sampler::pmf::part_of`: the total, the left place, the right place, in that order. Assumes nothing.
 use borrow.Author.Tests.{eq-eqb, ne-eqb}
 use lib.Ieee.{ofBits}
 use Rattle.light_sampler.specs.Walks.{partOf}

@@ -1,4 +1,4 @@
--- `light_sampler::sample::check_sample` meets its contract: the nodes' check, then u's two tests. Assumes nothing.
+-- `light_sampler::sample::check_sample`: the nodes' check, then u's two tests. Assumes nothing.
 use lib.Ieee.{ofBits}
 use Rattle.words.specs.Answers.{_then_}
 use Rattle.light_sampler.specs.Sampler.{sampleCheck}
@@ -16,7 +16,8 @@ returns-2 c = rw (← c .before .before .before .before .before .node-count .ens
 
 returns-3 : tie.Need-returns-3
 unfolding sampleCheck _then_ ofBits
-returns-3 c = rw (← c .before .before .before .before .node-count .ensures, c .before .before .n .given .1, c .if1 .left)
+returns-3 c =
+    rw (← c .before .before .before .before .node-count .ensures, c .before .before .n .given .1, c .if1 .left)
 
 returns-4 : tie.Need-returns-4
 unfolding sampleCheck _then_
@@ -24,4 +25,5 @@ returns-4 c = rw (← c .before .before .before .node-count .ensures, c .before 
 
 pub check-sample-spec : {M : Type 1} → statement M
 check-sample-spec =
-    tie.close (tie.spec (λ c κs. search needs) (λ c. search needs) returns (λ c. search needs) returns-2 returns-3 returns-4)
+    tie.close (tie.spec (λ c κs. search needs) (λ c. search needs) returns (λ c. search needs) returns-2 returns-3
+    returns-4)

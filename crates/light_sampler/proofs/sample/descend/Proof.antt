@@ -8,11 +8,11 @@ use lib.Ieee.{ofBits}
 use Rattle.ieee.specs.Single.{onef}
 use Rattle.words.specs.Answers.{given}
 use Rattle.words.specs.LittleEndian.{wordsOf}
-use Rattle.light_bounds.specs.Weighing.{prepared}
+use Rattle.light_bounds.specs.AsCoded.Weighing.{prepared}
 use Rattle.light_bounds.specs.declared.importance.Query.{Query}
 use Rattle.words.proofs.LittleEndianLaws.{length-wordsOf}
 use Rattle.light_rows.specs.Nodes.{node}
-use Rattle.light_sampler.specs.Turns.{wayOf, turned}
+use Rattle.light_sampler.specs.AsCoded.Turns.{wayOf, turned}
 use Rattle.light_sampler.specs.Walks.{descend}
 use Rattle.light_sampler.proofs.WalkLaws.{turn-held, node-within, descend-spent, descend-leaf, descend-unknown}
 use Rattle.light_sampler.proofs.WalkLaws.{descend-refused, descend-neither, descend-left, descend-right}
@@ -37,7 +37,8 @@ near c =
     let at = c .before .before .before in
     let start = at .before .before .before .before .before in
     let bytes = now (start .args .nodes) in
-    let within = node-within (wordsOf bytes) (at .before .before .loop .place) (sym (at .node-at .ensures) ∙ ap node (c .before .right .given .1)) in
+    let within = node-within (wordsOf bytes) (at .before .before .loop .place)
+    (sym (at .node-at .ensures) ∙ ap node (c .before .right .given .1)) in
     omega (arith, within, length-wordsOf bytes, start .good .0)
 
 returns : tie.Need-returns Inv-loop μ-loop
@@ -108,8 +109,10 @@ returns-5 c =
 
 pub descend-spec : {M : Type 1} → statement M
 descend-spec =
-    tie.close (tie.spec Inv-loop μ-loop (λ c κs. search needs) loop-holds (λ c. omega arith) (λ c κs. search needs) (λ c. search needs) returns (λ c. search needs)
+    tie.close (tie.spec Inv-loop μ-loop (λ c κs. search needs) loop-holds (λ c. omega arith) (λ c κs. search needs)
+    (λ c. search needs) returns (λ c. search needs)
     (λ c κs. near c) (λ c. search needs) (λ c. search needs)
     (λ c. omega (arith, near (c .before .before .before .before .before .before .before))) (λ c. omega arith) loop-again
-    (λ c. search needs) (λ c. search needs) (λ c. omega arith) loop-again-2 (λ c. search needs) returns-2 (λ c. search needs) returns-3
+    (λ c. search needs) (λ c. search needs) (λ c. omega arith) loop-again-2 (λ c. search needs) returns-2
+    (λ c. search needs) returns-3
     (λ c. search needs) returns-4 returns-5)

@@ -16,4 +16,5 @@ returns-2 c = rw (← c .before .before .bounds-at .ensures, c .enum-told .given
 
 pub weigh-at-spec : {M : Type 1} → statement M
 weigh-at-spec =
-    tie.close (tie.spec (λ c κs. search needs) (λ c. search needs) (λ c κs. search needs) (λ c. search needs) returns returns-2)
+    tie.close (tie.spec (λ c κs. search needs) (λ c. search needs) (λ c κs. search needs) (λ c. search needs) returns
+    returns-2)

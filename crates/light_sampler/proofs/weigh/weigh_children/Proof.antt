@@ -25,5 +25,6 @@ returns-3 c = rw (← c .before .before .before .weigh-at .ensures, c .before .w
 
 pub weigh-children-spec : {M : Type 1} → statement M
 weigh-children-spec =
-    tie.close (tie.spec (λ c. search needs) (λ c κs. search needs) (λ c. search needs) (λ c κs. search needs) (λ c. search needs)
+    tie.close (tie.spec (λ c. search needs) (λ c κs. search needs) (λ c. search needs) (λ c κs. search needs)
+    (λ c. search needs)
     (λ c. search needs) (λ c. search needs) returns returns-2 returns-3)

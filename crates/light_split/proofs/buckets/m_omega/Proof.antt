@@ -1,4 +1,4 @@
--- `light_split::buckets::m_omega` meets its contract: each angle, sine and cosine is that of the definition. Assumes nothing.
+-- `light_split::buckets::m_omega`: each angle, sine and cosine is that of the definition. Assumes nothing.
 use Rattle.light_split.specs.Buckets.{mOmega}
 use borrow.Author.Needs.{needs}
 use Rattle.light_split.proofs.buckets.m_omega.Statement.{statement}
@@ -11,5 +11,6 @@ returns c = rw (← c .before .before .before .before .acos .ensures, ← c .bef
 
 pub m-omega-spec : {M : Type 1} → statement M
 m-omega-spec =
-    tie.close (tie.spec (λ c κs. search needs) (λ c κs. search needs) (λ c κs. search needs) (λ c κs. search needs) (λ c κs. search needs)
+    tie.close (tie.spec (λ c κs. search needs) (λ c κs. search needs) (λ c κs. search needs) (λ c κs. search needs)
+    (λ c κs. search needs)
     returns)

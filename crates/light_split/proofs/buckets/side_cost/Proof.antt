@@ -1,4 +1,4 @@
--- `light_split::buckets::side_cost` meets its contract: what the slot holds is what the bucket holds. Assumes nothing.
+-- `light_split::buckets::side_cost`: what the slot holds is what the bucket holds. Assumes nothing.
 use Rattle.light_split.specs.Buckets.{sideCost}
 use borrow.Author.Needs.{needs}
 use Rattle.light_split.proofs.buckets.side_cost.Statement.{statement}

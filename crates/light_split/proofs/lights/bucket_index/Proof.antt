@@ -1,4 +1,4 @@
--- `light_split::lights::bucket_index` meets its contract: by cases of its two tests. Assumes nothing.
+-- `light_split::lights::bucket_index`: by cases of its two tests. Assumes nothing.
 use Prim.Native.Nat.{min}
 use mathlib.Core.Path.{_≡_}
 use native.Mathlib.Omega.{arith}

@@ -1,4 +1,4 @@
--- `light_split::lights::bucket_of` meets its contract: the index of its figure between those of the ends. Assumes nothing.
+-- `light_split::lights::bucket_of`: the index of its figure between those of the ends. Assumes nothing.
 use mathlib.Core.Path.{_∙_}
 use Rattle.light_split.specs.Lights.{bucketOf}
 use Rattle.light_split.proofs.LightLaws.{bucketIndex-below}
@@ -13,10 +13,12 @@ returns c =
     let is = c .bucket-index .ensures in (
       is ∙ rw (figure .component .ensures, c .before .before .component2 .ensures, c .before .component3 .ensures)
           (rw (figure .before .centroid .ensures, figure .before .before .light-box .ensures)),
-      rw is (bucketIndex-below (figure .component .result) (c .before .before .component2 .result) (c .before .component3 .result)),
+      rw is (bucketIndex-below (figure .component .result) (c .before .before .component2 .result)
+          (c .before .component3 .result)),
     )
 
 pub bucket-of-spec : {M : Type 1} → statement M
 bucket-of-spec =
-    tie.close (tie.spec (λ c κs. search needs) (λ c κs. search needs) (λ c κs. search needs) (λ c κs. search needs) (λ c κs. search needs)
+    tie.close (tie.spec (λ c κs. search needs) (λ c κs. search needs) (λ c κs. search needs) (λ c κs. search needs)
+    (λ c κs. search needs)
     (λ c κs. search needs) returns)

@@ -1,4 +1,5 @@
--- `light_split::lights::centroid_ends` meets its contract: at `i` the fold over the handles that are left leads to the whole fold. Assumes nothing.
+-- `light_split::lights::centroid_ends`: at `i` the fold over the handles that are left leads to the whole fold. Assumes
+-- nothing.
 use Prim.Native.Nat.{_-_, _≤_}
 use mathlib.Core.Path.{_≡_, refl, sym, _∙_}
 use denote.Ref.{now}
@@ -13,7 +14,8 @@ use Rattle.light_split.proofs.lights.centroid_ends.Statement.{statement
 use Rattle.light_split.proofs.lights.centroid_ends.Tie as tie
 
 abbrev Inv-loop : tie.InvT-loop
-Inv-loop block handles ends₀ i₀ ends i = (i ≤ length handles) × (folded (widen block) ends (drop i handles) ≡ folded (widen block) noEnds handles)
+Inv-loop block handles ends₀ i₀ ends i =
+    (i ≤ length handles) × (folded (widen block) ends (drop i handles) ≡ folded (widen block) noEnds handles)
 
 abbrev μ-loop : tie.MeasureT-loop
 μ-loop block handles ends₀ i₀ ends i = length handles - i
@@ -28,7 +30,8 @@ loop-again c =
     let args = at .before .before .before .args in (
       omega arith,
       rw (c .widen .ensures)
-          (sym (folded-next (widen (now (args .block))) (at .loop .ends) (now (args .handles)) (at .loop .i) (omega arith)) ∙ at .loop .inv .1),
+          (sym (folded-next (widen (now (args .block))) (at .loop .ends) (now (args .handles)) (at .loop .i)
+          (omega arith)) ∙ at .loop .inv .1),
     )
 
 returns : tie.Need-returns Inv-loop μ-loop
@@ -36,9 +39,11 @@ unfolding centroidEnds
 returns c =
     let loop = c .before .loop in
     let args = c .before .before .before .before .args in
-    sym (folded-all (widen (now (args .block))) (loop .ends) (now (args .handles)) (loop .i) (omega arith)) ∙ loop .inv .1
+    sym (folded-all (widen (now (args .block))) (loop .ends) (now (args .handles)) (loop .i) (omega arith)) ∙
+    loop .inv .1
 
 pub centroid-ends-spec : {M : Type 1} → statement M
 centroid-ends-spec =
-    tie.close (tie.spec Inv-loop μ-loop loop-holds (λ c. search needs) (λ c. search needs) (λ c κs. search needs) (λ c. search needs)
+    tie.close (tie.spec Inv-loop μ-loop loop-holds (λ c. search needs) (λ c. search needs) (λ c κs. search needs)
+    (λ c. search needs)
     (λ c. search needs) loop-again returns)

@@ -1,4 +1,4 @@
--- `light_split::lights::component` meets its contract: axis by axis. Assumes nothing.
+-- `light_split::lights::component`: axis by axis. Assumes nothing.
 use mathlib.Core.Path.{_≡_, sym}
 use native.Mathlib.Omega.{arith}
 use Rattle.light_split.specs.Lights.{component}

@@ -1,4 +1,4 @@
--- `light_split::lights::widen` meets its contract: the union with the box of the centroid alone. Assumes nothing.
+-- `light_split::lights::widen`: the union with the box of the centroid alone. Assumes nothing.
 use mathlib.Core.Path.{_∙_}
 use Rattle.light_split.specs.Lights.{widen}
 use borrow.Author.Needs.{needs}

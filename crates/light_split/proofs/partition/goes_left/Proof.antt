@@ -1,4 +1,4 @@
--- `light_split::partition::goes_left` meets its contract: the test on the handle's bucket. Assumes nothing.
+-- `light_split::partition::goes_left`: the test on the handle's bucket. Assumes nothing.
 use Rattle.light_split.specs.Partition.{goesLeft}
 use borrow.Author.Needs.{needs}
 use Rattle.light_split.proofs.partition.goes_left.Statement.{statement}

@@ -1,4 +1,4 @@
--- `light_split::partition::part` meets its contract: the handles passed are parted, and those to come are as they came. Assumes nothing.
+-- `light_split::partition::part`: the handles passed are parted, and those to come are as they came. Assumes nothing.
 use Prim.Native.Nat.{_-_}
 use mathlib.Core.Path.{sym, _∙_}
 use mathlib.Core.Logic.{⊎-elim}
@@ -6,7 +6,8 @@ use native.Mathlib.Omega.{arith}
 use denote.Ref.{now}
 use lib.ListN.{length}
 use Rattle.light_split.specs.Partition.{goesLeft, goesRight}
-use Rattle.light_split.proofs.PartitionLaws.{goes-right, Parting, parting-none, parting-read, parting-left, parting-right, parting-all}
+use Rattle.light_split.proofs.PartitionLaws.{goes-right, Parting, parting-none, parting-read}
+use Rattle.light_split.proofs.PartitionLaws.{parting-left, parting-right, parting-all}
 use borrow.Author.Needs.{needs}
 use Rattle.light_split.proofs.partition.part.Statement.{statement}
 use Rattle.light_split.proofs.partition.part.Tie as tie
@@ -22,7 +23,8 @@ loop-holds : tie.Need-loop-holds Inv-loop μ-loop
 loop-holds c =
     let start = c .before .before .before in
     let args = start .args in
-    parting-none (goesLeft (now (args .block)) (args .ends) (args .split)) (goesRight (now (args .block)) (args .ends) (args .split))
+    parting-none (goesLeft (now (args .block)) (args .ends) (args .split))
+    (goesRight (now (args .block)) (args .ends) (args .split))
     (now (args .handles)) (now (args .work)) (start .pre)
 
 loop-again : tie.Need-loop-again Inv-loop μ-loop
@@ -32,8 +34,10 @@ loop-again c =
     let complement = goes-right (now (args .block)) (args .ends) (args .split) in
     let read = parting-read complement (at .loop .inv) in
     let told = sym (c .before .goes-left .ensures) in
-    ⊎-elim (λ w. rw (w .1, w .2, w .3, w .4) (parting-left complement (at .loop .inv) _ read (omega arith) (told ∙ w .0 .taken)))
-    (λ w. rw (w .1, w .2, w .3, w .4) (parting-right complement (at .loop .inv) _ read (omega arith) (told ∙ w .0 .left))) (c .if1 .came)
+    ⊎-elim (λ w. rw (w .1, w .2, w .3, w .4)
+    (parting-left complement (at .loop .inv) _ read (omega arith) (told ∙ w .0 .taken)))
+    (λ w. rw (w .1, w .2, w .3, w .4)
+    (parting-right complement (at .loop .inv) _ read (omega arith) (told ∙ w .0 .left))) (c .if1 .came)
 
 returns : tie.Need-returns Inv-loop μ-loop
 returns c =
@@ -42,6 +46,8 @@ returns c =
 
 pub part-spec : {M : Type 1} → statement M
 part-spec =
-    tie.close (tie.spec Inv-loop μ-loop loop-holds (λ c. omega arith) (λ c. omega arith) (λ c κs. search needs) (λ c. omega arith)
-    (λ c. omega arith) (λ c. omega arith) (λ c. omega arith) (λ c. omega arith) (λ c. omega arith) (λ c. omega arith) (λ c. omega arith)
+    tie.close (tie.spec Inv-loop μ-loop loop-holds (λ c. omega arith) (λ c. omega arith) (λ c κs. search needs)
+    (λ c. omega arith)
+    (λ c. omega arith) (λ c. omega arith) (λ c. omega arith) (λ c. omega arith) (λ c. omega arith) (λ c. omega arith)
+    (λ c. omega arith)
     loop-again (λ c. c .before .loop .inv .same) (λ c. c .before .loop .inv .same-work) returns)

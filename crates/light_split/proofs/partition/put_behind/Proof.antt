@@ -1,4 +1,4 @@
--- `light_split::partition::put_behind` meets its contract: up to `i` the work's words stand behind the first handles. Assumes nothing.
+-- `light_split::partition::put_behind`: up to `i` the work's words stand behind the first handles. Assumes nothing.
 use Prim.Native.Nat.{_-_}
 use native.Mathlib.Omega.{arith}
 use denote.Ref.{now}
@@ -18,6 +18,8 @@ loop-holds c = behind-none (now (c .args .handles)) (now (c .args .work)) (c .ar
 
 pub put-behind-spec : {M : Type 1} → statement M
 put-behind-spec =
-    tie.close (tie.spec Inv-loop μ-loop loop-holds (λ c. omega arith) (λ c. omega arith) (λ c. omega arith) (λ c. omega arith)
-    (λ c. omega arith) (λ c. omega arith) (λ c. omega arith) (λ c. behind-next (c .before .before .loop .inv) (omega arith))
+    tie.close (tie.spec Inv-loop μ-loop loop-holds (λ c. omega arith) (λ c. omega arith) (λ c. omega arith)
+    (λ c. omega arith)
+    (λ c. omega arith) (λ c. omega arith) (λ c. omega arith)
+    (λ c. behind-next (c .before .before .loop .inv) (omega arith))
     (λ c. c .before .loop .inv .same) (λ c. behind-all (c .before .loop .inv) (omega arith)))

@@ -1,4 +1,5 @@
--- `light_split::split::axis` meets its contract: an axis whose centroids are equal is left out, and lost buckets refuse it. Assumes nothing.
+-- `light_split::split::axis`: an axis whose centroids are equal is left out, and lost buckets refuse it. Assumes
+-- nothing.
 use borrow.Author.Needs.{needs}
 use Rattle.words.specs.Answers.{_then_}
 use Rattle.light_split.specs.Split.{axis}
@@ -18,8 +19,14 @@ returns-2 c =
 returns-3 : tie.Need-returns-3
 unfolding axis _then_
 returns-3 c =
-    rw (← c .before .before .before .before .before .component .ensures, ← c .before .before .before .before .component2 .ensures)
-    (rw (c .before .before .before .if1 .left, ← c .before .before .fill-buckets .ensures, c .before .if2 .left) (c .best-cut .ensures))
+    rw (
+      ← c .before .before .before .before .before .component .ensures,
+      ← c .before .before .before .before .component2 .ensures,
+    )
+    (rw (c .before .before .before .if1 .left, ← c .before .before .fill-buckets .ensures, c .before .if2 .left)
+    (c .best-cut .ensures))
 
 pub axis-spec : {M : Type 1} → statement M
-axis-spec = tie.close (tie.spec (λ c κs. search needs) (λ c κs. search needs) returns (λ c κs. search needs) returns-2 (λ c κs. search needs) returns-3)
+axis-spec =
+    tie.close (tie.spec (λ c κs. search needs) (λ c κs. search needs) returns (λ c κs. search needs) returns-2
+    (λ c κs. search needs) returns-3)

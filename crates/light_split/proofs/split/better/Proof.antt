@@ -1,4 +1,4 @@
--- `light_split::split::better` meets its contract: the two tests, in their order. Assumes nothing.
+-- `light_split::split::better`: the two tests, in their order. Assumes nothing.
 use mathlib.Core.Logic.{⊎-elim}
 use Rattle.light_split.specs.Split.{better}
 use Rattle.light_split.proofs.split.better.Statement.{statement}

@@ -1,4 +1,5 @@
--- `light_split::split::combined_bounds` meets its contract: at `i` the fold over the handles that are left leads to the whole box. Assumes nothing.
+-- `light_split::split::combined_bounds`: at `i` the fold over the handles that are left leads to the whole box. Assumes
+-- nothing.
 use Prim.Native.Nat.{_-_, _≤_}
 use mathlib.Core.Path.{_≡_, sym, _∙_}
 use native.Mathlib.Omega.{arith}
@@ -30,7 +31,8 @@ loop-holds c =
     (omega arith, rw (c .light-box2 .ensures) (combined-first (now (args .block)) (now (args .handles)) (omega arith)))
 
 add-i : tie.Need-add-i Inv-loop μ-loop
-add-i c = omega (arith, c .before .before .before .before .before .before .before .before .before .before .good .1 .0 .0)
+add-i c =
+    omega (arith, c .before .before .before .before .before .before .before .before .before .before .good .1 .0 .0)
 
 loop-again : tie.Need-loop-again Inv-loop μ-loop
 loop-again c =
@@ -38,16 +40,19 @@ loop-again c =
     let loop = c .before .before .before .before .loop in (
       omega arith,
       rw (c .union .ensures, c .before .light-box3 .ensures)
-          (loop .inv .1 ∙ folded-next (joinBox (now (args .block))) (loop .combined) (now (args .handles)) (loop .i) (omega arith)),
+          (loop .inv .1 ∙ folded-next (joinBox (now (args .block))) (loop .combined) (now (args .handles)) (loop .i)
+          (omega arith)),
     )
 
 returns-2 : tie.Need-returns-2 Inv-loop μ-loop
 returns-2 c =
     let args = c .before .before .before .before .before .before .before .args in
     let loop = c .before .loop in
-    sym (loop .inv .1 ∙ folded-all (joinBox (now (args .block))) (loop .combined) (now (args .handles)) (loop .i) (omega arith))
+    sym (loop .inv .1 ∙ folded-all (joinBox (now (args .block))) (loop .combined) (now (args .handles)) (loop .i)
+    (omega arith))
 
 pub combined-bounds-spec : {M : Type 1} → statement M
 combined-bounds-spec =
-    tie.close (tie.spec Inv-loop μ-loop (λ c κs. search needs) returns (λ c. search needs) (λ c κs. search needs) loop-holds (λ c. search needs)
+    tie.close (tie.spec Inv-loop μ-loop (λ c κs. search needs) returns (λ c. search needs) (λ c κs. search needs)
+    loop-holds (λ c. search needs)
     (λ c. search needs) (λ c κs. search needs) (λ c κs. search needs) add-i (λ c. search needs) loop-again returns-2)

@@ -6,7 +6,7 @@ use native.Mathlib.Omega.{arith}
 use borrow.Author.Needs.{needs}
 use Rattle.packed_bvh.specs.Packed.{compactWords}
 use Rattle.packed_bvh.specs.Quantize.{encodeOctahedral}
-use Rattle.packed_bvh.specs.QuantizeLaws.{quantize-small, quantize-axis-small}
+use Rattle.packed_bvh.specs.Laws.QuantizeLaws.{quantize-small, quantize-axis-small}
 use Rattle.packed_bvh.proofs.pack.compact_words.Statement.{statement}
 use Rattle.packed_bvh.proofs.pack.compact_words.Tie as tie
 

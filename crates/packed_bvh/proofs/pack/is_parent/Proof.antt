@@ -1,4 +1,4 @@
--- `packed_bvh::pack::is_parent` meets its contract: its two tests. Assumes nothing.
+-- `packed_bvh::pack::is_parent`: its two tests. Assumes nothing.
 use borrow.Author.Tests.{eq-eqb, ne-eqb}
 use Rattle.packed_bvh.proofs.pack.is_parent.Statement.{statement}
 use Rattle.packed_bvh.proofs.pack.is_parent.Tie as tie

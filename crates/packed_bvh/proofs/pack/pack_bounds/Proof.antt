@@ -1,8 +1,8 @@
--- `packed_bvh::pack::pack_bounds` meets its contract: the direction's length, then the node's own checks. Assumes nothing.
+-- `packed_bvh::pack::pack_bounds`: the direction's length, then the node's own checks. Assumes nothing.
 use mathlib.Core.Path.{ap}
 use borrow.Author.Needs.{needs}
 use Rattle.words.specs.Answers.{_then_, given}
-use Rattle.packed_bvh.specs.PackedParts.{packBounds}
+use Rattle.packed_bvh.specs.AsCoded.PackedParts.{packBounds}
 use Rattle.packed_bvh.proofs.pack.pack_bounds.Statement.{statement}
 use Rattle.packed_bvh.proofs.pack.pack_bounds.Tie as tie
 
@@ -25,5 +25,6 @@ returns-3 c = rw (← c .before .before .before .normalize-by-division .ensures,
 
 pub pack-bounds-spec : {M : Type 1} → statement M
 pack-bounds-spec =
-    tie.close (tie.spec (λ c κs. search needs) (λ c. search needs) (λ c. search needs) (λ c κs. search needs) (λ c. search needs) (λ c. search needs)
+    tie.close (tie.spec (λ c κs. search needs) (λ c. search needs) (λ c. search needs) (λ c κs. search needs)
+    (λ c. search needs) (λ c. search needs)
     returns returns-2 returns-3)

@@ -1,4 +1,5 @@
--- `packed_bvh::pack::pack_node` meets its contract: by the node's kind, with its own checks taken before its record's, which are judged first. Assumes nothing.
+-- `packed_bvh::pack::pack_node`: by the node's kind, with its own checks taken before its record's, which are judged
+-- first. Assumes nothing.
 use mathlib.Core.Path.{sym, ap, _∙_}
 use denote.Ref.{now}
 use borrow.Author.Needs.{needs}
@@ -38,5 +39,6 @@ returns-3 c =
 
 pub pack-node-spec : {M : Type 1} → statement M
 pack-node-spec =
-    tie.close (tie.spec (λ c κs. search needs) (λ c. search needs) (λ c κs. search needs) (λ c κs. search needs) (λ c. search needs)
+    tie.close (tie.spec (λ c κs. search needs) (λ c. search needs) (λ c κs. search needs) (λ c κs. search needs)
+    (λ c. search needs)
     (λ c κs. search needs) (λ c κs. search needs) (λ c. search needs) returns returns-2 returns-3)

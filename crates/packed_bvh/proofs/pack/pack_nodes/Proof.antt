@@ -9,7 +9,7 @@ use borrow.Author.Needs.{needs}
 use Rattle.words.specs.LittleEndian.{wordsOf}
 use Rattle.words.specs.Refusals.{number}
 use Rattle.packed_bvh.specs.Packed.{packedPlace, packedReserve}
-use Rattle.packed_bvh.specs.PackedParts.{compactList, nodePacked}
+use Rattle.packed_bvh.specs.AsCoded.PackedParts.{compactList, nodePacked}
 use Rattle.packed_bvh.proofs.PackLaws.{Packing, packing-none, packing-one, packing-length, reserve-some}
 use Rattle.packed_bvh.proofs.PackLaws.{reserve-small, outcome-refused, outcome-given}
 use Rattle.packed_bvh.proofs.pack.pack_nodes.Statement.{statement}

@@ -4,7 +4,7 @@ use borrow.Author.Needs.{needs}
 use borrow.Author.Tests.{lt-ltb, le-ltb, eq-eqb, ne-eqb}
 use Rattle.words.specs.Answers.{_then_}
 use Rattle.packed_bvh.specs.Packed.{payloadCheck, parentCheck, leftCheck}
-use Rattle.packed_bvh.specs.PackedParts.{placing}
+use Rattle.packed_bvh.specs.AsCoded.PackedParts.{placing}
 use Rattle.packed_bvh.proofs.pack.place_interior.Statement.{statement}
 use Rattle.packed_bvh.proofs.pack.place_interior.Tie as tie
 

@@ -1,9 +1,9 @@
--- `packed_bvh::pack::place_leaf` meets its contract: the payload's check, then the parent's. Assumes nothing.
+-- `packed_bvh::pack::place_leaf`: the payload's check, then the parent's. Assumes nothing.
 use borrow.Author.Needs.{needs}
 use borrow.Author.Tests.{lt-ltb, le-ltb}
 use Rattle.words.specs.Answers.{_then_}
 use Rattle.packed_bvh.specs.Packed.{payloadCheck, parentCheck, leftCheck}
-use Rattle.packed_bvh.specs.PackedParts.{placing}
+use Rattle.packed_bvh.specs.AsCoded.PackedParts.{placing}
 use Rattle.packed_bvh.proofs.pack.place_leaf.Statement.{statement}
 use Rattle.packed_bvh.proofs.pack.place_leaf.Tie as tie
 

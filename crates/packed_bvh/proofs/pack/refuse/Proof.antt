@@ -1,4 +1,4 @@
--- `packed_bvh::pack::refuse` meets its contract: the reserve is zeroed. Assumes nothing.
+-- `packed_bvh::pack::refuse`: the reserve is zeroed. Assumes nothing.
 use mathlib.Core.Path.{refl}
 use native.Mathlib.Omega.{arith}
 use borrow.Author.Needs.{needs}

@@ -1,4 +1,5 @@
--- `packed_bvh::pack::reserve`: header and nodes end at the place behind the last node; none without nodes. Assumes nothing.
+-- `packed_bvh::pack::reserve`: header and nodes end at the place behind the last node; none without nodes. Assumes
+-- nothing.
 use Prim.Native.Nat.{ℕ, zero, suc}
 use mathlib.Core.Path.{_≡_, refl}
 use borrow.Author.Needs.{needs}

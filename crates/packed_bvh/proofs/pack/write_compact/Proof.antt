@@ -1,4 +1,4 @@
--- `packed_bvh::pack::write_compact` meets its contract: eight words, one behind the other. Assumes nothing.
+-- `packed_bvh::pack::write_compact`: eight words, one behind the other. Assumes nothing.
 use mathlib.Core.Path.{refl, ap, _∙_}
 use denote.Ref.{now}
 use native.Mathlib.Omega.{arith}
@@ -20,7 +20,8 @@ returns c =
     let s2 = s3 .before .before .before .before in
     let s1 = s2 .before .before .before .before in
     let start = s1 .before .before .before in
-    let w1 = words-one (words-none (now (start .args .out)) (start .args .place)) (s1 .set-word .ensures) refl (omega arith) (omega (arith, start .pre)) in
+    let w1 = words-one (words-none (now (start .args .out)) (start .args .place)) (s1 .set-word .ensures) refl
+    (omega arith) (omega (arith, start .pre)) in
     let w2 = words-one w1 (s2 .set-word2 .ensures) refl refl (omega (arith, start .pre)) in
     let w3 = words-one w2 (s3 .set-word3 .ensures) refl refl (omega (arith, start .pre)) in
     let w4 = words-one w3 (s4 .set-word4 .ensures) refl refl (omega (arith, start .pre)) in
@@ -34,6 +35,8 @@ same-length c = ap length (returns c) ∙ simp length-sets
 
 pub write-compact-spec : {M : Type 1} → statement M
 write-compact-spec =
-    tie.close (tie.spec (λ c κs. search needs) (λ c. search needs) (λ c κs. search needs) (λ c. search needs) (λ c κs. search needs) (λ c. search needs)
-    (λ c κs. search needs) (λ c. search needs) (λ c κs. search needs) (λ c. search needs) (λ c κs. search needs) (λ c. search needs)
+    tie.close (tie.spec (λ c κs. search needs) (λ c. search needs) (λ c κs. search needs) (λ c. search needs)
+    (λ c κs. search needs) (λ c. search needs)
+    (λ c κs. search needs) (λ c. search needs) (λ c κs. search needs) (λ c. search needs) (λ c κs. search needs)
+    (λ c. search needs)
     (λ c κs. search needs) (λ c. search needs) (λ c κs. search needs) same-length returns)

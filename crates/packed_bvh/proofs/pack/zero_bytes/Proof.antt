@@ -1,4 +1,5 @@
--- `packed_bvh::pack::zero_bytes` meets its contract. The loop's invariant: the bytes before `i` are zero, and the others are as they came. Assumes nothing.
+-- `packed_bvh::pack::zero_bytes` meets its contract. The loop's invariant: the bytes before `i` are zero, and the
+-- others are as they came. Assumes nothing.
 use Prim.Native.Nat.{_-_, _≤_}
 use native.Mathlib.Omega.{arith}
 use lib.ListN.{length}
@@ -14,6 +15,7 @@ abbrev μ-loop : tie.MeasureT-loop
 
 pub zero-bytes-spec : {M : Type 1} → statement M
 zero-bytes-spec =
-    tie.close (tie.spec Inv-loop μ-loop (λ c. (omega arith, omega arith, filling-none)) (λ c. omega arith) (λ c. omega arith) (λ c. omega arith)
+    tie.close (tie.spec Inv-loop μ-loop (λ c. (omega arith, omega arith, filling-none)) (λ c. omega arith)
+    (λ c. omega arith) (λ c. omega arith)
     (λ c. (omega arith, omega arith, filling-one (c .before .loop .inv .2) (omega arith))) (λ c. omega arith)
     (λ c. filling-all _ _ (c .before .loop .inv .2) (omega arith) (omega arith)))

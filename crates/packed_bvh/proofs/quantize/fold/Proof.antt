@@ -1,4 +1,4 @@
--- `packed_bvh::quantize::fold` meets its contract: the lower half is folded out by the old x and y. Assumes nothing.
+-- `packed_bvh::quantize::fold`: the lower half is folded out by the old x and y. Assumes nothing.
 use Rattle.packed_bvh.specs.Quantize.{folded}
 use borrow.Author.Needs.{needs}
 use Rattle.packed_bvh.proofs.quantize.fold.Statement.{statement}
@@ -21,4 +21,5 @@ returns-2 c = rw (c .if1 .left)
 
 pub fold-spec : {M : Type 1} → statement M
 fold-spec =
-    tie.close (tie.spec (λ c κs. search needs) (λ c κs. search needs) (λ c κs. search needs) (λ c κs. search needs) returns returns-2)
+    tie.close (tie.spec (λ c κs. search needs) (λ c κs. search needs) (λ c κs. search needs) (λ c κs. search needs)
+    returns returns-2)

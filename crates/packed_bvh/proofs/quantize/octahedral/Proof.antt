@@ -1,4 +1,4 @@
--- `packed_bvh::quantize::octahedral` meets its contract: its steps are the definition's. Assumes nothing.
+-- `packed_bvh::quantize::octahedral`: its steps are the definition's. Assumes nothing.
 use Rattle.packed_bvh.specs.Quantize.{octahedral}
 use borrow.Author.Needs.{needs}
 use Rattle.packed_bvh.proofs.quantize.octahedral.Statement.{statement}
@@ -17,4 +17,5 @@ returns c =
 
 pub octahedral-spec : {M : Type 1} → statement M
 octahedral-spec =
-    tie.close (tie.spec (λ c κs. search needs) (λ c κs. search needs) (λ c κs. search needs) (λ c κs. search needs) (λ c κs. search needs) returns)
+    tie.close (tie.spec (λ c κs. search needs) (λ c κs. search needs) (λ c κs. search needs) (λ c κs. search needs)
+    (λ c κs. search needs) returns)

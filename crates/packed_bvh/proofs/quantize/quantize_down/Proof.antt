@@ -1,4 +1,4 @@
--- `packed_bvh::quantize::quantize_down` meets its contract: nothing on an axis without extent, else the steps are cut. Assumes nothing.
+-- `packed_bvh::quantize::quantize_down`: nothing on an axis without extent, else the steps are cut. Assumes nothing.
 use Rattle.packed_bvh.specs.Quantize.{quantizeBounds}
 use Rattle.packed_bvh.proofs.QuantizeCuts.{down-cut}
 use borrow.Author.Needs.{needs}

@@ -1,5 +1,5 @@
--- `packed_bvh::quantize::quantize_up` meets its contract: nothing on an axis without extent, else the steps are cut, and one more where they are past that.
--- Assumes nothing.
+-- `packed_bvh::quantize::quantize_up`: nothing on an axis without extent, else the steps are cut, and one more where
+-- they are past that. Assumes nothing.
 use Prim.Native.Nat.{_^_, _≤_}
 use mathlib.Core.Path.{_≡_, _∙_, ap}
 use native.Mathlib.Omega.{arith}
@@ -13,7 +13,9 @@ use Rattle.packed_bvh.proofs.quantize.quantize_up.Statement.{statement}
 use Rattle.packed_bvh.proofs.quantize.quantize_up.Tie as tie
 
 module _ (c : tie.After-to-u32) where
-  cut : c .to-u32 .result ≡ toU32 (stepsOf (c .before .before .before .args .value) (c .before .before .before .args .min) (c .before .before .before .args .max))
+  cut : c .to-u32 .result ≡ toU32
+      (stepsOf (c .before .before .before .args .value) (c .before .before .before .args .min)
+      (c .before .before .before .args .max))
   cut = c .to-u32 .ensures ∙ ap toU32 (c .before .steps .ensures)
 
   small : c .to-u32 .result ≤ 65535
@@ -29,12 +31,23 @@ int-to-float-if2 c = rw (le-leb (c .before .to-u32 .result) (2 ^ 24) (omega (ari
 
 returns-2 : tie.Need-returns-2
 returns-2 c =
-    rw (← up-cut _ _ _ (c .before .before .before .before .if1 .left) (c .before .before .to-u32 .result) (cut (c .before .before)), ← c .before .before .before .steps .ensures, c .if2 .taken)
+    rw (
+      ← up-cut _ _ _ (c .before .before .before .before .if1 .left) (c .before .before .to-u32 .result)
+          (cut (c .before .before)),
+      ← c .before .before .before .steps .ensures,
+      c .if2 .taken,
+    )
 
 returns-3 : tie.Need-returns-3
 returns-3 c =
-    rw (← up-cut _ _ _ (c .before .before .before .before .if1 .left) (c .before .before .to-u32 .result) (cut (c .before .before)), ← c .before .before .before .steps .ensures, c .if2 .left)
+    rw (
+      ← up-cut _ _ _ (c .before .before .before .before .if1 .left) (c .before .before .to-u32 .result)
+          (cut (c .before .before)),
+      ← c .before .before .before .steps .ensures,
+      c .if2 .left,
+    )
 
 pub quantize-up-spec : {M : Type 1} → statement M
 quantize-up-spec =
-    tie.close (tie.spec returns (λ c κs. search needs) (λ c κs. search needs) int-to-float-if2 (λ c. omega (arith, small (c .before .before))) returns-2 returns-3)
+    tie.close (tie.spec returns (λ c κs. search needs) (λ c κs. search needs) int-to-float-if2
+    (λ c. omega (arith, small (c .before .before))) returns-2 returns-3)

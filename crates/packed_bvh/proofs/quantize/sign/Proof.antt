@@ -1,4 +1,4 @@
--- `packed_bvh::quantize::sign` meets its contract: by the sign's bit. Assumes nothing.
+-- `packed_bvh::quantize::sign`: by the sign's bit. Assumes nothing.
 use lib.Ieee.{neg, ofBits}
 use Rattle.packed_bvh.specs.Quantize.{sign}
 use borrow.Author.Needs.{needs}

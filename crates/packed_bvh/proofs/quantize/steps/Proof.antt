@@ -1,4 +1,4 @@
--- `packed_bvh::quantize::steps` meets its contract: its steps are the definition's. Assumes nothing.
+-- `packed_bvh::quantize::steps`: its steps are the definition's. Assumes nothing.
 use Rattle.packed_bvh.specs.Quantize.{stepsOf}
 use borrow.Author.Needs.{needs}
 use Rattle.packed_bvh.proofs.quantize.steps.Statement.{statement}

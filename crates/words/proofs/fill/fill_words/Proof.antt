@@ -1,5 +1,5 @@
--- `words::fill::fill_words` meets its contract. The loop's invariant: the places from the first up to `i` hold the value, and the others are as they came.
--- Assumes nothing.
+-- `words::fill::fill_words` meets its contract. The loop's invariant: the places from the first up to `i` hold the
+-- value, and the others are as they came. Assumes nothing.
 use Prim.Native.Nat.{_-_, _≤_, min}
 use mathlib.Core.Path.{_≡_}
 use mathlib.Core.Logic.{⊎-elim}
@@ -25,6 +25,8 @@ loop-holds c = (
 
 pub fill-words-spec : {M : Type 1} → statement M
 fill-words-spec =
-    tie.close (tie.spec Inv-loop μ-loop loop-holds (λ c. omega arith) (λ c. omega arith) (λ c. omega arith) (λ c. omega arith)
-    (λ c. (omega arith, omega arith, omega arith, filling-one (c .before .before .loop .inv .3) (omega arith))) (λ c. omega arith)
+    tie.close (tie.spec Inv-loop μ-loop loop-holds (λ c. omega arith) (λ c. omega arith) (λ c. omega arith)
+    (λ c. omega arith)
+    (λ c. (omega arith, omega arith, omega arith, filling-one (c .before .before .loop .inv .3) (omega arith)))
+    (λ c. omega arith)
     (λ c. filling-all _ _ (c .before .loop .inv .3) (omega arith) (omega arith)))

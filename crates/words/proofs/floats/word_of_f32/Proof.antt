@@ -1,8 +1,8 @@
--- `words::floats::word_of_f32` meets its contract: only a NaN differs from itself. Assumes nothing.
+-- `words::floats::word_of_f32`: only a NaN differs from itself. Assumes nothing.
 use borrow.Author.Needs.{needs}
 use mathlib.Core.Path.{sym, ap}
 use lib.Ieee.{binary32, toBits}
-use Rattle.ieee.specs.Nans.{no-nan, a-nan}
+use Rattle.ieee.specs.Laws.Nans.{no-nan, a-nan}
 use Rattle.words.proofs.floats.word_of_f32.Statement.{statement}
 use Rattle.words.proofs.floats.word_of_f32.Tie as tie
 

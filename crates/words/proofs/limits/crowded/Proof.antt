@@ -1,4 +1,4 @@
--- `words::limits::crowded` meets its contract: word 0, and if that is within its limit the length. Assumes nothing.
+-- `words::limits::crowded`: word 0, and if that is within its limit the length. Assumes nothing.
 use borrow.Author.Needs.{needs}
 use borrow.Author.Tests.{lt-ltb, le-ltb}
 use Rattle.words.specs.Limits.{crowded}

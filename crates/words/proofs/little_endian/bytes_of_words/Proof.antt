@@ -1,5 +1,5 @@
--- `words::little_endian::bytes_of_words` meets its contract. The loop's invariant: the bytes before `4 * i` are those of the words, and the others
--- are as they came. Assumes nothing.
+-- `words::little_endian::bytes_of_words` meets its contract. The loop's invariant: the bytes before `4 * i` are those
+-- of the words, and the others are as they came. Assumes nothing.
 use Prim.Native.Nat.{ℕ, _+_, _*_, _/_, _-_, _≤_, _<_}
 use mathlib.Core.Path.{_≡_, refl}
 use mathlib.Core.List.{List}
@@ -22,7 +22,8 @@ abbrev μ-loop : tie.MeasureT-loop
 μ-loop words bytes₀ count i₀ bytes i = count - i
 
 -- a turn
-copied-word : (ws : List ℕ) {d l : List ℕ} {i : ℕ} → Copied (bytesOf ws) d (4 * i) l → i < length ws → 4 * length ws ≤ length d
+copied-word : (ws : List ℕ) {d l : List ℕ} {i : ℕ} → Copied (bytesOf ws) d (4 * i) l → i < length ws →
+    4 * length ws ≤ length d
     → Copied (bytesOf ws) d (4 * (i + 1)) (setWord l i (getD ws i 0))
 unfolding setWord
 copied-word ws {l} {i} c h k =

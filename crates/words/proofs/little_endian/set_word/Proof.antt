@@ -1,4 +1,4 @@
--- `words::little_endian::set_word` meets its contract: the code's four stores are the definition's. Assumes nothing.
+-- `words::little_endian::set_word`: the code's four stores are the definition's. Assumes nothing.
 use borrow.Author.Needs.{needs}
 use borrow.Author.Tests.{lt-ltb, le-ltb}
 use native.Mathlib.Numerals.{towards-suc}
@@ -18,6 +18,8 @@ returns-2 c = simp (le-ltb _ _ (c .if1 .left))
 
 pub set-word-spec : {M : Type 1} → statement M
 set-word-spec =
-    tie.close (tie.spec (λ c. search needs) (λ c. search needs) (λ c. search needs) (λ c. search needs) (λ c. search needs)
-    (λ c. simp length-set (omega arith)) (λ c. search needs) (λ c. search needs) (λ c. simp length-set (omega arith)) (λ c. search needs)
+    tie.close (tie.spec (λ c. search needs) (λ c. search needs) (λ c. search needs) (λ c. search needs)
+    (λ c. search needs)
+    (λ c. simp length-set (omega arith)) (λ c. search needs) (λ c. search needs) (λ c. simp length-set (omega arith))
+    (λ c. search needs)
     (λ c. search needs) (λ c. simp length-set (omega arith)) (λ c. search needs) returns returns-2)

@@ -1,4 +1,4 @@
--- `words::little_endian::word_count` meets its contract: its test is the definition's. Assumes nothing.
+-- `words::little_endian::word_count`: its test is the definition's. Assumes nothing.
 use borrow.Author.Tests.{eq-eqb, ne-eqb}
 use Rattle.words.specs.LittleEndian.{wordCount}
 use Rattle.words.proofs.little_endian.word_count.Statement.{statement}

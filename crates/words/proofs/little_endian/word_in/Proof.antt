@@ -1,4 +1,4 @@
--- `words::little_endian::word_in` meets its contract: the word of four bytes fits. Assumes nothing.
+-- `words::little_endian::word_in`: the word of four bytes fits. Assumes nothing.
 use Prim.Native.Nat.{ℕ, _+_, _*_, _<_}
 use mathlib.Core.Path.{sym}
 use borrow.Author.Needs.{needs}
@@ -23,9 +23,11 @@ module _ (c : tie.After-shared-slice-known4) where
 
 pub word-in-spec : {M : Type 1} → statement M
 word-in-spec =
-    tie.close (tie.spec (λ c. search needs) (λ c. search needs) (λ c. fits-widen tt (c .shared-slice-known .given _)) (λ c. search needs)
+    tie.close (tie.spec (λ c. search needs) (λ c. search needs) (λ c. fits-widen tt (c .shared-slice-known .given _))
+    (λ c. search needs)
     (λ c. search needs) (λ c. fits-widen tt (c .shared-slice-known2 .given _)) (λ c. search needs) (λ c. search needs)
     (λ c. fits-widen tt (c .shared-slice-known3 .given _)) (λ c. search needs) (λ c. search needs)
     (λ c. fits-widen tt (c .shared-slice-known4 .given _)) (λ c. omega (arith, small c)) (λ c. omega (arith, small c))
-    (λ c. omega (arith, small c)) (λ c. omega (arith, small c)) (λ c. omega (arith, small c)) (λ c. omega (arith, small c))
+    (λ c. omega (arith, small c)) (λ c. omega (arith, small c)) (λ c. omega (arith, small c))
+    (λ c. omega (arith, small c))
     (λ c. sym (wordsOf-at _ _ (c .before .before .before .before .pre))))

@@ -1,5 +1,5 @@
--- `words::little_endian::words_of_bytes` meets its contract. The loop's invariant: the words before `i` are those of the bytes, and the others are as
--- they came. Assumes nothing.
+-- `words::little_endian::words_of_bytes` meets its contract. The loop's invariant: the words before `i` are those of
+-- the bytes, and the others are as they came. Assumes nothing.
 use Prim.Native.Nat.{_-_}
 use mathlib.Core.Path.{_≡_, refl, sym}
 use borrow.Author.Needs.{needs}
@@ -30,7 +30,8 @@ unfolding readWords wordCount _then_ tray
 returns-2 c = simp (eq-eqb _ _ (c .before .if1 .left), lt-leb _ _ (c .if2 .taken)) (refl, refl)
 
 loop-again : tie.Need-loop-again Inv-loop μ-loop
-loop-again c = (omega arith, copied-one (c .before .before .loop .inv .1) (c .word-at .ensures) (omega arith) (omega arith))
+loop-again c =
+    (omega arith, copied-one (c .before .before .loop .inv .1) (c .word-at .ensures) (omega arith) (omega arith))
 
 returns-3 : tie.Need-returns-3 Inv-loop μ-loop
 unfolding readWords wordCount _then_
@@ -40,5 +41,6 @@ returns-3 c =
 
 pub words-of-bytes-spec : {M : Type 1} → statement M
 words-of-bytes-spec =
-    tie.close (tie.spec Inv-loop μ-loop returns returns-2 (λ c. (sym (length-wordsOf _), copied-none)) (λ c κs. search needs)
+    tie.close (tie.spec Inv-loop μ-loop returns returns-2 (λ c. (sym (length-wordsOf _), copied-none))
+    (λ c κs. search needs)
     (λ c. omega arith) (λ c. omega arith) (λ c. omega arith) (λ c. omega arith) loop-again (λ c. omega arith) returns-3)

@@ -1,4 +1,4 @@
--- `words::places::word_or_zero` meets its contract: past the end there is no element. Assumes nothing.
+-- `words::places::word_or_zero`: past the end there is no element. Assumes nothing.
 use mathlib.Core.Path.{sym}
 use denote.Ref.{now}
 use borrow.Author.Needs.{needs}

@@ -1,4 +1,5 @@
-//! Offices with their trees, by the reference with Rust's own library functions, and the timing of calls that are long enough for it.
+//! Offices with their trees, by the reference with Rust's own library functions, and the timing of calls that
+//! are long enough for it.
 
 use crate::timing::{INPUTS, medians, sampled};
 use std::hint::black_box;

@@ -1,4 +1,5 @@
-//! The branches of the reference, marked as a case takes them (`substitution.rs` puts the marks in), and the errors with them.
+//! The branches of the reference, marked as a case takes them (`substitution.rs` puts the marks in), and the
+//! errors with them.
 
 use super::errors::REFUSALS;
 use std::cell::Cell;

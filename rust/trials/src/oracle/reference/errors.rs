@@ -21,8 +21,9 @@ macro_rules! refusals {
     };
 }
 
-// No words lead to two errors of the walks, "reached an invalid node" (it was weighed) and "has no right child", nor to two of the packing,
-// "node count exceeds" (there are at most 8,191) and "quantization overflowed" (a share is at most 1 or NaN).
+// No words lead to two errors of the walks, "reached an invalid node" (it was weighed) and "has no right
+// child", nor to two of the packing, "node count exceeds" (there are at most 8,191) and "quantization
+// overflowed" (a share is at most 1 or NaN).
 refusals! {
     5 "Light bounds contain a non-finite coordinate.";
     6 "Light bounds have min greater than max.";

@@ -1,4 +1,5 @@
-//! Records, lists, weights and trees as words, on either side: its answers on words, and what it writes to the slices lent.
+//! Records, lists, weights and trees as words, on either side: its answers on words, and what it writes to
+//! the slices lent.
 
 use super::errors::{CROWDED, LOST_UNION, MISPLACED, PbrtError, RAGGED, SHORT_TRAY, number};
 use super::sides::{INVALID_INDEX, Light, native, oracle};
@@ -65,8 +66,8 @@ fn words_of(figures: [[f32; 3]; 4], two_sided: bool) -> Record {
 on_words!(oracle, validate, union, importance, oracle_of_words, oracle_to_words);
 on_words!(native, native_validate, native_union, native_importance, native_of_words, native_to_words);
 
-/// Document 01's rule for a lent slice after the checks that leave it alone: its reserve holds what is given, or zeros where
-/// that is refused; the words past it stay.
+/// Document 01's rule for a lent slice after the checks that leave it alone: its reserve holds what is given,
+/// or zeros where that is refused; the words past it stay.
 fn lend(slice: &mut [u32], given: Result<&[u32], usize>) {
     match given {
         Ok(words) => slice[..words.len()].copy_from_slice(words),
@@ -186,8 +187,8 @@ macro_rules! on_blocks {
             }
         }
 
-        /// The tree of a block, written to the lent nodes, with each lamp's leaf in the lent table, k and the box in the lent answer; the
-        /// lent work is left zero.
+        /// The tree of a block, written to the lent nodes, with each lamp's leaf in the lent table, k and the
+        /// box in the lent answer; the lent work is left zero.
         pub fn $build(light_count: u32, block: &[u32], trays: Trays) -> Result<(), u32> {
             blocks::check_counted(light_count, block)?;
             let reserves = trees::reserves(light_count as usize);

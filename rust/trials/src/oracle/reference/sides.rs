@@ -1,4 +1,5 @@
-//! The reference's files, compiled twice: as the oracle, over document 01's library functions, and as they are, over Rust's own.
+//! The reference's files, compiled twice: as the oracle, over document 01's library functions, and as they
+//! are, over Rust's own.
 
 use super::branches::{Branch, mark};
 use super::errors::{PbrtError, invalid_box, lost, past_left, past_right};

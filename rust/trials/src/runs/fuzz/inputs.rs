@@ -30,7 +30,8 @@ pub fn block(random: &mut Random, lamps: u32) -> Vec<u32> {
     words
 }
 
-/// A list of so many lamps, of known kinds alone where it is to be whole; else cut, and now and then with a word that is odd.
+/// A list of so many lamps, of known kinds alone where it is to be whole; else cut, and now and then with a
+/// word that is odd.
 pub fn list(random: &mut Random, lamps: u32, whole: bool) -> Vec<u32> {
     let mut list = vec![lamps];
     for handle in 0..lamps {

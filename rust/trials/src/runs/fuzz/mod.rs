@@ -1,5 +1,6 @@
-//! Calls of the six C functions with random, damaged and truncated words, odd lengths and empty slices, between pages that no call may
-//! touch. At its end it prints how often each function was called and how often it answered what.
+//! Calls of the six C functions with random, damaged and truncated words, odd lengths and empty slices,
+//! between pages that no call may touch. At its end it prints how often each function was called and how
+//! often it answered what.
 
 mod inputs;
 mod zones;

@@ -1,5 +1,5 @@
-//! Slices that stand in pages of their own and touch, at their end or at their front, a page that no call may read or write: a byte
-//! beyond them is a fault that ends the program.
+//! Slices that stand in pages of their own and touch, at their end or at their front, a page that no call may
+//! read or write: a byte beyond them is a fault that ends the program.
 
 use crate::inputs::random::Random;
 use crate::inputs::walks::bytes;

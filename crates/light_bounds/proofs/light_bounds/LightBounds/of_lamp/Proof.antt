@@ -1,4 +1,4 @@
--- `light_bounds::light_bounds::LightBounds::of_lamp` meets its contract: a record with a lamp's side. Assumes nothing.
+-- `light_bounds::light_bounds::LightBounds::of_lamp`: a record with a lamp's side. Assumes nothing.
 use mathlib.Core.Path.{_∙_}
 use borrow.Author.Needs.{needs}
 use Rattle.light_bounds.proofs.light_bounds.LightBounds.of_lamp.Statement.{statement}

@@ -1,0 +1,2 @@
+pub mod GameLaws
+pub mod AliasLaws

@@ -1,0 +1,2 @@
+pub mod LampFits
+pub mod ListLaws

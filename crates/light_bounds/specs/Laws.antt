@@ -1,0 +1,3 @@
+pub mod WeighingLaws
+pub mod SideLaws
+pub mod BoundsLaws

@@ -1,0 +1,10 @@
+pub mod StretchLaws
+pub mod SortLaws
+pub mod BuiltTrees
+pub mod RecordsOfTree
+pub mod LeafLaws
+pub mod PlaceLaws
+pub mod AcceptedTree
+pub mod StandingLaws
+pub mod NodeLaws
+pub mod ByteLaws
