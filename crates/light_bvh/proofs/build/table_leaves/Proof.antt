@@ -1,4 +1,4 @@
--- `light_bvh::build::table_leaves` meets its contract: the leaves among the nodes up to i are in the table. Assumes nothing.
+-- `light_bvh::build::table_leaves`: the leaves among the nodes up to i are in the table. Assumes nothing.
 use Prim.Native.Nat.{ℕ, _-_, _≤_}
 use mathlib.Core.Path.{_≡_, refl, sym, ap, _∙_}
 use mathlib.Core.Logic.{⊎-elim}
@@ -33,7 +33,8 @@ loop-again c =
     let table = now (args .table) in
     let i = loop .i in
     let place : at .head-at .result ≡ getD nodes (nodePlace i) 0 = at .head-at .ensures in
-    let kind : kindOf (getD nodes (nodePlace i) 0) ≡ c .before .kind-of .result = sym (c .before .kind-of .ensures ∙ ap kindOf place) in
+    let kind : kindOf (getD nodes (nodePlace i) 0) ≡ c .before .kind-of .result =
+    sym (c .before .kind-of .ensures ∙ ap kindOf place) in
     ⊎-elim
     (λ w.
     let h : w .2 .result ≡ handleOf (getD nodes (nodePlace i) 0) = w .2 .ensures ∙ w .1 .ensures ∙ ap handleOf place in
@@ -48,9 +49,18 @@ loop-again c =
     (λ w.
     let h : w .2 .result ≡ handleOf (getD nodes (nodePlace i) 0) = w .2 .ensures ∙ w .1 .ensures ∙ ap handleOf place in
     let past : length (loop .table) ≤ handleOf (getD nodes (nodePlace i) 0) = omega (arith, h, w .3 .left) in
-    rw (w .4)
-    (omega arith, loop .inv .1, loop .inv .2 ∙ sym (tabled-past nodes i table (kind ∙ w .0 .taken) (rw (loop .inv .2) at past))))
-    (λ w. rw (w .1) (omega arith, loop .inv .1, loop .inv .2 ∙ sym (tabled-other nodes i table (λ e. w .0 .left (sym kind ∙ e)))))
+    rw (w .4) (
+      omega arith,
+      loop .inv .1,
+      loop .inv .2 ∙
+          sym (tabled-past nodes i table (kind ∙ w .0 .taken) (rw (loop .inv .2) at past)),
+    ))
+    (λ w. rw (w .1) (
+      omega arith,
+      loop .inv .1,
+      loop .inv .2 ∙
+          sym (tabled-other nodes i table (λ e. w .0 .left (sym kind ∙ e))),
+    ))
     v)
     (c .if2 .came)
 
@@ -63,6 +73,6 @@ returns c =
 
 pub table-leaves-spec : {M : Type 1} → statement M
 table-leaves-spec =
-    tie.close (tie.spec Inv-loop μ-loop loop-holds (λ c κs. search needs) (λ c κs. search needs) (λ c κs. search needs)
-    (λ c κs. search needs) (λ c κs. search needs) (λ c. search needs) (λ c. omega arith) (λ c. omega arith)
-    (λ c. omega arith) loop-again (λ c. c .before .before .loop .inv .1) returns)
+    tie.close (tie.spec Inv-loop μ-loop loop-holds (λ c κs. search needs) (λ c κs. search needs)
+    (λ c κs. search needs) (λ c κs. search needs) (λ c κs. search needs) (λ c. search needs) (λ c. omega arith)
+    (λ c. omega arith) (λ c. omega arith) loop-again (λ c. c .before .before .loop .inv .1) returns)

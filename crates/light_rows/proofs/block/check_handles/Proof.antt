@@ -30,7 +30,8 @@ loop-again c =
     let block = now (c .before .before .before .before .before .before .args .block) in (
       loop .inv .0,
       omega arith,
-      rw (below-next (handleAt block) (loop .i), loop .inv .2, eq-eqb _ _ (sym (c .before .label .ensures) ∙ c .if1 .taken)),
+      rw (below-next (handleAt block) (loop .i), loop .inv .2)
+          (eq-eqb _ _ (sym (c .before .label .ensures) ∙ c .if1 .taken)),
     )
 
 returns : tie.Need-returns Inv-loop μ-loop
@@ -47,9 +48,11 @@ returns-2 c =
     let loop = c .before .before .loop in
     let block = now (c .before .before .before .before .before .args .block) in
     let e : loop .i ≡ getD block 0 0 = omega (arith, loop .inv .0) in
-    rw (subst (λ (k : ℕ). below (handleAt block) k ≡ true) e (loop .inv .2)) (ap given (c .wide .ensures ∙ loop .inv .0))
+    rw (subst (λ (k : ℕ). below (handleAt block) k ≡ true) e (loop .inv .2))
+    (ap given (c .wide .ensures ∙ loop .inv .0))
 
 pub check-handles-spec : {M : Type 1} → statement M
 check-handles-spec =
-    tie.close (tie.spec Inv-loop μ-loop (λ c κs. search needs) loop-holds (λ c κs. search needs) (λ c. search needs) (λ c. search needs)
+    tie.close (tie.spec Inv-loop μ-loop (λ c κs. search needs) loop-holds (λ c κs. search needs) (λ c. search needs)
+    (λ c. search needs)
     loop-again returns (λ c κs. search needs) returns-2)

@@ -20,7 +20,8 @@ returns-2 c =
     let test = words .before .before in
     let block = now (test .before .before .before .args .block) in
     let m = words .before .word-or-zero .ensures in
-    let size : length block ≡ blockWords (getD block 0 0) = omega (arith, m, words .block-words .ensures, c .before .if2 .taken) in
+    let size : length block ≡ blockWords (getD block 0 0) =
+    omega (arith, m, words .block-words .ensures, c .before .if2 .taken) in
     rw (← test .before .crowded .ensures, test .if1 .left) (rw (eq-eqb _ _ size, ← m) (c .check-sides .ensures))
 
 returns-3 : tie.Need-returns-3
@@ -31,7 +32,8 @@ returns-3 c =
     let block = now (test .before .before .before .args .block) in
     let m = words .before .word-or-zero .ensures in
     rw (← test .before .crowded .ensures, test .if1 .left)
-    (rw (ne-eqb (length block) (blockWords (getD block 0 0)) (λ e. c .if2 .left (omega (arith, e, m, words .block-words .ensures)))))
+    (rw (ne-eqb (length block) (blockWords (getD block 0 0))
+    (λ e. c .if2 .left (omega (arith, e, m, words .block-words .ensures)))))
 
 pub check-layout-spec : {M : Type 1} → statement M
 check-layout-spec =

@@ -55,5 +55,6 @@ returns-2 c =
 
 pub check-sides-spec : {M : Type 1} → statement M
 check-sides-spec =
-    tie.close (tie.spec Inv-loop μ-loop loop-holds (λ c κs. search needs) (λ c. search needs) (λ c. search needs) (λ c. search needs)
+    tie.close (tie.spec Inv-loop μ-loop loop-holds (λ c κs. search needs) (λ c. search needs) (λ c. search needs)
+    (λ c. search needs)
     (λ c κs. search needs) (λ c. search needs) (λ c. search needs) loop-again returns (λ c κs. search needs) returns-2)

@@ -32,4 +32,6 @@ same-length c =
     put .write-record .kept .0 ∙ length-set (now (first .before .before .args .block)) (first .block-words .result) _
 
 pub put-row-spec : {M : Type 1} → statement M
-put-row-spec = tie.close (tie.spec (λ c κs. search needs) (λ c. search needs) (λ c. search needs) (λ c κs. search needs) (λ c κs. search needs) same-length returns)
+put-row-spec =
+    tie.close (tie.spec (λ c κs. search needs) (λ c. search needs) (λ c. search needs) (λ c κs. search needs)
+    (λ c κs. search needs) same-length returns)

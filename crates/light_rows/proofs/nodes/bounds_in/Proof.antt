@@ -8,4 +8,5 @@ returns : tie.Need-returns
 returns c = c .record-or-zeros .ensures ∙ rw (c .before .wide .ensures)
 
 pub bounds-in-spec : {M : Type 1} → statement M
-bounds-in-spec = tie.close (tie.spec (λ c κs. search needs) (λ c. search needs) (λ c. search needs) (λ c κs. search needs) returns)
+bounds-in-spec =
+    tie.close (tie.spec (λ c κs. search needs) (λ c. search needs) (λ c. search needs) (λ c κs. search needs) returns)
