@@ -19,7 +19,7 @@ use light_bounds::vecmath::Vec3;
 use words::floats::f32_of_word;
 use words::floats::word_of_f32;
 use words::limits::fits;
-use words::little_endian::word_in;
+use words::little_endian::word_at;
 use words::places::word_or_zero;
 
 // The words of a record.
@@ -110,9 +110,9 @@ fn triple_in(bytes: &[u8], at: usize) -> Triple
     ensures { λ r. ⌜ r ≡ tripleAt (wordsOf (now (bytes .entry))) at ⌝ }
 {
     Triple {
-        x: word_in(bytes, at),
-        y: word_in(bytes, at + 1),
-        z: word_in(bytes, at + 2),
+        x: word_at(bytes, at),
+        y: word_at(bytes, at + 1),
+        z: word_at(bytes, at + 2),
     }
 }
 
@@ -124,10 +124,10 @@ fn row_in(bytes: &[u8], at: usize) -> Row
         min: triple_in(bytes, at),
         max: triple_in(bytes, at + MAX_PLACE),
         direction: triple_in(bytes, at + DIRECTION_PLACE),
-        phi: word_in(bytes, at + PHI_PLACE),
-        cos_theta_o: word_in(bytes, at + COS_THETA_O_PLACE),
-        cos_theta_e: word_in(bytes, at + COS_THETA_E_PLACE),
-        side: word_in(bytes, at + SIDE_PLACE),
+        phi: word_at(bytes, at + PHI_PLACE),
+        cos_theta_o: word_at(bytes, at + COS_THETA_O_PLACE),
+        cos_theta_e: word_at(bytes, at + COS_THETA_E_PLACE),
+        side: word_at(bytes, at + SIDE_PLACE),
     }
 }
 

@@ -20,7 +20,7 @@ pub fn word_count(bytes: &[u8]) -> Counted
 }
 
 // The word at a place that is known to be within the bytes.
-pub fn word_in(bytes: &[u8], place: usize) -> u32
+fn word_in(bytes: &[u8], place: usize) -> u32
     requires { ⌜ place < length (now bytes) / 4 ⌝ }
     ensures { λ r. ⌜ r ≡ getD (wordsOf (now (bytes .entry))) place 0 ⌝ }
 {
