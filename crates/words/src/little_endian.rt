@@ -2,7 +2,8 @@
 ghost use mathlib.Core.Path.{_≡_};
 ghost use Prim.Native.Nat.{ℕ, _*_, _/_, _<_};
 ghost use lib.ListN.{getD, length};
-ghost use Rattle.words.specs.LittleEndian.{wordsOf, bytesOf, setWord, wordCount, readWords, writtenWords};
+ghost use Rattle.words.specs.LittleEndian.{wordsOf, bytesOf};
+ghost use Rattle.words.specs.AsCoded.WordSlices.{setWord, wordCount, readWords, writtenWords};
 ghost use Rattle.words.specs.Answers.{counted};
 ghost use Rattle.words.specs.Tray.{tray};
 use super::answers::Counted;

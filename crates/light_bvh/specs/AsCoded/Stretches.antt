@@ -7,7 +7,8 @@ use Rattle.words.specs.Answers.{Answer, given, refused, _then_}
 use Rattle.light_bounds.specs.LightBounds.{union}
 use Rattle.light_bounds.specs.declared.light_bounds.LightBounds.{LightBounds}
 use Rattle.light_rows.specs.RecordWords.{readRecord}
-use Rattle.light_rows.specs.Nodes.{interior, boundsPlace, nodeWritten}
+use Rattle.light_rows.specs.Nodes.{interior, boundsPlace}
+use Rattle.light_rows.specs.AsCoded.NodeRow.{nodeWritten}
 use Rattle.light_rows.specs.Tree.{Tree, flatten}
 use Rattle.light_split.specs.Partition.{partitionHandles}
 use Rattle.light_split.specs.Split.{chooseSplit}
