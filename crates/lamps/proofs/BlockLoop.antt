@@ -8,7 +8,7 @@ use borrow.Author.Tests.{le-leb}
 use lib.ListN.{length, getD, set, drop, length-set, length-append}
 use lib.Seq.{sets, set-set, length-sets}
 use Rattle.words.specs.Answers.{given, refused, count}
-use Rattle.words.specs.Fill.{filled}
+use Rattle.words.specs.AsCoded.Fill.{filled}
 use Rattle.words.specs.Limits.{maxLamps}
 use Rattle.words.specs.Tray.{tray}
 use Rattle.words.specs.Laws.TrayLaws.{tray-full}
@@ -16,7 +16,8 @@ use Rattle.words.proofs.Reserves.{tray-zeroed}
 use Rattle.words.proofs.RowLaws.{Written, written-none, written-one, written-under, written-behind}
 use Rattle.words.proofs.RowLaws.{Walked, walked-none, walked-one, walked-refused, walked-all}
 use Rattle.light_bounds.specs.declared.light_bounds.LightBounds.{LightBounds}
-use Rattle.light_rows.specs.Block.{boundsWords, boundsRow, blockWords, handlePlace, rowWritten, packExhaustiveBounds}
+use Rattle.light_rows.specs.Block.{boundsWords, boundsRow, blockWords, handlePlace, packExhaustiveBounds}
+use Rattle.light_rows.specs.AsCoded.BlockRow.{rowWritten}
 use Rattle.lamps.specs.BuildBounds.{buildLightBounds}
 use Rattle.lamps.specs.AsCoded.Passed.{Passed, nextBounds}
 use Rattle.lamps.specs.LampList.{lampList}

@@ -12,7 +12,7 @@ use lib.Dec.{T, eqb, ltb}
 use lib.ListN.{length, getD, set, length-append, length-set}
 use lib.Seq.{set-out}
 use Rattle.words.specs.Answers.{Answer, given, refused, _then_}
-use Rattle.words.specs.Fill.{filled}
+use Rattle.words.specs.AsCoded.Fill.{filled}
 use Rattle.words.specs.Heads.{kindOf, handleOf}
 use Rattle.words.specs.Limits.{maxLamps, crowded}
 use Rattle.words.specs.Rows.{below}
@@ -28,7 +28,7 @@ use Rattle.light_bounds.proofs.LateLaws.{late-validate}
 use Rattle.light_rows.specs.Block.{blockWords, sideAt, handleAt, blockLayout, blockHandles}
 use Rattle.light_rows.specs.Nodes.{nodePlace}
 use Rattle.light_split.specs.Lights.{lightOf}
-use Rattle.words.specs.Lists.{laid}
+use Rattle.words.specs.AsCoded.ListParts.{laid}
 use Rattle.words.proofs.ListLaws.{laid-next}
 use Rattle.light_bvh.specs.Build.{isPowered, boundedHandles, grown, allBounds, validated}
 use Rattle.light_bvh.specs.Build.{nodesReserve, workReserve, isShort, buildCheck}

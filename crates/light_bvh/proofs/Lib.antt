@@ -1,6 +1,4 @@
 pub mod BuildLaws
-pub mod LostLaws
 pub mod RowTrays
 pub mod RowsLaws
-pub mod SubtreeLaws
 pub mod TableLaws

@@ -10,7 +10,7 @@ use native.Mathlib.Omega.{arith}
 use lib.ListN.{length, take, drop, replicate, length-append, length-drop, length-replicate}
 use lib.Seq.{length-take-le, take-at, drop-append-add, drop-drop}
 use Rattle.words.specs.Answers.{Answer, given, refused, _then_}
-use Rattle.words.specs.Fill.{filled}
+use Rattle.words.specs.AsCoded.Fill.{filled}
 use Rattle.words.specs.Tray.{tray}
 use Rattle.words.specs.Laws.TrayLaws.{tray-full}
 use Rattle.words.proofs.FillLaws.{filled-within}
@@ -20,19 +20,19 @@ use Rattle.light_rows.specs.Block.{blockWords, blockHandles}
 use Rattle.light_rows.specs.Nodes.{nodeWords, invalidIndex}
 use Rattle.light_rows.specs.Tree.{Tree, leaves, treeWords}
 use Rattle.light_rows.specs.Laws.TreeLaws.{length-flatten}
-use Rattle.words.specs.Lists.{laid}
-use Rattle.light_bvh.specs.Subtree.{labelOf, buildSubtree}
-use Rattle.light_bvh.specs.AsCoded.Stretches.{subtree, done, subtreeWords}
+use Rattle.words.specs.AsCoded.ListParts.{laid}
+use Rattle.light_subtree.specs.Subtree.{labelOf, buildSubtree}
+use Rattle.light_subtree.specs.AsCoded.Stretches.{subtree, done, subtreeWords}
 use Rattle.light_bvh.specs.Build.{boundedHandles, allBounds, LightBVH, treeOf, builtBvh}
 use Rattle.light_bvh.specs.Build.{nodesReserve, workReserve, nodesWritten, tableWritten}
 use Rattle.light_bvh.specs.Build.{isShort, workWritten, summary}
 use Rattle.light_bvh.specs.AsCoded.Tables.{tabledBelow}
-use Rattle.light_bvh.specs.declared.subtree.Subtree.{Subtree}
-use Rattle.light_bvh.specs.declared.subtree.Subtree.the-variants.{Built, Lost}
+use Rattle.light_subtree.specs.declared.subtree.Subtree.{Subtree}
+use Rattle.light_subtree.specs.declared.subtree.Subtree.the-variants.{Built, Lost}
 use Rattle.light_bvh.proofs.BuildLaws.{reserves-fit}
 use Rattle.light_bvh.proofs.RowsLaws.{bounds-none, bounds-there, bounded-few}
 use Rattle.light_bvh.proofs.RowsLaws.{bounded-below, labels-fit, labels-below}
-use Rattle.light_bvh.proofs.SubtreeLaws.{build-size, given-of, refused-of, done-moved, words-moved}
+use Rattle.light_subtree.proofs.SubtreeLaws.{build-size, given-of, refused-of, done-moved, words-moved}
 use Rattle.light_bvh.proofs.TableLaws.{Labels, labels-map, Thirty}
 use Rattle.light_bvh.proofs.TableLaws.{tabled-front-tree, tabled-front, length-tabled}
 

@@ -1,3 +1,2 @@
-pub mod Subtree
 pub mod Build
 pub mod AsCoded

@@ -12,7 +12,7 @@ use lib.Dec.{ltb}
 use lib.ListN.{length, getD, drop}
 use lib.Seq.{sets, sets-eq}
 use Rattle.words.specs.Answers.{Answer, given, refused, _then_, code}
-use Rattle.words.specs.Fill.{filled}
+use Rattle.words.specs.AsCoded.Fill.{filled}
 use Rattle.words.specs.Tray.{tray}
 use Rattle.words.specs.Laws.TrayLaws.{tray-early, tray-full}
 use Rattle.words.proofs.AnswerLaws.{only-refused, only-then, only-number, given-injective, not-both}

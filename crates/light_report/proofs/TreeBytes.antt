@@ -10,7 +10,8 @@ use lib.Dec.{ltb}
 use lib.ListN.{length, getD, take, length-append}
 use lib.Seq.{sets, length-sets, length-take-le}
 use Rattle.words.specs.Answers.{Answer, given, refused, _then_}
-use Rattle.words.specs.LittleEndian.{wordsOf, bytesOf, wordCount, readWords}
+use Rattle.words.specs.LittleEndian.{wordsOf, bytesOf}
+use Rattle.words.specs.AsCoded.WordSlices.{wordCount, readWords}
 use Rattle.words.specs.Tray.{tray}
 use Rattle.words.specs.Laws.TrayLaws.{tray-early, tray-front}
 use Rattle.words.proofs.AnswerLaws.{given-injective, refused-injective, not-both, Early}

@@ -10,11 +10,13 @@ use borrow.Author.Tests.{le-leb, lt-leb, lt-ltb, le-ltb}
 use lib.Dec.{leb}
 use lib.ListN.{length, set, length-set}
 use lib.Seq.{sets}
-use Rattle.light_rows.specs.RecordWords.{recordList, writtenAt}
+use Rattle.light_rows.specs.RecordWords.{recordList}
+use Rattle.light_rows.specs.AsCoded.RecordRow.{writtenAt}
 use Rattle.light_bounds.specs.declared.light_bounds.LightBounds.{LightBounds}
 use Rattle.light_rows.specs.Laws.RecordPlaces.{writtenAt-sets}
-use Rattle.light_rows.specs.Nodes.{LightBVHNode, nodeWords, nodePlace, nodeList, headFits}
-use Rattle.light_rows.specs.Nodes.{nodeFits, nodeWritten}
+use Rattle.light_rows.specs.Nodes.{LightBVHNode, nodeWords, nodePlace, nodeList}
+use Rattle.light_rows.specs.AsCoded.NodeRow.{headFits}
+use Rattle.light_rows.specs.AsCoded.NodeRow.{nodeFits, nodeWritten}
 use Rattle.light_rows.specs.AsCoded.NodeRow.{rowFits}
 
 -- three words, then the record

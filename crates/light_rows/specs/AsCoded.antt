@@ -1,2 +1,3 @@
 pub mod RecordRow
 pub mod NodeRow
+pub mod BlockRow

@@ -3,9 +3,8 @@
 use Prim.Native.Nat.{ℕ, _+_, _*_}
 use mathlib.Core.Bool.{Bool, cond, _&&_}
 use mathlib.Core.List.{List, _∷_}
-use lib.Dec.{leb, eqb}
+use lib.Dec.{eqb}
 use lib.ListN.{length, getD}
-use lib.Seq.{sets}
 use Rattle.words.specs.Answers.{Answer, given, refused, _then_}
 use Rattle.words.specs.Limits.{crowded}
 use Rattle.words.specs.Rows.{rowsFrom, below}
@@ -35,10 +34,6 @@ handlePlace i = 1 + boundsWords * i
 
 abbrev pub recordPlace : ℕ → ℕ
 recordPlace i = 2 + boundsWords * i
-
--- a row, its place as its handle; where there are too few words nothing is written
-unfoldable pub rowWritten : List ℕ → ℕ → LightBounds → List ℕ
-rowWritten ws i b = cond (leb (handlePlace i + boundsWords) (length ws)) (sets ws (handlePlace i) (boundsRow i b)) ws
 
 -- ---- read back
 

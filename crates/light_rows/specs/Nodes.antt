@@ -2,11 +2,10 @@
 -- with its handle below, and 10 at an interior node, with its left child. The layout of a node is said here alone.
 -- Definitions only. Assumes nothing.
 use Prim.Native.Nat.{ℕ, suc, _+_, _*_, _/_, _%_}
-use mathlib.Core.Bool.{Bool, cond, _&&_}
+use mathlib.Core.Bool.{cond}
 use mathlib.Core.List.{List, _∷_}
 use lib.Dec.{leb, ltb, eqb}
 use lib.ListN.{length, getD}
-use lib.Seq.{sets}
 use Rattle.words.specs.Answers.{Answer, given, refused}
 use Rattle.words.specs.Heads.{kindOf, handleOf}
 use Rattle.light_rows.specs.RecordWords.{recordAt, recordList, recordWords}
@@ -57,19 +56,6 @@ parent (interior l r p) = p
 
 unfoldable pub nodeList : LightBVHNode → LightBounds → List ℕ
 nodeList n b = headWord n ∷ rightChild n ∷ parent n ∷ recordList b
-
--- a head has thirty bits for a handle or a left child
-abbrev pub headFits : LightBVHNode → Bool
-headFits (leaf h p) = ltb h 0x4000_0000
-headFits (interior l r p) = ltb l 0x4000_0000
-
--- whether a node can be written at a place: its row is there, and its head has room for the handle or the left child
-unfoldable pub nodeFits : List ℕ → ℕ → LightBVHNode → Bool
-nodeFits ws i n = leb (nodePlace (suc i)) (length ws) && headFits n
-
--- where it cannot, nothing is
-unfoldable pub nodeWritten : List ℕ → ℕ → LightBVHNode → LightBounds → List ℕ
-nodeWritten ws i n b = cond (nodeFits ws i n) (sets ws (nodePlace i) (nodeList n b)) ws
 
 -- ---- read
 

@@ -6,7 +6,6 @@ use mathlib.Core.List.{List, [], _∷_, _++_}
 use lib.Dec.{leb}
 use lib.Ieee.{binary32, toBits}
 use lib.ListN.{length, getD}
-use lib.Seq.{sets}
 use Rattle.ieee.specs.Single.{single}
 use Rattle.words.specs.Answers.{Answer, given, refused}
 use Rattle.light_bounds.specs.LightBounds.{lightBounds}
@@ -79,7 +78,3 @@ restWords r =
 
 unfoldable pub recordList : LightBounds → List ℕ
 recordList r = vecWords (r .bounds .min) ++ vecWords (r .bounds .max) ++ vecWords (r .direction) ++ restWords r
-
--- where there are too few words nothing is written
-unfoldable pub writtenAt : List ℕ → ℕ → LightBounds → List ℕ
-writtenAt ws at r = cond (leb (at + recordWords) (length ws)) (sets ws at (recordList r)) ws

@@ -9,7 +9,8 @@ ghost use Rattle.ieee.specs.Single.{single};
 ghost use Rattle.words.specs.LittleEndian.{wordsOf};
 ghost use Rattle.light_rows.specs.AsCoded.RecordRow.{tripleAt, rowAt, vecOf, recordOf, judgedRow};
 ghost use Rattle.light_rows.specs.RecordWords.{recordWords, phiPlace, readRecord, recordAt, found, vecAt, boxAt};
-ghost use Rattle.light_rows.specs.RecordWords.{vecWords, restWords, recordList, writtenAt};
+ghost use Rattle.light_rows.specs.RecordWords.{vecWords, restWords, recordList};
+ghost use Rattle.light_rows.specs.AsCoded.RecordRow.{writtenAt};
 use light_bounds::bounds::Bounds3;
 use light_bounds::light_bounds::LightBounds;
 use light_bounds::side::is_side;
@@ -19,7 +20,7 @@ use light_bounds::vecmath::Vec3;
 use words::floats::f32_of_word;
 use words::floats::word_of_f32;
 use words::limits::fits;
-use words::little_endian::word_in;
+use words::little_endian::word_at;
 use words::places::word_or_zero;
 
 // The words of a record.
@@ -110,9 +111,9 @@ fn triple_in(bytes: &[u8], at: usize) -> Triple
     ensures { λ r. ⌜ r ≡ tripleAt (wordsOf (now (bytes .entry))) at ⌝ }
 {
     Triple {
-        x: word_in(bytes, at),
-        y: word_in(bytes, at + 1),
-        z: word_in(bytes, at + 2),
+        x: word_at(bytes, at),
+        y: word_at(bytes, at + 1),
+        z: word_at(bytes, at + 2),
     }
 }
 
@@ -124,10 +125,10 @@ fn row_in(bytes: &[u8], at: usize) -> Row
         min: triple_in(bytes, at),
         max: triple_in(bytes, at + MAX_PLACE),
         direction: triple_in(bytes, at + DIRECTION_PLACE),
-        phi: word_in(bytes, at + PHI_PLACE),
-        cos_theta_o: word_in(bytes, at + COS_THETA_O_PLACE),
-        cos_theta_e: word_in(bytes, at + COS_THETA_E_PLACE),
-        side: word_in(bytes, at + SIDE_PLACE),
+        phi: word_at(bytes, at + PHI_PLACE),
+        cos_theta_o: word_at(bytes, at + COS_THETA_O_PLACE),
+        cos_theta_e: word_at(bytes, at + COS_THETA_E_PLACE),
+        side: word_at(bytes, at + SIDE_PLACE),
     }
 }
 

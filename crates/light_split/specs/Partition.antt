@@ -4,10 +4,9 @@
 use Prim.Native.Nat.{ℕ, _/_}
 use mathlib.Core.Bool.{Bool, cond, not, _||_}
 use mathlib.Core.List.{List, _++_}
-use lib.Dec.{leb, ltb, eqb}
+use lib.Dec.{leb, eqb}
 use lib.ListN.{length, take, drop}
-use Rattle.words.specs.Lists.{kept, laid}
-use Rattle.words.specs.Answers.{Answer, given, refused}
+use Rattle.words.specs.Lists.{kept}
 use Rattle.light_bounds.specs.declared.bounds.Bounds3.{Bounds3}
 use Rattle.light_split.specs.Lights.{centroidEnds, bucketOf}
 use Rattle.light_split.specs.declared.split.Split.{Split}
@@ -32,16 +31,3 @@ partitionHandles ws hs s =
     let r = rights ws hs s in
     let middle = length (l ++ r) / 2 in
     cond (eqb (length l) 0 || eqb (length r) 0) (take middle (l ++ r), drop middle (l ++ r)) (l, r)
-
--- ---- in place, by a lent work that is at least as long as the stretch or refusal 3
-
--- how many go left
-unfoldable pub partedCount : List ℕ → List ℕ → Split → ℕ → Answer ℕ
-partedCount ws hs s room = cond (ltb room (length hs)) (refused 3) (given (length (partitionHandles ws hs s .0)))
-
--- the stretch: the left half, then the right
-unfoldable pub partedHandles : List ℕ → List ℕ → Split → ℕ → List ℕ
-partedHandles ws hs s room = cond (ltb room (length hs)) hs (partitionHandles ws hs s .0 ++ partitionHandles ws hs s .1)
-
-unfoldable pub partedWork : List ℕ → List ℕ → Split → List ℕ → List ℕ
-partedWork ws hs s work = cond (ltb (length work) (length hs)) work (laid (rights ws hs s) work)

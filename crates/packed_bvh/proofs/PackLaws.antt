@@ -11,9 +11,10 @@ use lib.Dec.{ltb, leb, eqb}
 use lib.ListN.{length, getD, drop, length-append}
 use lib.Seq.{sets, sets-eq, length-sets}
 use Rattle.words.specs.Answers.{Answer, given, refused, _then_}
-use Rattle.words.specs.Fill.{filled}
+use Rattle.words.specs.AsCoded.Fill.{filled}
 use Rattle.words.specs.Heads.{kindOf}
-use Rattle.words.specs.LittleEndian.{bytesOf, bytesOfWord, setWord, wordsOf}
+use Rattle.words.specs.LittleEndian.{bytesOf, bytesOfWord, wordsOf}
+use Rattle.words.specs.AsCoded.WordSlices.{setWord}
 use Rattle.words.specs.Tray.{tray}
 use Rattle.words.specs.Laws.TrayLaws.{tray-full, tray-early}
 use Rattle.words.proofs.AnswerLaws.{Early, Late, then-given, only-given, only-refused, only-cond, only-then}

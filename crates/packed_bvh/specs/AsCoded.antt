@@ -1,1 +1,3 @@
 pub mod PackedParts
+pub mod Decoded
+pub mod PackedRead

@@ -4,12 +4,11 @@
 use Prim.Native.Nat.{ℕ}
 use mathlib.Core.Bool.{Bool, cond}
 use lib.Dec.{ltb}
-use lib.IntN.{pos}
-use lib.Ieee.{Float, binary32, ofInt, lt, eq}
+use lib.Ieee.{Float, binary32, lt, eq}
 use Rattle.ieee.specs.Choose.{clamp, fabs, isSignNegative}
 use Rattle.ieee.specs.Single.{_⊕_, _⊖_, _⊗_, _⊘_, single, zerof, half, onef, twof, minusOne}
 use Rattle.ieee.specs.Whole.{floor, ceil, roundAway, toU16, toU32}
-use Rattle.light_bounds.specs.Vecmath.{vec, divided, vecLength}
+use Rattle.light_bounds.specs.Vecmath.{vec, divided}
 use Rattle.light_bounds.specs.declared.vecmath.Vec3.{Vec3}
 
 -- 65535, the last step of sixteen bits, and 32767, that of fifteen
@@ -58,18 +57,3 @@ quantizeAxis c =
 -- `encode_octahedral`: two steps
 unfoldable pub encodeOctahedral : Vec3 → ℕ × ℕ
 encodeOctahedral v = (quantizeAxis (octahedral v .x), quantizeAxis (octahedral v .y))
-
--- ---- a packed direction read
-
--- 2 × (q / 65535) - 1
-unfoldable pub axisOf : ℕ → Float
-axisOf q = twof ⊗ (ofInt binary32 (pos q) ⊘ lastStep) ⊖ onef
-
-unfoldable pub unfolded : Float → Float → Vec3
-unfolded a b =
-    let z = onef ⊖ (fabs a ⊕ fabs b) in
-    cond (lt z zerof) (vec ((onef ⊖ fabs b) ⊗ sign a) ((onef ⊖ fabs a) ⊗ sign b) z) (vec a b z)
-
--- the direction that two steps stand for
-unfoldable pub decodeOctahedral : ℕ → ℕ → Vec3
-decodeOctahedral q r = let v = unfolded (axisOf q) (axisOf r) in divided v (vecLength v)

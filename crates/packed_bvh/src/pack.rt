@@ -9,7 +9,7 @@ ghost use lib.Seq.{sets};
 ghost use Rattle.words.specs.Answers.{counted, refused};
 ghost use Rattle.words.specs.Refusals.{number};
 ghost use Rattle.words.specs.LittleEndian.{wordsOf, bytesOf};
-ghost use Rattle.words.specs.Fill.{filled};
+ghost use Rattle.words.specs.AsCoded.Fill.{filled};
 ghost use Rattle.words.specs.Tray.{tray};
 ghost use Rattle.light_bounds.specs.Bounds.{allBoundsOf};
 ghost use Rattle.light_rows.specs.Nodes.{leaf, interior, invalidIndex};

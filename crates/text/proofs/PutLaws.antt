@@ -12,7 +12,8 @@ use lib.ListN.{length, getD, take, drop, set, length-set, length-append}
 use lib.Seq.{sets, sets-eq, set-comm, append-snoc, take-suc, take-at, length-take-le, take-length}
 use Rattle.io.specs.Digits.{digits, glyph}
 use Rattle.words.specs.Answers.{Answer, given, refused}
-use Rattle.words.specs.LittleEndian.{bytesOf, writtenWords}
+use Rattle.words.specs.LittleEndian.{bytesOf}
+use Rattle.words.specs.AsCoded.WordSlices.{writtenWords}
 use Rattle.words.specs.Tray.{tray}
 use Rattle.words.specs.Laws.TrayLaws.{tray-full, tray-early}
 use Rattle.words.proofs.AnswerLaws.{given-injective, refused-injective, not-both}

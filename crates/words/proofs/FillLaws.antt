@@ -6,7 +6,7 @@ use native.Mathlib.Nat.{sub-self, le-refl}
 use native.Mathlib.Omega.{arith}
 use lib.ListN.{length, take, drop, set, replicate, length-append}
 use lib.ListN.{length-take, length-replicate, length-set, replicate-append-replicate, take-append-drop}
-use Rattle.words.specs.Fill.{filled}
+use Rattle.words.specs.AsCoded.Fill.{filled}
 use Rattle.words.proofs.Stores.{stored}
 
 -- a stretch that lies within the slice

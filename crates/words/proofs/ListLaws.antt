@@ -8,7 +8,8 @@ use native.Mathlib.Numerals.{add-one}
 use native.Mathlib.Omega.{arith}
 use lib.ListN.{length, getD, take, drop, set, replicate, length-append, drop-of-length-le}
 use lib.Seq.{drop-cons, take-suc, getD-append-add, getD-drop}
-use Rattle.words.specs.Lists.{folded, kept, laid, reversed, lastOf}
+use Rattle.words.specs.Lists.{folded, kept, reversed}
+use Rattle.words.specs.AsCoded.ListParts.{laid, lastOf}
 use Rattle.words.proofs.Stores.{stored}
 
 -- ---- every item of a list has the property

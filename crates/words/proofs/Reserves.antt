@@ -7,7 +7,7 @@ use borrow.Author.Tests.{lt-leb}
 use lib.ListN.{length, drop, replicate}
 use lib.Seq.{take-all}
 use Rattle.words.specs.Answers.{given, refused}
-use Rattle.words.specs.Fill.{filled}
+use Rattle.words.specs.AsCoded.Fill.{filled}
 use Rattle.words.specs.Tray.{tray}
 use Rattle.words.specs.Laws.TrayLaws.{tray-full}
 use Rattle.words.proofs.FillLaws.{filled-within}

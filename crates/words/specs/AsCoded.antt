@@ -1,1 +1,4 @@
 pub mod Walks
+pub mod ListParts
+pub mod WordSlices
+pub mod Fill

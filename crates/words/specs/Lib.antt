@@ -3,7 +3,6 @@ pub mod Refusals
 pub mod Limits
 pub mod Heads
 pub mod LittleEndian
-pub mod Fill
 pub mod Tray
 pub mod Rows
 pub mod Lists

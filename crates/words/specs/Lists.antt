@@ -5,7 +5,6 @@ use Prim.Native.Nat.{ℕ, _+_}
 use mathlib.Core.Bool.{Bool, cond}
 use mathlib.Core.List.{List, [], _∷_, _++_}
 use lib.Dec.{leb, eqb}
-use lib.ListN.{length, drop}
 
 -- a step for each item of a list, from left to right
 unfoldable pub folded : {A B : Type 0} → (B → A → B) → B → List A → B
@@ -17,20 +16,10 @@ unfoldable pub kept : {A : Type 0} → (A → Bool) → List A → List A
 kept test [] = []
 kept test (x ∷ xs) = cond (test x) (x ∷ kept test xs) (kept test xs)
 
--- a list written over the front of another
-abbrev pub laid : {A : Type 0} → List A → List A → List A
-laid xs ys = xs ++ drop (length xs) ys
-
 -- the last first
 unfoldable pub reversed : {A : Type 0} → List A → List A
 reversed [] = []
 reversed (x ∷ xs) = reversed xs ++ (x ∷ [])
-
--- the last one, 0 for an empty list
-unfoldable pub lastOf : List ℕ → ℕ
-lastOf [] = 0
-lastOf (i ∷ []) = i
-lastOf (i ∷ j ∷ is) = lastOf (j ∷ is)
 
 -- ---- the sort, by insertion
 

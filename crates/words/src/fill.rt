@@ -1,6 +1,6 @@
-// Filling and zeroing a stretch of a lent slice (specs/Fill.antt).
+// Filling and zeroing a stretch of a lent slice (specs/AsCoded/Fill.antt).
 ghost use mathlib.Core.Path.{_≡_};
-ghost use Rattle.words.specs.Fill.{filled};
+ghost use Rattle.words.specs.AsCoded.Fill.{filled};
 
 // Writes v from place `from` up to, not including, place `to`, as far as the slice goes.
 pub fn fill_words(s: &mut [u32], from: usize, to: usize, v: u32)

@@ -2,7 +2,8 @@
 ghost use mathlib.Core.Path.{_≡_};
 ghost use Prim.Native.Nat.{ℕ, _*_, _/_, _<_};
 ghost use lib.ListN.{getD, length};
-ghost use Rattle.words.specs.LittleEndian.{wordsOf, bytesOf, setWord, wordCount, readWords, writtenWords};
+ghost use Rattle.words.specs.LittleEndian.{wordsOf, bytesOf};
+ghost use Rattle.words.specs.AsCoded.WordSlices.{setWord, wordCount, readWords, writtenWords};
 ghost use Rattle.words.specs.Answers.{counted};
 ghost use Rattle.words.specs.Tray.{tray};
 use super::answers::Counted;
@@ -20,7 +21,7 @@ pub fn word_count(bytes: &[u8]) -> Counted
 }
 
 // The word at a place that is known to be within the bytes.
-pub fn word_in(bytes: &[u8], place: usize) -> u32
+fn word_in(bytes: &[u8], place: usize) -> u32
     requires { ⌜ place < length (now bytes) / 4 ⌝ }
     ensures { λ r. ⌜ r ≡ getD (wordsOf (now (bytes .entry))) place 0 ⌝ }
 {

@@ -74,7 +74,10 @@ pub fn none(arguments: &[String]) -> Result<(), String> {
 /// In place of a part that needs the reference.
 #[cfg(not(reference))]
 pub fn absent(_: &[String]) -> Ended {
-    eprintln!("The reference, ../shared/docs, is absent, and with it what this part runs against.");
+    eprintln!(
+        "The reference was absent when this program was built: ../shared/docs, or the folder that \
+        COLTOCTOBER_REFERENCE names. There is nothing to hold the proved functions against."
+    );
     Ok(false)
 }
 

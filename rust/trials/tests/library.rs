@@ -8,7 +8,8 @@ use trials::inputs::records::{Vector, query_at};
 use trials::inputs::trees::{built, lent, reserves};
 use trials::inputs::walks::bytes;
 use trials::proved::{
-    alias_build_power_alias_table, lamps_build_light_bounds, packed_by_value, sampler_pmf, sampler_sample, tree_build_light_bvh,
+    NUMBERS, alias_build_power_alias_table, lamps_build_light_bounds, packed_by_value, sampler_pmf, sampler_sample,
+    tree_build_light_bvh,
 };
 use trials::stored::PATTERN;
 
@@ -163,7 +164,7 @@ fn walks(random: &mut Random, tree: &LightTree, bvh: &pbrt::LightBVH, Built { no
 #[test]
 fn rooms() {
     let mut random = Random::new(1);
-    let (mut refused, mut lost, mut trees, mut drawn) = ([0; 14], [0; 14], 0, 0);
+    let (mut refused, mut lost, mut trees, mut drawn) = ([0; NUMBERS], [0; NUMBERS], 0, 0);
     for _ in 0..20_000 {
         let count = random.below(4) + random.below(4) * random.below(8);
         let lamps: Vec<Lamp> = (0..count).map(|_| lamp(&mut random)).collect();

@@ -50,15 +50,29 @@ fn misfits<A: Answer>(lengths: &[usize]) {
     }
 }
 
-/// A bit of an answer's word changed, in the first case and in the last: that case differs and no other.
+/// A word behind a list that is shorter than a case has room for.
+#[test]
+fn words_without_use() {
+    use trials::stored::lamps::{LIST, Stored};
+
+    let mut case = first_case::<Stored>();
+    assert!((case[2] as usize) < LIST);
+    case[2 + 3 + LIST - 1] ^= 1;
+    refused::<Stored>(&case, 0, "a word that it has no use for is not as it is stored");
+}
+
+/// A bit of an answer's word changed, in the first case of each kind and in the last case of all: that case
+/// differs and no other.
 fn found_out<A: Answer>(places: &[usize]) {
-    let bytes = std::fs::read(A::LIST.path()).unwrap();
-    for (case, place) in [1, A::LIST.count].into_iter().flat_map(|case| places.iter().map(move |place| (case, place))) {
+    let (bytes, [first, last], size) = (std::fs::read(A::LIST.path()).unwrap(), A::LIST.kinds, A::LIST.case_bytes());
+    let of_kind = |kind: u32| bytes.chunks(size).position(|case| case[..4] == kind.to_le_bytes()).expect("a case of each kind");
+    let cases: Vec<usize> = (first..=last).map(of_kind).chain([A::LIST.count - 1]).collect();
+    for (case, place) in cases.into_iter().flat_map(|case| places.iter().map(move |place| (case, place))) {
         let mut wrong = bytes.clone();
-        wrong[(case - 1) * A::LIST.case_bytes() + 8 + 4 * place] ^= 1;
+        wrong[case * size + 8 + 4 * place] ^= 1;
         let stored: Vec<A> = read(&wrong).unwrap();
-        let places: Vec<usize> = changed(&stored, A::proved).into_iter().map(|(place, ..)| place).collect();
-        assert_eq!(places, [case], "{} word {place}", A::LIST.part);
+        let differ: Vec<usize> = changed(&stored, A::proved).into_iter().map(|(place, ..)| place).collect();
+        assert_eq!(differ, [case + 1], "{} word {place}", A::LIST.part);
     }
 }
 

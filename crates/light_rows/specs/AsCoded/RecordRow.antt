@@ -2,7 +2,7 @@
 use Prim.Native.Nat.{ℕ, _+_}
 use mathlib.Core.Bool.{cond}
 use mathlib.Core.List.{List}
-use lib.ListN.{getD}
+use lib.ListN.{getD, length}
 use Rattle.ieee.specs.Single.{single}
 use Rattle.words.specs.Answers.{Answer, given, refused}
 use Rattle.light_bounds.specs.LightBounds.{lightBounds}
@@ -10,9 +10,12 @@ use Rattle.light_bounds.specs.Side.{sideKnown, sideOf}
 use Rattle.light_bounds.specs.Vecmath.{vec}
 use Rattle.light_bounds.specs.declared.light_bounds.LightBounds.{LightBounds}
 use Rattle.light_bounds.specs.declared.vecmath.Vec3.{Vec3}
-use Rattle.light_rows.specs.RecordWords.{maxPlace, directionPlace, phiPlace, cosOPlace, cosEPlace, sidePlace}
+use Rattle.light_rows.specs.RecordWords.{maxPlace, directionPlace, phiPlace, cosOPlace}
+use Rattle.light_rows.specs.RecordWords.{cosEPlace, sidePlace, recordWords, recordList}
 use Rattle.light_rows.specs.declared.record_words.Row.{Row}
 use Rattle.light_rows.specs.declared.record_words.Triple.{Triple}
+use lib.Dec.{leb}
+use lib.Seq.{sets}
 
 abbrev pub tripleAt : List ℕ → ℕ → Triple
 tripleAt ws at = record { x = getD ws at 0; y = getD ws (at + 1) 0; z = getD ws (at + 2) 0 }
@@ -40,3 +43,7 @@ recordOf w =
 -- the record, or refusal n where the side is unknown
 abbrev pub judgedRow : ℕ → Row → Answer LightBounds
 judgedRow n w = cond (sideKnown (w .side)) (given (recordOf w)) (refused n)
+
+-- where there are too few words nothing is written
+unfoldable pub writtenAt : List ℕ → ℕ → LightBounds → List ℕ
+writtenAt ws at r = cond (leb (at + recordWords) (length ws)) (sets ws at (recordList r)) ws

@@ -16,7 +16,8 @@ use Rattle.light_rows.specs.AsCoded.RecordRow.{tripleAt, rowAt, vecOf, r
 use Rattle.light_rows.specs.RecordWords.{recordWords, recordAt, readRecord, vecAt}
 use Rattle.light_rows.specs.RecordWords.{vecWords, restWords, recordList}
 use Rattle.light_rows.specs.RecordWords.{maxPlace, directionPlace, phiPlace, cosOPlace}
-use Rattle.light_rows.specs.RecordWords.{cosEPlace, sidePlace, writtenAt}
+use Rattle.light_rows.specs.RecordWords.{cosEPlace, sidePlace}
+use Rattle.light_rows.specs.AsCoded.RecordRow.{writtenAt}
 use Rattle.light_bounds.specs.Side.{sideKnown}
 use Rattle.light_bounds.specs.Vecmath.{vec}
 use Rattle.light_bounds.specs.declared.light_bounds.LightBounds.{LightBounds}

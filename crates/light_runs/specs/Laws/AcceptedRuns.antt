@@ -28,7 +28,8 @@ use Rattle.tree_laws.specs.Laws.AcceptedTree.{Parts}
 use Rattle.light_runs.specs.Laws.AcceptedWalks.{draw-nothing, draw-walk, name-walk}
 use Rattle.light_runs.specs.DemandWords.{FromZeroToOne, InOrder, nodes, table, Draws, drawEnters, nameEnters}
 use Rattle.tree_laws.specs.TreeWords.{placeOf}
-use Rattle.words.specs.Lists.{reversed, lastOf}
+use Rattle.words.specs.Lists.{reversed}
+use Rattle.words.specs.AsCoded.ListParts.{lastOf}
 use Rattle.light_runs.specs.Laws.DownLaws.{weighed-not-below}
 use Rattle.light_runs.specs.Laws.FromTo.{from-to}
 use Rattle.light_runs.specs.Laws.RunLaws.{cap, walk-last, walk-between}

@@ -12,7 +12,7 @@ use lib.Dec.{T, T-not, not-T}
 use lib.IntN.{pos}
 use lib.Ieee.{Float, nan, inf, fin, binary32, lt, le, isNan, ofBits, add, sub, neg, div, fits}
 use lib.Ieee.Scale.{finite}
-use Rattle.words.specs.Lists.{lastOf}
+use Rattle.words.specs.AsCoded.ListParts.{lastOf}
 use Rattle.ieee.specs.Single.{_⊕_, _⊖_, _⊗_, _⊘_, zerof, onef}
 use Rattle.ieee.specs.Choose.{fmin}
 use Rattle.ieee.specs.Laws.OrderLaws.{nonneg, nonneg-known, nonneg-up, nonneg→le, finite-below, le-refl, le-trans}

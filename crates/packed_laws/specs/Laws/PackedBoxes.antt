@@ -27,7 +27,7 @@ use Rattle.ieee.specs.Single.{_⊖_, _⊗_, _⊘_, single, zerof, onef}
 use Rattle.ieee.specs.Whole.{negative, outward, nextWhole, floor, ceil, toU32}
 use Rattle.ieee.specs.Laws.WholeLaws.{toUnsigned-units}
 use Rattle.ieee.specs.Laws.WholeNumbers.{outward-small, outward-under, outward-over, nextWhole-value}
-use Rattle.packed_bvh.specs.PackedRead.{stepBack}
+use Rattle.packed_bvh.specs.AsCoded.PackedRead.{stepBack}
 use Rattle.packed_bvh.specs.Quantize.{lastStep, stepsOf, quantizeBounds}
 use Rattle.packed_bvh.specs.Laws.QuantizeLaws.{Portion, clamped, portion-steps}
 

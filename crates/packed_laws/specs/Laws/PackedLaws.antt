@@ -29,7 +29,7 @@ use Rattle.packed_bvh.specs.Packed.{packedReserve, packCheck, agreed, packedTre
 use Rattle.packed_bvh.specs.Quantize.{quantizeBounds}
 use Rattle.packed_bvh.specs.Laws.QuantizeLaws.{quantize-small}
 use Rattle.packed_bvh.proofs.PackLaws.{count-known}
-use Rattle.packed_bvh.specs.PackedRead.{readNode, readBox, boxAt, boxSteps}
+use Rattle.packed_bvh.specs.AsCoded.PackedRead.{readNode, readBox, boxAt, boxSteps}
 
 -- ---- a node
 

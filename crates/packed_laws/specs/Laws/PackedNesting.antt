@@ -25,7 +25,7 @@ use Rattle.packed_bvh.specs.Packed.{packLightBvh}
 use Rattle.packed_bvh.specs.Quantize.{quantizeBounds}
 use Rattle.packed_laws.specs.Laws.OverallBox.{Axis, Proper, record-low, overall-proper, node-within}
 use Rattle.packed_laws.specs.Laws.PackedLaws.{packed-header, packed-box}
-use Rattle.packed_bvh.specs.PackedRead.{boxAt, boxSteps, StepHolds}
+use Rattle.packed_bvh.specs.AsCoded.PackedRead.{boxAt, boxSteps, StepHolds}
 use Rattle.packed_laws.specs.Laws.StepsOrder.{quantize-mono}
 
 -- ---- boxes

@@ -19,7 +19,8 @@ use Rattle.words.specs.Answers.{given}
 use Rattle.light_rows.specs.Laws.RecordLaws.{RecordFits}
 use Rattle.light_bounds.specs.declared.light_bounds.LightBounds.{LightBounds}
 use Rattle.light_rows.specs.Nodes.{LightBVHNode, leaf as leafNode, interior, invalidIndex, nodePlace, nodeList}
-use Rattle.light_rows.specs.Nodes.{headFits, nodeAt, boundsAt}
+use Rattle.light_rows.specs.Nodes.{nodeAt, boundsAt}
+use Rattle.light_rows.specs.AsCoded.NodeRow.{headFits}
 use Rattle.light_rows.specs.Tree.{Tree, leaf, fork, bounds, leaves, leafHandles, rightPlace, flatten, treeWords}
 use Rattle.light_rows.specs.Laws.TreeLaws.{leaves-pos, root, root-at, root-bounds-at, left-place, right-place}
 use Rattle.light_bvh.specs.Build.{tabled}

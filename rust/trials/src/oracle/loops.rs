@@ -57,7 +57,7 @@ pub struct Fork {
     pub weights: [f32; 2],
 }
 
-/// The part of both walks: what they go over, and where they were.
+/// What both walks share: what they go over, and where they were.
 struct Walker<'a> {
     links: &'a [Link],
     weigh: Weigh<'a>,

@@ -14,6 +14,9 @@ pub use c::{
     sqrt64, to_u16, to_u32, to_usize, widen, word_of_f32, word_of_f64,
 };
 
+/// One more than the greatest number of a refusal; 0 stands for an answer given.
+pub const NUMBERS: usize = 14;
+
 /// The word at a place, 0 past the last whole word.
 pub fn word_at(bytes: &[u8], place: usize) -> u32 {
     unsafe { c::words_word_at(bytes.as_ptr(), bytes.len(), place) }

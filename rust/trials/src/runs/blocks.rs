@@ -3,12 +3,12 @@
 use super::progress::turns;
 use crate::inputs::blocks::check_block;
 use crate::inputs::random::Random;
-use crate::proved;
+use crate::proved::{self, NUMBERS};
 
 /// Counts the cases by their number.
-pub fn blocks(seed: u64, cases: u64) -> [u64; 14] {
+pub fn blocks(seed: u64, cases: u64) -> [u64; NUMBERS] {
     let mut random = Random::new(seed);
-    let mut counts = [0; 14];
+    let mut counts = [0; NUMBERS];
     for _ in turns("blocks", cases) {
         let block = random.block();
         let expected = check_block(&block);

@@ -2,6 +2,7 @@
 //! tells apart.
 
 use crate::oracle::reference::{BRANCHES, Branches, REFUSALS};
+use crate::proved::NUMBERS;
 use std::time::Instant;
 
 /// Not a difference: what the reference would answer with Rust's own library functions.
@@ -13,7 +14,7 @@ pub struct Tally {
     pub cases: u64,
     pub differences: u64,
     /// Counts by refusal's number; 0 counts the answers given.
-    pub answers: [u64; 14],
+    pub answers: [u64; NUMBERS],
     /// Counts by label: the reference's branches and errors, then what else the run tells apart.
     pub labels: Vec<(String, u64)>,
     /// The first differences.

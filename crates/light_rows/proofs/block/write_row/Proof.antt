@@ -6,7 +6,8 @@ use denote.Ref.{now}
 use borrow.Author.Tests.{leb-true}
 use lib.Dec.{leb}
 use lib.ListN.{length}
-use Rattle.light_rows.specs.Block.{boundsWords, handlePlace, rowWritten}
+use Rattle.light_rows.specs.Block.{boundsWords, handlePlace}
+use Rattle.light_rows.specs.AsCoded.BlockRow.{rowWritten}
 use borrow.Author.Needs.{needs}
 use Rattle.light_rows.proofs.block.write_row.Statement.{statement}
 use Rattle.light_rows.proofs.block.write_row.Tie as tie

@@ -8,7 +8,7 @@ returns c =
     let phi = c .before .before .before in
     let box = phi .before .before in
     rw (box .before .triple-in .ensures, box .triple-in2 .ensures, phi .before .triple-in3 .ensures)
-    (rw (phi .word-in .ensures, c .before .before .word-in2 .ensures, c .before .word-in3 .ensures, c .word-in4 .ensures))
+    (rw (phi .word-at .ensures, c .before .before .word-at2 .ensures, c .before .word-at3 .ensures, c .word-at4 .ensures))
 
 pub row-in-spec : {M : Type 1} → statement M
 row-in-spec =

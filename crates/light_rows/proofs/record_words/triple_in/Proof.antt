@@ -4,7 +4,7 @@ use Rattle.light_rows.proofs.record_words.triple_in.Statement.{statemen
 use Rattle.light_rows.proofs.record_words.triple_in.Tie as tie
 
 returns : tie.Need-returns
-returns c = rw (c .before .before .word-in .ensures, c .before .word-in2 .ensures, c .word-in3 .ensures)
+returns c = rw (c .before .before .word-at .ensures, c .before .word-at2 .ensures, c .word-at3 .ensures)
 
 pub triple-in-spec : {M : Type 1} → statement M
 triple-in-spec =

@@ -2,7 +2,7 @@
 use mathlib.Core.Path.{sym, _∙_}
 use denote.Ref.{now}
 use borrow.Author.Tests.{leb-true}
-use Rattle.light_rows.specs.RecordWords.{writtenAt}
+use Rattle.light_rows.specs.AsCoded.RecordRow.{writtenAt}
 use borrow.Author.Needs.{needs}
 use Rattle.light_rows.proofs.record_words.write_record.Statement.{statement}
 use Rattle.light_rows.proofs.record_words.write_record.Tie as tie

@@ -9,7 +9,8 @@ use borrow.Author.Tests.{eqb-true, eqb-false}
 use denote.Ref.{now}
 use lib.ListN.{length}
 use Rattle.words.specs.Answers.{given}
-use Rattle.light_split.specs.Partition.{partitionHandles, partedCount, partedHandles, partedWork}
+use Rattle.light_split.specs.Partition.{partitionHandles}
+use Rattle.light_split.specs.AsCoded.Parted.{partedCount, partedHandles, partedWork}
 use Rattle.light_split.proofs.PartitionLaws.{Parted, parted-of, parted-rejoined, parted-short}
 use Rattle.light_split.proofs.PartitionLaws.{parted-long, partition-half, partition-both}
 use borrow.Author.Needs.{needs}

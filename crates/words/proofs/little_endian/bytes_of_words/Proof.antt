@@ -7,7 +7,8 @@ use borrow.Author.Needs.{needs}
 use borrow.Author.Tests.{lt-ltb, le-leb, lt-leb}
 use native.Mathlib.Omega.{arith}
 use lib.ListN.{length, getD}
-use Rattle.words.specs.LittleEndian.{bytesOf, bytesOfWord, setWord, writtenWords}
+use Rattle.words.specs.LittleEndian.{bytesOf, bytesOfWord}
+use Rattle.words.specs.AsCoded.WordSlices.{setWord, writtenWords}
 use Rattle.words.specs.Tray.{tray}
 use Rattle.words.proofs.LittleEndianLaws.{length-bytesOf, bytesOf-at}
 use Rattle.words.proofs.Stores.{Copied, copied-none, copied-run}

@@ -4,7 +4,7 @@ use borrow.Author.Tests.{lt-ltb, le-ltb}
 use native.Mathlib.Numerals.{towards-suc}
 use native.Mathlib.Omega.{arith}
 use lib.ListN.{length-set}
-use Rattle.words.specs.LittleEndian.{setWord}
+use Rattle.words.specs.AsCoded.WordSlices.{setWord}
 use Rattle.words.proofs.little_endian.set_word.Statement.{statement}
 use Rattle.words.proofs.little_endian.set_word.Tie as tie
 

@@ -1,6 +1,6 @@
 -- `words::little_endian::word_count`: its test is the definition's. Assumes nothing.
 use borrow.Author.Tests.{eq-eqb, ne-eqb}
-use Rattle.words.specs.LittleEndian.{wordCount}
+use Rattle.words.specs.AsCoded.WordSlices.{wordCount}
 use Rattle.words.proofs.little_endian.word_count.Statement.{statement}
 use Rattle.words.proofs.little_endian.word_count.Tie as tie
 

@@ -7,7 +7,8 @@ use borrow.Author.Tests.{eq-eqb, ne-eqb, le-leb, lt-leb}
 use native.Mathlib.Omega.{arith}
 use lib.ListN.{length}
 use Rattle.words.specs.Answers.{_then_}
-use Rattle.words.specs.LittleEndian.{wordsOf, wordCount, readWords}
+use Rattle.words.specs.LittleEndian.{wordsOf}
+use Rattle.words.specs.AsCoded.WordSlices.{wordCount, readWords}
 use Rattle.words.specs.Tray.{tray}
 use Rattle.words.proofs.LittleEndianLaws.{length-wordsOf}
 use Rattle.words.proofs.Stores.{Copied, copied-none, copied-one}

@@ -24,21 +24,23 @@ use Rattle.light_rows.specs.RecordWords.{readRecord, recordAt, recordWords, sid
 use Rattle.light_bounds.specs.Side.{sideKnown}
 use Rattle.light_bounds.specs.declared.light_bounds.LightBounds.{LightBounds}
 use Rattle.light_rows.specs.Nodes.{LightBVHNode, leaf as leafNode, interior, nodeWords, nodePlace, boundsPlace}
-use Rattle.light_rows.specs.Nodes.{boundsAt, nodeList, headFits, nodeWritten}
+use Rattle.light_rows.specs.Nodes.{boundsAt, nodeList}
+use Rattle.light_rows.specs.AsCoded.NodeRow.{headFits, nodeWritten}
 use Rattle.light_rows.specs.Tree.{Tree, leaf, fork, bounds, leaves, flatten, rightPlace}
 use Rattle.light_rows.specs.Laws.TreeLaws.{length-nodeList, length-flatten, root-bounds-at}
 use Rattle.light_rows.proofs.NodePlaces.{nodeWritten-room}
 use Rattle.light_split.specs.Lights.{lightOf}
-use Rattle.light_split.specs.Partition.{lefts, rights, partitionHandles, partedCount, partedHandles}
+use Rattle.light_split.specs.Partition.{lefts, rights, partitionHandles}
+use Rattle.light_split.specs.AsCoded.Parted.{partedCount, partedHandles}
 use Rattle.light_split.specs.Split.{chooseSplit}
 use Rattle.light_split.specs.declared.split.Split.{Split}
 use Rattle.light_split.proofs.PartitionLaws.{both-lengths, partition-joined, partition-half, partition-both}
-use Rattle.light_bvh.specs.Subtree.{labelOf, forked, treeBy, buildSubtree}
-use Rattle.light_bvh.specs.AsCoded.Stretches.{subtree, done, subtreeWords}
-use Rattle.light_bvh.specs.AsCoded.Stretches.{splitCount, splitHandles, unionAt, joinedWords}
-use Rattle.light_bvh.specs.declared.subtree.Subtree.{Subtree}
-use Rattle.light_bvh.specs.declared.subtree.Subtree.the-variants.{Built, Lost}
-use Rattle.light_bvh.proofs.LostLaws.{ten-split}
+use Rattle.light_subtree.specs.Subtree.{labelOf, forked, treeBy, buildSubtree}
+use Rattle.light_subtree.specs.AsCoded.Stretches.{subtree, done, subtreeWords}
+use Rattle.light_subtree.specs.AsCoded.Stretches.{splitCount, splitHandles, unionAt, joinedWords}
+use Rattle.light_subtree.specs.declared.subtree.Subtree.{Subtree}
+use Rattle.light_subtree.specs.declared.subtree.Subtree.the-variants.{Built, Lost}
+use Rattle.light_subtree.proofs.LostLaws.{ten-split}
 
 -- ---- the halves
 

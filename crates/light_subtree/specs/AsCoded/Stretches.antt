@@ -7,13 +7,14 @@ use Rattle.words.specs.Answers.{Answer, given, refused, _then_}
 use Rattle.light_bounds.specs.LightBounds.{union}
 use Rattle.light_bounds.specs.declared.light_bounds.LightBounds.{LightBounds}
 use Rattle.light_rows.specs.RecordWords.{readRecord}
-use Rattle.light_rows.specs.Nodes.{interior, boundsPlace, nodeWritten}
+use Rattle.light_rows.specs.Nodes.{interior, boundsPlace}
+use Rattle.light_rows.specs.AsCoded.NodeRow.{nodeWritten}
 use Rattle.light_rows.specs.Tree.{Tree, flatten}
 use Rattle.light_split.specs.Partition.{partitionHandles}
 use Rattle.light_split.specs.Split.{chooseSplit}
 use Rattle.light_split.specs.declared.split.Split.{Split}
-use Rattle.light_bvh.specs.declared.subtree.Subtree.{Subtree}
-use Rattle.light_bvh.specs.declared.subtree.Subtree.the-variants.{Built, Lost}
+use Rattle.light_subtree.specs.declared.subtree.Subtree.{Subtree}
+use Rattle.light_subtree.specs.declared.subtree.Subtree.the-variants.{Built, Lost}
 
 -- what the enum `Subtree` answers: the tree stands in the nodes, or 10
 abbrev pub subtree : Subtree → Answer (Unit {0})

@@ -1,0 +1,2 @@
+pub mod LostLaws
+pub mod SubtreeLaws

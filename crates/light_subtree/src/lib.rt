@@ -1,0 +1,2 @@
+// The recursion of the build: a stretch of handles to its nodes.
+pub mod subtree;
