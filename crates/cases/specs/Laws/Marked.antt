@@ -43,7 +43,7 @@ use Rattle.light_split.specs.Split.{combinedBounds, better, cuts, axis, chooseS
 use Rattle.light_split.specs.Partition.{goesLeft, goesRight, lefts, rights, partitionHandles}
 use Rattle.light_split.specs.AsCoded.Parted.{partedCount}
 use Rattle.light_split.specs.AsCoded.Parted.{partedHandles, partedWork}
-use Rattle.light_subtree.specs.Subtree.{forked, treeBy, buildSubtree}
+use Rattle.light_bvh.specs.Subtree.{forked, treeBy, buildSubtree}
 use Rattle.light_bvh.specs.Build.{LightBVH, boundedHandles, grown, allBounds, validated, treeOf, builtBvh, buildCheck}
 use Rattle.light_bvh.specs.Build.{buildLightBvh, nodesWritten, tabled}
 use Rattle.light_bvh.specs.Build.{tableWritten}
