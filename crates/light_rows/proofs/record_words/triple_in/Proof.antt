@@ -7,4 +7,6 @@ returns : tie.Need-returns
 returns c = rw (c .before .before .word-at .ensures, c .before .word-at2 .ensures, c .word-at3 .ensures)
 
 pub triple-in-spec : {M : Type 1} → statement M
-triple-in-spec = tie.close (tie.spec (λ c. search needs) (λ c. search needs) returns)
+triple-in-spec =
+    tie.close (tie.spec (λ c κs. search needs) (λ c. search needs) (λ c κs. search needs) (λ c. search needs)
+    (λ c κs. search needs) returns)
