@@ -26,7 +26,7 @@ use Rattle.light_split.specs.Lights.{lightOf, centroidEnds}
 use Rattle.light_split.specs.Partition.{goesLeft, goesRight, lefts, rights, partitionHandles}
 use Rattle.light_split.specs.Split.{chooseSplit}
 use Rattle.light_split.specs.declared.split.Split.{Split}
-use Rattle.light_subtree.specs.Subtree.{labelOf, forked, treeBy, buildSubtree}
+use Rattle.light_bvh.specs.Subtree.{labelOf, forked, treeBy, buildSubtree}
 use Rattle.light_bvh.specs.Build.{isPowered, boundedHandles, grown, allBounds}
 use Rattle.light_bvh.specs.Build.{LightBVH, treeOf, validated, builtBvh}
 use Rattle.light_bvh.specs.Build.{buildCheck, buildLightBvh}

@@ -17,7 +17,7 @@ use Rattle.light_rows.specs.Block.{blockLayout, blockHandles}
 use Rattle.light_rows.specs.Nodes.{nodeWords, invalidIndex}
 use Rattle.light_rows.specs.Tree.{Tree, leaf, fork, rightPlace, treeWords}
 use Rattle.light_split.specs.Lights.{lightOf}
-use Rattle.light_subtree.specs.Subtree.{buildSubtree}
+use Rattle.light_bvh.specs.Subtree.{buildSubtree}
 use Rattle.light_bvh.specs.declared.build.Built.{Built}
 use Rattle.light_bvh.specs.declared.build.Built.the-variants.{Tree as Built·Tree, Nothing, Refused}
 

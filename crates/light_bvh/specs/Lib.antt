@@ -1,2 +1,3 @@
+pub mod Subtree
 pub mod Build
 pub mod AsCoded

@@ -15,6 +15,8 @@ ghost use Rattle.light_bvh.specs.Build.{isPowered, boundedHandles, grown
 ghost use Rattle.light_bvh.specs.Build.{builtBvh, nodesReserve, workReserve, isShort, buildCheck, buildLightBvh};
 ghost use Rattle.light_bvh.specs.Build.{nodesWritten, tableWritten, workWritten, summary, built};
 ghost use Rattle.light_bvh.specs.AsCoded.Tables.{tabledBelow};
+use super::subtree::Subtree;
+use super::subtree::build_subtree;
 use light_bounds::bounds::AllBounds;
 use light_bounds::bounds::Bounds3;
 use light_bounds::bounds::Validity;
@@ -28,8 +30,6 @@ use light_rows::block::light_phi;
 use light_rows::nodes::INVALID_INDEX;
 use light_rows::nodes::NODE_WORDS;
 use light_rows::nodes::head_at;
-use light_subtree::subtree::Subtree;
-use light_subtree::subtree::build_subtree;
 use words::answers::Counted;
 use words::fill::fill_words;
 use words::fill::zero_words;

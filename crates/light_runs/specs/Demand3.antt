@@ -1,5 +1,5 @@
--- Demand 3, of the definitions of build, draw and chance by name: what docs/REQUIREMENTS.md R8 says of it
--- its Agreement, a field a sentence (`Demand3`), and that it holds of every block that build accepts (`demand-3`).
+-- Demand 3, of the definitions of build, draw and chance by name: what docs/REQUIREMENTS.md R8 says of it, a
+-- field a sentence (`Demand3`), and that it holds of every block that build accepts (`demand-3`).
 -- Beside it, in a planner's words: the u that draw a lamp are those from one float to another, perhaps none
 -- (`u-from-to`). Demand 3 speaks of the nodes' words alone; of the whole tray that build leaves them in, with zeros
 -- behind, draws and chances are the same where a lamp has power (`tray-same`), and 12 where none has (`tray-dark`).

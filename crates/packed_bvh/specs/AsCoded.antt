@@ -1,3 +1,2 @@
 pub mod PackedParts
-pub mod Decoded
 pub mod PackedRead

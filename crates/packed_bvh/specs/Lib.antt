@@ -1,4 +1,5 @@
 pub mod Quantize
+pub mod Decoded
 pub mod Packed
 pub mod AsCoded
 pub mod Laws

@@ -16,7 +16,7 @@ use Rattle.light_split.specs.Partition.{lefts, rights}
 use Rattle.light_split.specs.Split.{chooseSplit}
 use Rattle.light_split.specs.declared.split.Split.{Split}
 use Rattle.light_bvh.specs.Build.{LightBVH, boundedHandles, allBounds, validated, buildCheck}
-use Rattle.light_subtree.specs.Subtree.{labelOf}
+use Rattle.light_bvh.specs.Subtree.{labelOf}
 use Rattle.words.specs.Lists.{sorted}
 
 -- `sorted = left; sorted.extend(right); sorted.sort_unstable(); mid = sorted.len() / 2`

@@ -1,8 +1,8 @@
-//! The trials: what holds the proved functions to document 01 and to the reference, at any size and speed.
+//! The trials: what holds the proved functions to docs/REQUIREMENTS.md and to the reference, at any size and speed.
 //! Nothing here ships.
 //!
 //! - `proved`: the proved functions behind safe names, and the proved programs.
-//! - `oracle`: what they are held to: document 01's library functions in Rust, and the reference compiled
+//! - `oracle`: what they are held to: the library functions of R2 in Rust, and the reference compiled
 //!   over them.
 //! - `inputs`: what they are given.
 //! - `runs`: the one held to the other over many inputs; the tests and the program `run` call these.

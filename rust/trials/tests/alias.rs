@@ -30,7 +30,7 @@ fn bins(weights: &[f32]) -> Vec<[u32; 3]> {
     bins.as_chunks().0.to_vec()
 }
 
-/// Document 01's case and the corners of sums: no power, a weight -0, a sum past the largest f32.
+/// R14.9 and the corners of sums: no power, a weight -0, a sum past the largest f32.
 #[test]
 fn marked_weights() {
     let (half, one, none) = (0x3f00_0000, 0x3f80_0000, u32::MAX);

@@ -1,5 +1,5 @@
-//! The differential runs of the gate: the proved cosines and arcs against document 01's, the proved bounds
-//! against the oracle.
+//! The differential runs of the gate: the proved cosines and arcs against the stand-ins (R2.9 to R2.13), the
+//! proved bounds against the oracle.
 
 use trials::inputs::random::Random;
 use trials::proved;

@@ -1,5 +1,5 @@
 //! The differential runs of the gate: the proved packing against the oracle over built and damaged words.
-//! Document 01's marked cases and others known by hand are asked of the proved functions, and of the oracle
+//! The marked cases (R14) and others known by hand are asked of the proved functions, and of the oracle
 //! where it is there.
 
 use trials::inputs::packing::{Case, Corners, Packed, reserve};
@@ -26,7 +26,7 @@ impl Tree {
         Tree { words, k: k as usize, all }
     }
 
-    /// Document 01's pair.
+    /// The pair of R14.
     fn pair() -> Tree {
         Tree::new(&[([0.0; 3], 1.0), ([2.0, 0.0, 0.0], 1.0)])
     }
@@ -57,7 +57,7 @@ impl Tree {
     }
 }
 
-/// Document 01's marked cases.
+/// The marked cases (R14.5 to R14.7).
 #[test]
 fn marked_cases() {
     let pair = Tree::pair();

@@ -83,7 +83,7 @@ fn named(records: &[Record], p: [f32; 3], handle: u32) -> Chance {
     pmf(&Words::built(build_light_bvh, records).unwrap().tree(), &query_at(p, [0.0; 3]), handle)
 }
 
-/// Document 01's pair, every word of its tree; and with the places exchanged.
+/// The pair of R14, every word of its tree; and with the places exchanged.
 #[test]
 fn pair() {
     let [first, second] = the_pair();
@@ -103,7 +103,7 @@ fn pair() {
     assert_eq!((answer.1.unwrap()[1], nodes[0][4]), (0, 1 << 31));
 }
 
-/// Document 01's draws of the pair, and with no nodes.
+/// The draws of the pair and with no nodes (R14.1 to R14.3).
 #[test]
 fn draws() {
     let (pair, p, half) = (the_pair(), [1.0, 0.0, 1.0], 0x3f00_0000);

@@ -77,7 +77,7 @@ fn words(records: &[Record]) -> Words {
     Words::built(build_light_bvh, records).unwrap()
 }
 
-/// Document 01's pair.
+/// The pair of R14.
 fn the_pair() -> Words {
     words(&[point([0.0; 3], 1.0), point([2.0, 0.0, 0.0], 1.0)])
 }
@@ -110,7 +110,7 @@ fn refused(words: &Words, query: &Query, u: u32, handle: u32, number: u32) {
     named(&words.tree(), query, handle, Err(number));
 }
 
-/// Document 01's pair, and no nodes.
+/// The pair of R14, and no nodes.
 #[test]
 fn pair() {
     let (pair, query) = (the_pair().tree(), query_at([1.0, 0.0, 1.0], [0.0; 3]));

@@ -43,7 +43,7 @@ use Rattle.light_split.specs.Split.{combinedBounds, better, cuts, axis, chooseS
 use Rattle.light_split.specs.Partition.{goesLeft, goesRight, lefts, rights, partitionHandles}
 use Rattle.light_split.specs.AsCoded.Parted.{partedCount}
 use Rattle.light_split.specs.AsCoded.Parted.{partedHandles, partedWork}
-use Rattle.light_subtree.specs.Subtree.{forked, treeBy, buildSubtree}
+use Rattle.light_bvh.specs.Subtree.{forked, treeBy, buildSubtree}
 use Rattle.light_bvh.specs.Build.{LightBVH, boundedHandles, grown, allBounds, validated, treeOf, builtBvh, buildCheck}
 use Rattle.light_bvh.specs.Build.{buildLightBvh, nodesWritten, tabled}
 use Rattle.light_bvh.specs.Build.{tableWritten}
@@ -54,7 +54,7 @@ use Rattle.light_sampler.specs.Sampler.{sample, pmf, sampleCheck, fromRoot, sam
 use Rattle.light_sampler.specs.Sampler.{pmfWalk}
 use Rattle.packed_bvh.specs.Quantize.{stepsOf, quantizeBounds, quantizeCos, sign, folded as foldedQuantize, octahedral}
 use Rattle.packed_bvh.specs.Quantize.{quantizeAxis, encodeOctahedral}
-use Rattle.packed_bvh.specs.AsCoded.Decoded.{axisOf, unfolded, decodeOctahedral}
+use Rattle.packed_bvh.specs.Decoded.{axisOf, unfolded, decodeOctahedral}
 use Rattle.packed_bvh.specs.Packed.{compactWords, payloadCheck, parentCheck, leftCheck, packNode, packNodes, packCheck}
 use Rattle.packed_bvh.specs.Packed.{agreed, packedTree, packLightBvh}
 use Rattle.alias_table.specs.AliasTable.{Bin, binWords, anyBad, sumFrom, filledIn, total, push, pushAll, start, update}

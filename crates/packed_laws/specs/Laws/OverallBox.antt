@@ -32,7 +32,7 @@ use Rattle.light_rows.specs.Laws.TreeLaws.{boundsAt-past}
 use Rattle.light_split.specs.Lights.{lightOf}
 use Rattle.light_bvh.specs.Build.{isPowered, boundedHandles, grown, allBounds, validated, LightBVH, treeOf, builtBvh}
 use Rattle.light_bvh.specs.Build.{buildCheck, buildLightBvh, nodesWritten}
-use Rattle.light_subtree.specs.Subtree.{buildSubtree}
+use Rattle.light_bvh.specs.Subtree.{buildSubtree}
 use Rattle.light_bvh.proofs.RowsLaws.{all-halves, bounds-there}
 use Rattle.words.proofs.ListLaws.{All, all-map, all-append, none-all}
 use Rattle.tree_laws.specs.Laws.AcceptedTree.{Parts, accepted-parts, treeOf-built, accepted-none, accepted-read}

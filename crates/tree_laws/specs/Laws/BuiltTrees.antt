@@ -14,7 +14,7 @@ use Rattle.light_split.specs.Lights.{lightOf}
 use Rattle.light_split.specs.Partition.{partitionHandles}
 use Rattle.light_split.specs.Split.{chooseSplit}
 use Rattle.light_split.specs.declared.split.Split.{Split}
-use Rattle.light_subtree.specs.Subtree.{labelOf, forked, treeBy, buildSubtree}
+use Rattle.light_bvh.specs.Subtree.{labelOf, forked, treeBy, buildSubtree}
 
 module _ (ws : List ℕ) (Q : List ℕ → Tree → Type 0)
     (at-leaf : (h : ℕ) → Q (h ∷ []) (leaf (labelOf ws h) (lightOf ws h)))

@@ -18,9 +18,9 @@ use Rattle.light_rows.specs.Tree.{Tree, leaf, fork, leaves, leafHandles, treeWo
 use Rattle.light_rows.specs.Laws.TreeLaws.{leaves-pos, length-flatten}
 use Rattle.light_split.specs.Lights.{lightOf}
 use Rattle.light_bvh.specs.Build.{isPowered, boundedHandles}
-use Rattle.light_subtree.specs.Subtree.{labelOf, buildSubtree}
+use Rattle.light_bvh.specs.Subtree.{labelOf, buildSubtree}
 use Rattle.tree_laws.specs.Laws.BuiltTrees.{built-holds}
-use Rattle.light_subtree.proofs.SubtreeLaws.{build-size}
+use Rattle.light_bvh.proofs.SubtreeLaws.{build-size}
 use Rattle.light_bvh.proofs.RowsLaws.{label-is, all-halves, bounded-below}
 use Rattle.words.proofs.ListLaws.{All, all-map}
 use Rattle.tree_laws.specs.Laws.StretchLaws.{halves-count}

@@ -19,7 +19,7 @@ use Rattle.light_rows.specs.Block.{recordPlace}
 use Rattle.light_rows.specs.Tree.{Tree, leaf, fork, bounds}
 use Rattle.light_split.specs.Lights.{lightOf}
 use Rattle.light_bvh.specs.Build.{isPowered, boundedHandles, validated}
-use Rattle.light_subtree.specs.Subtree.{buildSubtree}
+use Rattle.light_bvh.specs.Subtree.{buildSubtree}
 use Rattle.tree_laws.specs.Laws.BuiltTrees.{built-holds}
 use Rattle.light_bvh.proofs.RowsLaws.{all-halves}
 use Rattle.words.proofs.ListLaws.{All, all-append}

@@ -17,7 +17,7 @@ use Rattle.light_split.specs.Split.{chooseSplit}
 use Rattle.light_split.specs.declared.split.Split.{Split}
 use Rattle.light_bvh.specs.Build.{boundedHandles, validated, treeOf}
 use Rattle.light_bvh.specs.Build.{builtBvh, buildCheck, buildLightBvh}
-use Rattle.light_subtree.specs.Subtree.{forked, treeBy, buildSubtree}
+use Rattle.light_bvh.specs.Subtree.{forked, treeBy, buildSubtree}
 use Rattle.tree_laws.specs.Laws.StretchLaws.{sort-changes-nothing}
 use Rattle.words.proofs.OrderedLists.{Ascends}
 use Rattle.words.proofs.ListLaws.{no-length}

@@ -22,7 +22,7 @@ use Rattle.light_split.proofs.PartitionLaws.{goes-right, partition-joined}
 use Rattle.light_bvh.specs.Build.{isPowered, boundedHandles}
 use Rattle.light_bvh.proofs.RowsLaws.{bounded-below}
 use Rattle.words.proofs.ListLaws.{no-length}
-use Rattle.light_subtree.proofs.SubtreeLaws.{halves, halves-sum}
+use Rattle.light_bvh.proofs.SubtreeLaws.{halves, halves-sum}
 
 -- ---- the handles of the powered lamps
 

@@ -1,4 +1,4 @@
-//! Lamp lists: their layout as document 01 has it, and lists for the runs, random, degenerate and damaged.
+//! Lamp lists: their layout (R4.1 to R4.3), and lists for the runs, random, degenerate and damaged.
 
 use crate::inputs::random::Random;
 use crate::inputs::records::{ABOVE_1, SMALLEST, UNFIT, Vector, bits};

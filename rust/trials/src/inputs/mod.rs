@@ -1,6 +1,6 @@
 //! What the runs take: random numbers, and from them the arguments of each function, random, special,
-//! degenerate and damaged; with the layouts of records, lists, blocks, nodes and packed words as document 01
-//! has them.
+//! degenerate and damaged; with the layouts of records, lists, blocks, nodes and packed words as
+//! docs/REQUIREMENTS.md has them.
 
 pub mod blocks;
 pub mod floats;

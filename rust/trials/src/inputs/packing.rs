@@ -63,7 +63,7 @@ impl Unpacked {
     }
 }
 
-/// The direction that two numbers of 16 bits stand for, as document 01 says it, at length 1.
+/// The direction that two numbers of 16 bits stand for (R9.9), at length 1.
 fn unfolded(q: [u32; 2]) -> [f64; 3] {
     unit(outward(q.map(|q| 2.0 * (f64::from(q) / 65535.0) - 1.0)))
 }

@@ -1,4 +1,4 @@
-//! Trees: a node's layout as document 01 has it, what build is lent, and blocks for its runs, random,
+//! Trees: a node's layout (R5.6), what build is lent, and blocks for its runs, random,
 //! degenerate and damaged.
 
 use crate::inputs::blocks::block_of;
@@ -57,7 +57,7 @@ fn record_of([low, high]: [Vector; 2], direction: Vector, cones: Vector, side: u
     record
 }
 
-/// A lamp as document 01's pair has them, but for its box and its power.
+/// A lamp as the pair of R14 has them, but for its box and its power.
 pub fn all_about(low: Vector, high: Vector, phi: f32) -> Record {
     record_of([low, high], [0.0, 0.0, 1.0], [phi, -1.0, 0.0], 0)
 }

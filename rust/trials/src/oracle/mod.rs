@@ -1,5 +1,5 @@
-//! The oracle: document 01's library functions and angles written again in Rust, the reference compiled over
-//! them, and what of the walks and of the packing is document 01's own. Without the reference only the first
+//! The oracle: the library functions and angles of R2 written again in Rust, the reference compiled over
+//! them, and what of the walks and of the packing is ours alone. Without the reference only the first
 //! two are there.
 
 #[cfg(reference)]

@@ -1,6 +1,6 @@
 //! The oracle's packing over words.
 //!
-//! The checks of lengths (2, 1, 3) and the rule for lent bytes are document 01's own. Behind them stands the
+//! The checks of lengths (2, 1, 3) and the rule for lent bytes are ours alone (R9.2, R12). Behind them stands the
 //! reference's `pack_light_bvh` itself, on the nodes that the words decode to. No node of the Rust has an
 //! unknown kind or side: where some words make one, the reference packs twice, with a node in its place that
 //! it refuses with one message, then with another. Where its two answers differ it came to that node, and the

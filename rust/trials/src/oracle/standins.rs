@@ -1,4 +1,4 @@
-//! Document 01's library functions, written from its sentences on bit patterns and independent of std's.
+//! The library functions of docs/REQUIREMENTS.md R2, written from its lines on bit patterns, without std's.
 //! The differential runs link these.
 
 /// The word a float is stored as: every NaN is 7fc00000.

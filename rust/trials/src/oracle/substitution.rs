@@ -43,14 +43,14 @@ pub const PACKED_BORROWED: &[Pair] = &[
     ),
 ];
 
-/// Rust's one error of the overall box, told apart where document 01 has 5 before 6.
+/// Rust's one error of the overall box, told apart where R12.3 has 5 before 6.
 pub const PACKED_BOX: &[Pair] =
     &[("PbrtError::error(\"Global Light BVH bounds are invalid.\")", "super::invalid_box(bounds.min, bounds.max)")];
 
 /// An error of a union within a group, told apart from the record's own check.
 pub const LOST: &[Pair] = &[("existing.union(current)?", "existing.union(current).map_err(super::lost)?")];
 
-/// The same of a union within a tree, where document 01 has one number for Rust's error at a node and its
+/// The same of a union within a tree, where R5.4 has one number for Rust's error at a node and its
 /// panic in a split: what panics there gives the error on.
 pub const BVH_LOST: &[Pair] = &[
     (
@@ -74,13 +74,13 @@ pub const BVH_LOST: &[Pair] = &[
     ("choose_split(&handles, light_bounds);", "choose_split(&handles, light_bounds)?;"),
 ];
 
-/// A walk's index past the end, where Rust panics, gives an error on; document 01 has one number for both.
+/// A walk's index past the end, where Rust panics, gives an error on; R11.12 has one number for both.
 pub const BVH_PAST: &[Pair] = &[
     ("bvh.nodes[left as usize].bounds()", "bvh.nodes.get(left as usize).ok_or_else(super::past_left)?.bounds()"),
     ("bvh.nodes[right as usize].bounds()", "bvh.nodes.get(right as usize).ok_or_else(super::past_right)?.bounds()"),
 ];
 
-/// The oracle only: document 01's library functions in place of Rust's own.
+/// The oracle only: the library functions of R2 in place of Rust's own.
 pub const LIBRARY: &[Pair] = &[
     ("use std::collections::HashSet;", "use std::collections::HashSet;\nuse super::Standin;"),
     (".min(", ".standin_min("),
@@ -253,7 +253,7 @@ pub const PACKED_MARKS: &[Pair] = &[
     ),
 ];
 
-/// `angle_between` of sampling.rs, by value as document 01 has it.
+/// `angle_between` of sampling.rs, by value (R2.8).
 pub const BY_VALUE: &[Pair] =
     &[("a: &Vector3f, b: &Vector3f", "a: Vector3f, b: Vector3f"), ("*a", "a"), ("*b", "b"), ("Float::asin(", "asin(")];
 

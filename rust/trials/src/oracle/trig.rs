@@ -1,4 +1,4 @@
-//! Document 01's cos, sin, acos and asin, step by step in f64 as its sentences say, on the stand-ins for
+//! cos, sin, acos and asin, step by step in f64 as R2.9 to R2.13 say, on the stand-ins for
 //! narrowing and roots.
 
 use crate::oracle::standins::{narrow, sqrt64, widen};

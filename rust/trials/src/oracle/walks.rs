@@ -1,6 +1,6 @@
 //! The oracle's draws and chances by name over words.
 //!
-//! The checks of lengths (2, 1) are document 01's own. Behind them stand the reference's functions
+//! The checks of lengths (2, 1) are ours alone (R6.1, R7.1). Behind them stand the reference's functions
 //! themselves, on the nodes that the words decode to; the decoder is ours. Where a rule of ours applies,
 //! which the reference does not have, the walks of `loops` stand in their place, with the reference's own
 //! `importance`; today that is where some node has an unknown kind or side, which no node of the Rust can
@@ -55,7 +55,7 @@ impl Decoded {
         self.lengths[0] / NODE_BYTES
     }
 
-    /// Document 01's own: 2 of any length before 1 of any.
+    /// Ours alone (R12.1): 2 of any length before 1 of any.
     fn check(&self, with_table: bool) -> Result<(), u32> {
         let [nodes, table] = self.lengths;
         let table = if with_table { table } else { 0 };

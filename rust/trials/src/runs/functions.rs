@@ -71,7 +71,7 @@ macro_rules! functions {
     };
 }
 
-/// Document 01 fixes the steps of cos, sin, acos and asin; Rust's own take others, and are no measure.
+/// R2.9 to R2.13 fix the steps of cos, sin, acos and asin; Rust's own take others, and are no measure.
 const OWN_ANGLES: bool = false;
 
 functions! {
@@ -105,7 +105,7 @@ impl Function {
         FUNCTIONS.iter().find(|f| f.name == name).unwrap_or_else(|| panic!("no function {name}"))
     }
 
-    /// Whether the case is a pair of unlike zeros. Document 01 gives the first; Rust leaves open which, and
+    /// Whether the case is a pair of unlike zeros. R2.4 gives the first; Rust leaves open which, and
     /// its answer changes with the code about the call.
     pub fn unlike_zeros(&self, case: &Case) -> bool {
         self.arguments == 2 && (case[0] | case[1]) == 1 << 31 && case[0] != case[1]

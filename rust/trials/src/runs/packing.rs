@@ -47,7 +47,7 @@ impl Reason {
     }
 }
 
-/// Every reason of a node, in document 01's order; of the record's own check the first. Written apart from the oracle.
+/// Every reason of a node, in R9.3's order; of the record's own check the first. Written apart from the oracle.
 fn reasons(node: &[u32; NODE], index: usize, count: usize) -> Vec<Reason> {
     let (kind, payload, [right, parent]) = (node[0] & !PAYLOAD, node[0] & PAYLOAD, [node[1], node[2]]);
     let mut record: Record = node[3..].try_into().unwrap();
@@ -77,7 +77,7 @@ fn box_reason(all: &Corners) -> Option<u32> {
     }
 }
 
-/// What a case is to be refused for, judged from document 01's table and apart from the reference: every
+/// What a case is to be refused for, judged from R9 and R11 and apart from the reference: every
 /// reason there is, in order.
 struct Judged {
     lengths: Vec<u32>,
@@ -189,7 +189,7 @@ fn node_flaw(node: &[u32; NODE], packed: &[u32; PACKED_NODE], all: &Corners) -> 
     None
 }
 
-/// What document 01 says of the answer and of the lent bytes that is not so after a call, if anything.
+/// What R9 and R12 say of the answer and of the lent bytes that is not so after a call, if anything.
 fn flaw(case: &Case, before: &Lent<u8>, after: &Lent<u8>, answer: &Packed, numbers: &[u32]) -> Option<&'static str> {
     let count = case.nodes.len() / NODE_BYTES;
     let reserve = match answer {

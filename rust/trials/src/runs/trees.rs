@@ -23,7 +23,7 @@ fn call(build: Build, case: &Case, trays: &mut Trays) -> Result<(), u32> {
     build(case.light_count, &case.block, trays.each_mut().map(Lent::slice))
 }
 
-/// What document 01 says of lent words that is not so after a call, if anything.
+/// What R12 says of lent words that is not so after a call, if anything.
 fn flaw(case: &Case, before: &Trays, after: &Trays, given: Result<(), u32>) -> Option<&'static str> {
     let written = match given {
         Err(1..=4) => [0; 4],

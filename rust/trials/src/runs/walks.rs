@@ -127,7 +127,7 @@ impl Plot<'_> {
     }
 }
 
-const BY_LENGTH: &str = "oracle: document 01's own check of lengths";
+const BY_LENGTH: &str = "oracle: our own check of lengths";
 const BY_REFERENCE: &str = "oracle: the reference itself";
 const BY_COPY: &str = "oracle: the copy of its loop, some word decodes to no node of the Rust";
 

@@ -1,4 +1,4 @@
-//! The errors of the reference and document 01's numbers for them.
+//! The errors of the reference and their numbers (docs/REQUIREMENTS.md R11).
 
 use super::branches::mark_error;
 
@@ -16,7 +16,7 @@ macro_rules! refusals {
     ($($number:literal $($name:ident =)? $message:literal;)*) => {
         $($(pub const $name: &str = $message;)?)*
 
-        /// Document 01's number for each error that the functions here can give.
+        /// The number (R11) for each error that the functions here can give.
         pub const REFUSALS: &[(&str, u32)] = &[$(($message, $number)),*];
     };
 }
@@ -52,7 +52,7 @@ refusals! {
     12 CHILDLESS_PARENT = "Light BVH PMF parent has no right child.";
     12 NOT_OWNED = "Light BVH PMF child is not owned by its parent.";
     12 SPENT_CHANCE = "Light BVH PMF exceeded its node limit.";
-    // document 01's own: no node of the Rust has such words
+    // ours alone (R11.12): no node of the Rust has such words
     12 UNKNOWN_NODE = "the node entered has an unknown kind";
     12 UNKNOWN_PARENT = "the parent has an unknown kind";
     12 UNKNOWN_SIDE = "the node weighed has an unknown side";
@@ -65,7 +65,7 @@ refusals! {
     13 "Light BVH payload exceeds the 31-bit packed index limit.";
     12 "Light BVH node {index} has an invalid parent.";
     12 "Light BVH nodes do not satisfy the DFS left-child invariant.";
-    // document 01's own
+    // ours alone (R11.12)
     12 PACKED_UNKNOWN_NODE = "a packed node has an unknown kind";
     12 PACKED_UNKNOWN_SIDE = "a packed node has an unknown side";
 }
@@ -90,10 +90,11 @@ pub(crate) fn lost(_: PbrtError) -> PbrtError {
 /// "a union's operand fails its check": any error of a union.
 pub const LOST_UNION: u32 = 10;
 
-/// "side unknown": document 01's own, since Rust's side is a bool. It comes before Rust's order.
+/// "side unknown": ours alone (R11.1), since Rust's side is a bool. It comes before Rust's order.
 pub const RAGGED: u32 = 1;
 
-/// "over 4,096 lamps by word 0, weights"; "a lent output or work slice is under its reserve": document 01's own.
+/// "over 4,096 lamps by word 0, weights"; "a lent output or work slice is under its reserve": ours alone
+/// (R11.2, R11.3).
 pub const CROWDED: u32 = 2;
 pub const SHORT_TRAY: u32 = 3;
 

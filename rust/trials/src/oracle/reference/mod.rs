@@ -1,5 +1,5 @@
 //! The reference, `light_bounds.rs`, both `light_bvh.rs` and `light_sampler.rs` of pbrt-r4, compiled from
-//! ../../shared/docs twice: as the oracle, with document 01's library functions put in (`substitution.rs`),
+//! ../../shared/docs twice: as the oracle, with the library functions of R2 put in (`substitution.rs`),
 //! and as it is, with Rust's own. Around the oracle: errors as numbers, branches as marks, records, lists,
 //! weights and trees as words, lent slices.
 

@@ -66,7 +66,7 @@ fn words_of(figures: [[f32; 3]; 4], two_sided: bool) -> Record {
 on_words!(oracle, validate, union, importance, oracle_of_words, oracle_to_words);
 on_words!(native, native_validate, native_union, native_importance, native_of_words, native_to_words);
 
-/// Document 01's rule for a lent slice after the checks that leave it alone: its reserve holds what is given,
+/// The rule for a lent slice (R12.5 to R12.7) after the checks that leave it alone: its reserve holds what is given,
 /// or zeros where that is refused; the words past it stay.
 fn lend(slice: &mut [u32], given: Result<&[u32], usize>) {
     match given {

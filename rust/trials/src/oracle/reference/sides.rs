@@ -1,4 +1,4 @@
-//! The reference's files, compiled twice: as the oracle, over document 01's library functions, and as they
+//! The reference's files, compiled twice: as the oracle, over the library functions of R2, and as they
 //! are, over Rust's own.
 
 use super::branches::{Branch, mark};
@@ -12,7 +12,7 @@ pub struct Light;
 /// No node and no lamp.
 pub const INVALID_INDEX: u32 = u32::MAX;
 
-/// Document 01's library functions as methods, under the names that `substitution.rs` puts in.
+/// The library functions of docs/REQUIREMENTS.md R2 as methods, under the names that `substitution.rs` puts in.
 macro_rules! standins {
     ($($name:ident($($other:ident),*) -> $answer:ty: $function:expr;)*) => {
         trait Standin {
@@ -119,7 +119,7 @@ macro_rules! files {
     };
 }
 
-/// The reference over document 01's library functions.
+/// The reference over the library functions of R2.
 #[allow(dead_code, clippy::all)]
 pub mod oracle {
     pub use super::INVALID_INDEX;

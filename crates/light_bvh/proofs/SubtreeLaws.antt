@@ -35,12 +35,12 @@ use Rattle.light_split.specs.AsCoded.Parted.{partedCount, partedHandles}
 use Rattle.light_split.specs.Split.{chooseSplit}
 use Rattle.light_split.specs.declared.split.Split.{Split}
 use Rattle.light_split.proofs.PartitionLaws.{both-lengths, partition-joined, partition-half, partition-both}
-use Rattle.light_subtree.specs.Subtree.{labelOf, forked, treeBy, buildSubtree}
-use Rattle.light_subtree.specs.AsCoded.Stretches.{subtree, done, subtreeWords}
-use Rattle.light_subtree.specs.AsCoded.Stretches.{splitCount, splitHandles, unionAt, joinedWords}
-use Rattle.light_subtree.specs.declared.subtree.Subtree.{Subtree}
-use Rattle.light_subtree.specs.declared.subtree.Subtree.the-variants.{Built, Lost}
-use Rattle.light_subtree.proofs.LostLaws.{ten-split}
+use Rattle.light_bvh.specs.Subtree.{labelOf, forked, treeBy, buildSubtree}
+use Rattle.light_bvh.specs.AsCoded.Stretches.{subtree, done, subtreeWords}
+use Rattle.light_bvh.specs.AsCoded.Stretches.{splitCount, splitHandles, unionAt, joinedWords}
+use Rattle.light_bvh.specs.declared.subtree.Subtree.{Subtree}
+use Rattle.light_bvh.specs.declared.subtree.Subtree.the-variants.{Built, Lost}
+use Rattle.light_bvh.proofs.LostLaws.{ten-split}
 
 -- ---- the halves
 

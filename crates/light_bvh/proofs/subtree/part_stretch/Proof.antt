@@ -1,14 +1,14 @@
--- `light_subtree::subtree::part_stretch`: a work as long as the stretch is never refused. Assumes nothing.
+-- `light_bvh::subtree::part_stretch`: a work as long as the stretch is never refused. Assumes nothing.
 use mathlib.Core.Path.{_≡_, sym, ap, _∙_}
 use denote.Ref.{now}
 use lib.ListN.{length}
 use Rattle.words.specs.Answers.{given, refused, _then_}
 use Rattle.light_split.specs.Split.{chooseSplit, chosen}
-use Rattle.light_subtree.specs.AsCoded.Stretches.{splitCount, splitHandles}
-use Rattle.light_subtree.proofs.SubtreeLaws.{parted-is}
+use Rattle.light_bvh.specs.AsCoded.Stretches.{splitCount, splitHandles}
+use Rattle.light_bvh.proofs.SubtreeLaws.{parted-is}
 use borrow.Author.Needs.{needs}
-use Rattle.light_subtree.proofs.subtree.part_stretch.Statement.{statement}
-use Rattle.light_subtree.proofs.subtree.part_stretch.Tie as tie
+use Rattle.light_bvh.proofs.subtree.part_stretch.Statement.{statement}
+use Rattle.light_bvh.proofs.subtree.part_stretch.Tie as tie
 
 returns : tie.Need-returns
 returns c =

@@ -16,7 +16,7 @@ use Rattle.light_split.specs.Lights.{lightOf, component, centroidEnds, bucketOf
 use Rattle.light_split.specs.Split.{noBest, combinedBounds, cuts, axis, chooseSplit}
 use Rattle.light_split.specs.declared.split.Best.{Best}
 use Rattle.light_split.proofs.BucketLaws.{union-refused}
-use Rattle.light_subtree.specs.AsCoded.Stretches.{unionAt}
+use Rattle.light_bvh.specs.AsCoded.Stretches.{unionAt}
 
 abbrev pub Ten : {A : Type 0} → Answer A → Type 0
 Ten x = Only (λ (n : ℕ). n ≡ 10) x

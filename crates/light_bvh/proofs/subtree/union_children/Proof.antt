@@ -1,8 +1,8 @@
--- `light_subtree::subtree::union_children`: the union of the records as they are read. Assumes nothing.
-use Rattle.light_subtree.specs.AsCoded.Stretches.{unionAt}
+-- `light_bvh::subtree::union_children`: the union of the records as they are read. Assumes nothing.
+use Rattle.light_bvh.specs.AsCoded.Stretches.{unionAt}
 use borrow.Author.Needs.{needs}
-use Rattle.light_subtree.proofs.subtree.union_children.Statement.{statement}
-use Rattle.light_subtree.proofs.subtree.union_children.Tie as tie
+use Rattle.light_bvh.proofs.subtree.union_children.Statement.{statement}
+use Rattle.light_bvh.proofs.subtree.union_children.Tie as tie
 
 returns : tie.Need-returns
 unfolding unionAt

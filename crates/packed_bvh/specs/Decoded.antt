@@ -1,4 +1,4 @@
--- The direction that two steps stand for, which laws cite. Definitions only. Assumes nothing.
+-- The direction that two steps of a packed node stand for. Definitions only. Assumes nothing.
 use Prim.Native.Nat.{ℕ}
 use mathlib.Core.Bool.{cond}
 use lib.IntN.{pos}

@@ -9,28 +9,28 @@ use denote.Ref.{now}
 use lib.ListN.{length, take, drop}
 use lib.Seq.{length-take-le}
 use Rattle.words.specs.Answers.{given, counted}
-use Rattle.light_subtree.specs.AsCoded.Stretches.{subtree, done, subtreeWords, splitCount}
-use Rattle.light_subtree.specs.declared.subtree.Subtree.{Subtree}
-use Rattle.light_subtree.specs.declared.subtree.Subtree.the-variants.{Built, Lost}
-use Rattle.light_subtree.proofs.SubtreeLaws.{cut-of, Stand, whole, leaf-left, lost-left, no-left}
-use Rattle.light_subtree.proofs.SubtreeLaws.{no-right, both-left, front-is, done-moved, words-moved}
-use Rattle.light_subtree.proofs.SubtreeLaws.{left-asks, right-asks, handlesLeft, nodesLeft}
-use Rattle.light_subtree.proofs.SubtreeLaws.{handles-left, nodes-left, front-length}
-use Rattle.light_subtree.proofs.SubtreeLaws.{back-is, back-length, root-length, nodes-are}
+use Rattle.light_bvh.specs.AsCoded.Stretches.{subtree, done, subtreeWords, splitCount}
+use Rattle.light_bvh.specs.declared.subtree.Subtree.{Subtree}
+use Rattle.light_bvh.specs.declared.subtree.Subtree.the-variants.{Built, Lost}
+use Rattle.light_bvh.proofs.SubtreeLaws.{cut-of, Stand, whole, leaf-left, lost-left, no-left}
+use Rattle.light_bvh.proofs.SubtreeLaws.{no-right, both-left, front-is, done-moved, words-moved}
+use Rattle.light_bvh.proofs.SubtreeLaws.{left-asks, right-asks, handlesLeft, nodesLeft}
+use Rattle.light_bvh.proofs.SubtreeLaws.{handles-left, nodes-left, front-length}
+use Rattle.light_bvh.proofs.SubtreeLaws.{back-is, back-length, root-length, nodes-are}
 use borrow.Rule.Slice.PartMut.{midOf, putMid, same-len-mid}
 use borrow.Author.Needs.{needs}
 use borrow.Fn.Kinds.{In}
 use borrow.Fn.PlainCycle.{Measures, is, falls, and}
-use Rattle.light_subtree.proofs.subtree.build_subtree.Reads as build-subtree
-use Rattle.light_subtree.proofs.subtree.build_subtree.Kinds as kinds
-use Rattle.light_subtree.proofs.subtree.+build_subtree.Lts-build_subtree as lts
-use Rattle.light_subtree.proofs.subtree.join_children.Reads as join-children-reads
-use Rattle.light_subtree.proofs.subtree.split_stretch.Reads as split-stretch-reads
+use Rattle.light_bvh.proofs.subtree.build_subtree.Reads as build-subtree
+use Rattle.light_bvh.proofs.subtree.build_subtree.Kinds as kinds
+use Rattle.light_bvh.proofs.subtree.+build_subtree.Lts-build_subtree as lts
+use Rattle.light_bvh.proofs.subtree.join_children.Reads as join-children-reads
+use Rattle.light_bvh.proofs.subtree.split_stretch.Reads as split-stretch-reads
 use Rattle.light_rows.proofs.nodes.write_leaf.Reads as write-leaf-reads
 use Rattle.light_rows.proofs.block.label.Reads as label-reads
 use Rattle.light_rows.proofs.block.light.Reads as light-reads
-use Rattle.light_subtree.proofs.subtree.+build_subtree.{statement}
-use Rattle.light_subtree.proofs.subtree.+build_subtree.Tie.{close}
+use Rattle.light_bvh.proofs.subtree.+build_subtree.{statement}
+use Rattle.light_bvh.proofs.subtree.+build_subtree.Tie.{close}
 
 abbrev μ : Measures 4 kinds.ps ℕ
 μ κs a = length (a .1 .0 .now)

@@ -1,10 +1,10 @@
 -- The union of the records at both places is written in front; where it is refused, it is by 10. Assumes nothing.
 use mathlib.Core.Path.{refl, sym, ap, _∙_}
 use Rattle.light_bounds.specs.LightBounds.{bounded}
-use Rattle.light_subtree.proofs.LostLaws.{union-lost}
+use Rattle.light_bvh.proofs.LostLaws.{union-lost}
 use borrow.Author.Needs.{needs}
-use Rattle.light_subtree.proofs.subtree.join_children.Statement.{statement}
-use Rattle.light_subtree.proofs.subtree.join_children.Tie as tie
+use Rattle.light_bvh.proofs.subtree.join_children.Statement.{statement}
+use Rattle.light_bvh.proofs.subtree.join_children.Tie as tie
 
 returns : tie.Need-returns
 returns c =

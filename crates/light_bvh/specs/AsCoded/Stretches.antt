@@ -13,8 +13,8 @@ use Rattle.light_rows.specs.Tree.{Tree, flatten}
 use Rattle.light_split.specs.Partition.{partitionHandles}
 use Rattle.light_split.specs.Split.{chooseSplit}
 use Rattle.light_split.specs.declared.split.Split.{Split}
-use Rattle.light_subtree.specs.declared.subtree.Subtree.{Subtree}
-use Rattle.light_subtree.specs.declared.subtree.Subtree.the-variants.{Built, Lost}
+use Rattle.light_bvh.specs.declared.subtree.Subtree.{Subtree}
+use Rattle.light_bvh.specs.declared.subtree.Subtree.the-variants.{Built, Lost}
 
 -- what the enum `Subtree` answers: the tree stands in the nodes, or 10
 abbrev pub subtree : Subtree → Answer (Unit {0})

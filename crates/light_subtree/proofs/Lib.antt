@@ -1,2 +1,0 @@
-pub mod LostLaws
-pub mod SubtreeLaws

@@ -1,2 +1,0 @@
-pub mod Subtree
-pub mod AsCoded
