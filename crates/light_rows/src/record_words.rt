@@ -26,6 +26,8 @@ use words::places::word_or_zero;
 // The words of a record.
 pub const RECORD_WORDS: usize = 13;
 
+const RECORD_BYTES: usize = 4 * RECORD_WORDS;
+
 // The places of a record's parts behind the box's min.
 const MAX_PLACE: usize = 3;
 
@@ -217,12 +219,14 @@ pub fn read_record(words: &[u32], at: usize) -> Found
     Found::Nothing
 }
 
-// The record at a place of the little-endian bytes of a tree: none is refusal 12.
+// The record at a place of the little-endian bytes of a tree: none is refusal 12. It is fetched from its own bytes: of a
+// part of known length no word is tested.
 pub fn read_record_bytes(bytes: &[u8], at: usize) -> Found
     ensures { λ r. ⌜ found 12 r ≡ recordAt 12 (wordsOf (now (bytes .entry))) at ⌝ }
 {
     if fits(bytes.len() / 4, at, RECORD_WORDS) {
-        return judged(row_in(bytes, at));
+        let from = 4 * at;
+        return judged(row_in(&bytes[from..from + RECORD_BYTES], 0));
     }
     Found::Nothing
 }

@@ -1,14 +1,16 @@
 -- Records at a place, as the code reads and writes them: whether there are words enough is settled first, then the
 -- words. Assumes nothing.
-use Prim.Native.Nat.{ℕ, _+_, _≤_}
+use Prim.Native.Nat.{ℕ, _+_, _*_, _/_, _≤_, _<_}
 use mathlib.Core.Path.{_≡_, refl, ap, sym, _∙_}
 use mathlib.Core.Bool.{Bool, true, false, and-false}
 use mathlib.Core.List.{List, [], _∷_, _++_}
 use native.Mathlib.Omega.{arith}
 use borrow.Author.Tests.{le-leb}
 use lib.Dec.{leb}
-use lib.ListN.{length, getD, List·getD-eq-default}
-use lib.Seq.{sets}
+use lib.ListN.{length, getD, take, drop, length-drop, List·getD-eq-default}
+use lib.Seq.{sets, getD-take, getD-drop, length-take-le}
+use Rattle.words.specs.LittleEndian.{wordsOf}
+use Rattle.words.proofs.LittleEndianLaws.{wordsOf-at}
 use Rattle.words.specs.Answers.{given, refused}
 use Rattle.words.proofs.Stores.{sets-append}
 use Rattle.ieee.specs.Single.{zerof}
@@ -61,6 +63,46 @@ module _ (ws : List ℕ) (at : ℕ) (h : length ws ≤ at) where
         «cos_theta_o» = word-past (cosOPlace at) (omega arith) j;
         «cos_theta_e» = word-past (cosEPlace at) (omega arith) j;
         side = word-past (sidePlace at) (omega arith) j;
+      }
+
+-- the bytes of a row alone hold the row
+module _ (bs : List ℕ) (at : ℕ) (h : at + recordWords ≤ length bs / 4) where
+  abbrev part : List ℕ
+  part = take (4 * recordWords) (drop (4 * at) bs)
+
+  part-length : length part ≡ 4 * recordWords
+  part-length = length-take-le (4 * recordWords) (drop (4 * at) bs) (rw length-drop (omega arith))
+
+  part-byte : (i j : ℕ) → i < 4 * recordWords → j ≡ 4 * at + i → getD part i 0 ≡ getD bs j 0
+  part-byte i j k e = getD-take (4 * recordWords) (drop (4 * at) bs) i 0 k ∙ getD-drop (4 * at) bs i 0 ∙ rw e
+
+  part-word : (k n : ℕ) → k < recordWords → n ≡ at + k → getD (wordsOf part) k 0 ≡ getD (wordsOf bs) n 0
+  part-word k n s e =
+      let byte : (i : ℕ) → i < 4 → getD part (4 * k + i) 0 ≡ getD bs (4 * n + i) 0 =
+      λ i f. part-byte (4 * k + i) (4 * n + i) (omega arith) (omega arith) in
+      wordsOf-at part k (rw part-length (omega arith))
+      ∙ rw (part-byte (4 * k) (4 * n) (omega arith) (omega arith), byte 1 (omega arith), byte 2 (omega arith))
+      (rw (byte 3 (omega arith)) refl)
+      ∙ sym (wordsOf-at bs n (omega arith))
+
+  part-triple : (k n : ℕ) → k + 2 < recordWords → n ≡ at + k → tripleAt (wordsOf part) k ≡ tripleAt (wordsOf bs) n
+  part-triple k n s e =
+      λ j. record {
+        x = part-word k n (omega arith) e j;
+        y = part-word (k + 1) (n + 1) (omega arith) (omega arith) j;
+        z = part-word (k + 2) (n + 2) (omega arith) (omega arith) j;
+      }
+
+  pub row-part : rowAt (wordsOf part) 0 ≡ rowAt (wordsOf bs) at
+  row-part =
+      λ j. record {
+        min = part-triple 0 at (omega arith) (omega arith) j;
+        max = part-triple (maxPlace 0) (maxPlace at) (omega arith) (omega arith) j;
+        direction = part-triple (directionPlace 0) (directionPlace at) (omega arith) (omega arith) j;
+        phi = part-word (phiPlace 0) (phiPlace at) (omega arith) (omega arith) j;
+        «cos_theta_o» = part-word (cosOPlace 0) (cosOPlace at) (omega arith) (omega arith) j;
+        «cos_theta_e» = part-word (cosEPlace 0) (cosEPlace at) (omega arith) (omega arith) j;
+        side = part-word (sidePlace 0) (sidePlace at) (omega arith) (omega arith) j;
       }
 
 -- ---- decoded
