@@ -1,11 +1,11 @@
 -- The loop that takes the bounds of each lamp and writes their rows behind the count: its state, one lamp more, and
 -- what is left at its end. Assumes nothing.
-use Prim.Native.Nat.{ℕ, suc, _+_, _*_, _≤_, _<_}
+use Prim.Native.Nat.{ℕ, _+_, _*_, _≤_, _<_}
 use mathlib.Core.Path.{_≡_, refl, ap, sym, _∙_}
 use mathlib.Core.List.{List, [], _∷_, _++_, append-nil}
 use native.Mathlib.Omega.{arith}
 use borrow.Author.Tests.{le-leb}
-use lib.ListN.{length, getD, set, drop, length-set, length-append}
+use lib.ListN.{length, getD, set, length-set}
 use lib.Seq.{sets, set-set, length-sets}
 use Rattle.words.specs.Answers.{given, refused, count}
 use Rattle.words.specs.AsCoded.Fill.{filled}

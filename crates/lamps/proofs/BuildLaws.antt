@@ -14,8 +14,7 @@ use Rattle.words.specs.Limits.{maxLamps, crowded}
 use Rattle.words.specs.Heads.{kindOf}
 use Rattle.words.specs.AsCoded.Walks.{gathered}
 use Rattle.words.proofs.AnswerLaws.{Early, Late, only-given, only-refused, only-cond}
-use Rattle.words.proofs.AnswerLaws.{only-then, only-number, then-given, given-injective, not-both}
-use Rattle.words.proofs.AnswerLaws.{count-given}
+use Rattle.words.proofs.AnswerLaws.{only-then, only-number, then-given, given-injective, not-both, count-given}
 use Rattle.words.proofs.LimitLaws.{few-lamps}
 use Rattle.words.proofs.RowLaws.{rows-length}
 use Rattle.light_bounds.specs.LightBounds.{areCosines}
@@ -31,13 +30,12 @@ use Rattle.lamps.specs.LampBounds.{validateEmission, checked, pointBound
 use Rattle.lamps.specs.LampBounds.{spotBounds, facedRecord, triangleAt, triangleRecord}
 use Rattle.lamps.specs.LampBounds.{joinNext, unionFrom, groupBounds, lightBoundsForInput}
 use Rattle.lamps.specs.LampList.{pointWords, spotWords, groupWords, triangleWords, lampAt}
-use Rattle.lamps.specs.LampList.{groupFits, lampsFrom, inPlace, placedLamps, lampList}
-use Rattle.lamps.specs.LampList.{trianglesOf}
+use Rattle.lamps.specs.LampList.{groupFits, lampsFrom, inPlace, placedLamps, lampList, trianglesOf}
 use Rattle.lamps.specs.declared.lamp_bounds.AreaTriangleInput.{AreaTriangleInput}
 use Rattle.lamps.specs.declared.lamp_list.Lamp.{Lamp}
 use Rattle.lamps.specs.declared.lamp_list.Lamp.the-variants.{Point, Spot, AreaGroup}
 use Rattle.lamps.specs.declared.lamp_list.Reading.{Reading}
-use Rattle.lamps.proofs.WalkLaws.{lampsFrom-length, boundsWalk, boundsWalk-all, allBounds-length}
+use Rattle.lamps.proofs.WalkLaws.{lampsFrom-length, boundsWalk, boundsWalk-all}
 
 -- ---- the lamps' figures: above 4
 

@@ -28,8 +28,7 @@ use Rattle.light_split.specs.Split.{chooseSplit}
 use Rattle.light_split.specs.declared.split.Split.{Split}
 use Rattle.light_bvh.specs.Subtree.{labelOf, forked, treeBy, buildSubtree}
 use Rattle.light_bvh.specs.Build.{isPowered, boundedHandles, grown, allBounds}
-use Rattle.light_bvh.specs.Build.{LightBVH, treeOf, validated, builtBvh}
-use Rattle.light_bvh.specs.Build.{buildCheck, buildLightBvh}
+use Rattle.light_bvh.specs.Build.{LightBVH, treeOf, validated, builtBvh, buildCheck, buildLightBvh}
 use Rattle.light_bvh.proofs.BuildLaws.{build-checked}
 use Rattle.light_bvh.proofs.TableLaws.{Labels}
 

@@ -23,8 +23,7 @@ use Rattle.text.specs.Text.{refusalLine}
 use Rattle.text.specs.AsCoded.Puts.{fitting, Put}
 use Rattle.text.proofs.PutLaws.{refusal-short, put-fits, put-then, handed}
 use Rattle.light_report.specs.Lines.{lineBytes, reportLines}
-use Rattle.light_report.specs.Report.{reportLamps, blockBytes, blockLamps, treeOf}
-use Rattle.light_report.specs.Report.{reportTree, headerBytes}
+use Rattle.light_report.specs.Report.{reportLamps, blockBytes, blockLamps, treeOf, reportTree, headerBytes}
 use Rattle.light_report.specs.AsCoded.Written.{powered, sizes}
 use Rattle.light_report.specs.AsCoded.Written.{firstLines, nodeBytes, tableBytes, chunkLines, openedOf}
 use Rattle.light_report.specs.Laws.TreeLaws.{rows-are, tree-of}

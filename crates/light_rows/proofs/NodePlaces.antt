@@ -15,9 +15,7 @@ use Rattle.light_rows.specs.AsCoded.RecordRow.{writtenAt}
 use Rattle.light_bounds.specs.declared.light_bounds.LightBounds.{LightBounds}
 use Rattle.light_rows.specs.Laws.RecordPlaces.{writtenAt-sets}
 use Rattle.light_rows.specs.Nodes.{LightBVHNode, nodeWords, nodePlace, nodeList}
-use Rattle.light_rows.specs.AsCoded.NodeRow.{headFits}
-use Rattle.light_rows.specs.AsCoded.NodeRow.{nodeFits, nodeWritten}
-use Rattle.light_rows.specs.AsCoded.NodeRow.{rowFits}
+use Rattle.light_rows.specs.AsCoded.NodeRow.{headFits, nodeFits, nodeWritten, rowFits}
 
 -- three words, then the record
 pub put-node-parts : (ws : List ℕ) (at head right p : ℕ) (b : LightBounds) → at + nodeWords ≤ length ws

@@ -16,7 +16,6 @@ use Rattle.words.specs.Answers.{Answer, given, refused, code}
 use Rattle.words.proofs.AnswerLaws.{not-both, given-injective}
 use Rattle.light_bounds.specs.AsCoded.Weighing.{prepared}
 use Rattle.light_bounds.specs.Laws.WeighingLaws.{weigh-prepared}
-use Rattle.light_bounds.specs.declared.light_bounds.LightBounds.{LightBounds}
 use Rattle.light_bounds.specs.declared.importance.Query.{Query}
 use Rattle.light_bounds.specs.declared.importance.Prepared.{Prepared}
 use Rattle.light_rows.specs.Nodes.{LightBVHNode, leaf, interior, invalidIndex, nodeAt, nodeWords}

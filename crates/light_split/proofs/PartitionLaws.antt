@@ -16,8 +16,7 @@ use Rattle.words.specs.Answers.{given, refused}
 use Rattle.light_bounds.specs.declared.bounds.Bounds3.{Bounds3}
 use Rattle.light_split.specs.declared.split.Split.{Split}
 use Rattle.light_split.specs.Lights.{centroidEnds}
-use Rattle.light_split.specs.Partition.{goesLeft, goesRight, lefts, rights}
-use Rattle.light_split.specs.Partition.{partitionHandles}
+use Rattle.light_split.specs.Partition.{goesLeft, goesRight, lefts, rights, partitionHandles}
 use Rattle.light_split.specs.AsCoded.Parted.{partedCount, partedHandles, partedWork}
 use Rattle.words.specs.Lists.{kept}
 use Rattle.words.specs.AsCoded.ListParts.{laid}

@@ -33,8 +33,7 @@ use Rattle.light_bounds.specs.declared.light_bounds.LightBounds.{LightBounds}
 use Rattle.light_bounds.specs.declared.vecmath.Vec3.{Vec3}
 use Rattle.light_bounds.proofs.LateLaws.{late-validate, late-box}
 use Rattle.light_rows.specs.Nodes.{LightBVHNode, leaf, interior, invalidIndex, parent, nodePlace}
-use Rattle.light_rows.specs.Nodes.{boundsPlace, nodeAt, nodeOf, boundsAt, nodeCount}
-use Rattle.light_rows.specs.Nodes.{nodeBytes, maxNodes}
+use Rattle.light_rows.specs.Nodes.{boundsPlace, nodeAt, nodeOf, boundsAt, nodeCount, nodeBytes, maxNodes}
 use Rattle.packed_bvh.specs.Packed.{indexMax, payload, payloadWord, compactWords, payloadCheck, parentCheck}
 use Rattle.packed_bvh.specs.Packed.{leftCheck, packNode, packNodes, header}
 use Rattle.packed_bvh.specs.Packed.{headerWords, packedNodeWords, packedPlace, packedReserve}

@@ -22,8 +22,7 @@ use Rattle.words.specs.Tray.{tray}
 use Rattle.trig.specs.Series.{turns, seriesStep, series, arcStep, arc}
 use Rattle.trig.specs.Trig.{cos, twiceArc, acos, asin}
 use Rattle.light_bounds.specs.Vecmath.{vec, finiteVec, dot, plus, minus, cross, scaled, divided, vecLength, normalize}
-use Rattle.light_bounds.specs.Vecmath.{normalizeByDivision, rotate}
-use Rattle.light_bounds.specs.Vecmath.{angleBetween}
+use Rattle.light_bounds.specs.Vecmath.{normalizeByDivision, rotate, angleBetween}
 use Rattle.light_bounds.specs.Bounds.{boxCheck, leastOf, greatestOf, boxUnion, diagonal, centroid, surfaceArea}
 use Rattle.light_bounds.specs.Cones.{safeSqrt, cosSubClamped, sinSubClamped, boundSubtendedDirections, joined}
 use Rattle.light_bounds.specs.Cones.{unionDirectionCones}
@@ -41,12 +40,10 @@ use Rattle.light_split.specs.Buckets.{sideCost, cutCost}
 use Rattle.light_split.specs.AsCoded.Slots.{slotList}
 use Rattle.light_split.specs.Split.{combinedBounds, better, cuts, axis, chooseSplit}
 use Rattle.light_split.specs.Partition.{goesLeft, goesRight, lefts, rights, partitionHandles}
-use Rattle.light_split.specs.AsCoded.Parted.{partedCount}
-use Rattle.light_split.specs.AsCoded.Parted.{partedHandles, partedWork}
+use Rattle.light_split.specs.AsCoded.Parted.{partedCount, partedHandles, partedWork}
 use Rattle.light_bvh.specs.Subtree.{forked, treeBy, buildSubtree}
 use Rattle.light_bvh.specs.Build.{LightBVH, boundedHandles, grown, allBounds, validated, treeOf, builtBvh, buildCheck}
-use Rattle.light_bvh.specs.Build.{buildLightBvh, nodesWritten, tabled}
-use Rattle.light_bvh.specs.Build.{tableWritten}
+use Rattle.light_bvh.specs.Build.{buildLightBvh, nodesWritten, tabled, tableWritten}
 use Rattle.light_sampler.specs.Fork.{parted, fork}
 use Rattle.light_sampler.specs.Walks.{Draw, weighAt, weights, turn, taken, onward, descend, partOf, rise, risen, upward}
 use Rattle.light_sampler.specs.Walks.{ascend}
@@ -58,8 +55,7 @@ use Rattle.packed_bvh.specs.Decoded.{axisOf, unfolded, decodeOctahedral}
 use Rattle.packed_bvh.specs.Packed.{compactWords, payloadCheck, parentCheck, leftCheck, packNode, packNodes, packCheck}
 use Rattle.packed_bvh.specs.Packed.{agreed, packedTree, packLightBvh}
 use Rattle.alias_table.specs.AliasTable.{Bin, binWords, anyBad, sumFrom, filledIn, total, push, pushAll, start, update}
-use Rattle.alias_table.specs.AliasTable.{turned, turns as turnsAliasTable}
-use Rattle.alias_table.specs.AliasTable.{leftover, table, buildPowerAliasTable}
+use Rattle.alias_table.specs.AliasTable.{turned, turns as turnsAliasTable, leftover, table, buildPowerAliasTable}
 use Rattle.light_bounds.specs.declared.bounds.Bounds3.{Bounds3}
 use Rattle.light_bounds.specs.declared.importance.Query.{Query}
 use Rattle.light_bounds.specs.declared.vecmath.Vec3.{Vec3}

@@ -7,8 +7,7 @@ use mathlib.Core.Logic.{_⊎_, inl, inr}
 use native.Mathlib.Nat.{mul-assoc, mul-comm, mod-eq-of-lt, eq-or-lt-of-le, div-eq-of-lt}
 use native.Mathlib.Nat.{lt-of-lt-of-le, lt-of-le-of-lt, le-trans, le-of-eq, le-of-lt}
 use native.Mathlib.Nat.{mul-div-mul-right, mul-div-cancel, div-le-self, le-div-iff-mul-le}
-use native.Mathlib.Nat.{zero-min, min-eq-left, min-eq-right}
-use native.Mathlib.Nat.{mul-lt-mul-of-pos-right, mul-le-mul-left, sub-le}
+use native.Mathlib.Nat.{zero-min, min-eq-left, min-eq-right, mul-lt-mul-of-pos-right, mul-le-mul-left, sub-le}
 use native.Mathlib.Omega.{arith}
 use lib.Dec.{lit<, lit≤}
 use lib.Pow.{pow-pos, pow-add, pow-mono, le-ones}

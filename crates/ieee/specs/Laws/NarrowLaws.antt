@@ -6,8 +6,7 @@ use mathlib.Core.Logic.{_≢_, _⊎_, inl, inr}
 use native.Mathlib.Nat.{zero-add, eq-or-lt-of-le, add-zero, mul-le-mul-left, mul-assoc}
 use native.Mathlib.Nat.{mul-comm, mul-one, mul-div-mul-right, mul-right-comm, le-div-iff-mul-le}
 use native.Mathlib.Nat.{div-lt-iff-lt-mul, mul-le-mul-right, mul-lt-mul-of-pos-right, lt-of-lt-of-le}
-use native.Mathlib.Nat.{lt-of-le-of-lt, le-trans, le-of-eq, sub-eq-zero-of-le}
-use native.Mathlib.Nat.{min-eq-left, min-eq-right, mul-pos}
+use native.Mathlib.Nat.{lt-of-le-of-lt, le-trans, le-of-eq, sub-eq-zero-of-le, min-eq-left, min-eq-right, mul-pos}
 use native.Mathlib.Omega.{arith}
 use lib.Dec.{T, leb, lit<, lit≤}
 use lib.Pow.{pow-pos, pow-mono, pow-add}

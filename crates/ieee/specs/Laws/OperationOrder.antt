@@ -17,8 +17,7 @@ use borrow.Author.Tests.{le-ltb, ne-eqb}
 use Rattle.ieee.specs.Choose.{fabs}
 use Rattle.ieee.specs.Laws.FormatLaws.{fabs-fits, round-self}
 use Rattle.ieee.specs.Laws.OrderLaws.{finite-below, gain, le-refl, le-right, le-sizes, le-top, le→nonneg, loss}
-use Rattle.ieee.specs.Laws.OrderLaws.{lt-of-lt-of-le}
-use Rattle.ieee.specs.Laws.OrderLaws.{lt→le, nonneg, nonneg→le, nonneg-known, nonneg-up, or-right}
+use Rattle.ieee.specs.Laws.OrderLaws.{lt-of-lt-of-le, lt→le, nonneg, nonneg→le, nonneg-known, nonneg-up, or-right}
 use Rattle.ieee.specs.Laws.RoundOrder.{Rounds, rounds, le-rounds}
 use Rattle.ieee.specs.Laws.SumOrder.{sum-rounds, sum-mono, sub-known, difference-mono, difference-nonneg}
 

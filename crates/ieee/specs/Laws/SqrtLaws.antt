@@ -3,8 +3,7 @@ use Prim.Native.Nat.{ℕ, zero, suc, _*_, _/_, _^_, _≤_, _<_}
 use mathlib.Core.Path.{_≡_, sym, _∙_, subst}
 use mathlib.Core.Bool.{Bool, true, false, cond, not}
 use native.Mathlib.Nat.{lt-of-lt-of-le, lt-of-le-of-lt, le-trans, le-antisymm, le-of-suc-le-suc}
-use native.Mathlib.Nat.{lt-of-not-le, not-le-of-lt, mul-le-mul, pow-le-pow-left}
-use native.Mathlib.Nat.{pow-succ', div-lt-iff-lt-mul, mul-comm}
+use native.Mathlib.Nat.{lt-of-not-le, not-le-of-lt, mul-le-mul, pow-le-pow-left, pow-succ', div-lt-iff-lt-mul, mul-comm}
 use native.Mathlib.Omega.{arith}
 use lib.Dec.{T, leb, leb→le, nleb→lt, lit≤}
 use lib.Ieee.{size}

@@ -6,8 +6,7 @@ use mathlib.Core.Path.{_≡_, subst}
 use mathlib.Core.Bool.{Bool, true, false, cond}
 use mathlib.Core.Logic.{_⊎_, inl, inr}
 use native.Mathlib.Nat.{le-of-mul-le-mul-right, lt-of-mul-lt-mul-right, le-trans, le-of-lt, le-of-suc-le-suc}
-use native.Mathlib.Nat.{lt-of-not-le, mul-le-mul-left, mul-le-mul-right, mul-pos, eq-zero-or-pos}
-use native.Mathlib.Nat.{div-add-mod', mod-lt}
+use native.Mathlib.Nat.{lt-of-not-le, mul-le-mul-left, mul-le-mul-right, mul-pos, eq-zero-or-pos, div-add-mod', mod-lt}
 use native.Mathlib.Omega.{arith}
 use lib.IntN.{ℤ, pos, negsuc}
 use lib.Dec.{T, lit≤}

@@ -20,8 +20,7 @@ use lib.Ieee.Scale.{round-same}
 use Rattle.ieee.specs.Whole.{nextWhole, roundAway}
 use Rattle.ieee.specs.Laws.WholeLaws.{nextWhole-units, roundAway-units, whole-pattern}
 use Rattle.ieee.specs.Laws.Patterns.{magnitude, magnitude-large, magnitude-lt, magnitude-ge, magnitude-pos}
-use Rattle.ieee.specs.Laws.Patterns.{decode, field-of, inf-bits, sign-bit}
-use Rattle.ieee.specs.Laws.Patterns.{round-decoded}
+use Rattle.ieee.specs.Laws.Patterns.{decode, field-of, inf-bits, sign-bit, round-decoded}
 
 -- the value of a finite pattern, in units of 2 ^ -149
 value : (w : ℕ) → w % 2 ^ 31 < 255 * 2 ^ 23 →

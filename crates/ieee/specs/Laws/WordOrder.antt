@@ -16,8 +16,7 @@ use lib.Ieee.Bits.{ofBits-toBits}
 use lib.Ieee.Order.{le-of-values}
 use lib.Ieee.Scale.{finite}
 use Rattle.ieee.specs.Laws.Patterns.{magnitude, magnitude-small, magnitude-large}
-use Rattle.ieee.specs.Laws.Patterns.{magnitude-lt, magnitude-ge, hid-pos}
-use Rattle.ieee.specs.Laws.Patterns.{decode-plain, inf-bits, no-sign}
+use Rattle.ieee.specs.Laws.Patterns.{magnitude-lt, magnitude-ge, hid-pos, decode-plain, inf-bits, no-sign}
 use Rattle.ieee.specs.Whole.{negative}
 use Rattle.ieee.specs.Laws.WholeLaws.{past-infinity}
 

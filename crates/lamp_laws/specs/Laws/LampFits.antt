@@ -2,37 +2,33 @@
 -- Assumes nothing.
 use Prim.Native.Nat.{ℕ, zero, suc, _+_, _/_}
 use mathlib.Core.Path.{_≡_}
-use mathlib.Core.Bool.{Bool, false, cond, _&&_}
+use mathlib.Core.Bool.{Bool, _&&_}
 use mathlib.Core.List.{List, [], _∷_}
 use lib.Dec.{T, leb, eqb}
 use lib.Ieee.{Float, binary32, fits}
 use lib.Ieee.Fits.{mul-fits, cond-fits}
 use lib.ListN.{length, getD}
 use Rattle.ieee.specs.Laws.FormatLaws.{single-fits}
-use Rattle.ieee.specs.Single.{_⊗_, _⊖_, single, minusOne, onef}
+use Rattle.ieee.specs.Single.{_⊗_, _⊖_}
 use Rattle.trig.specs.Trig.{cos, acos}
 use Rattle.trig.specs.Laws.TrigLaws.{cos-fits}
 use Rattle.words.specs.Answers.{Answer, given, refused}
 use Rattle.words.specs.Heads.{kindOf}
-use Rattle.words.proofs.AnswerLaws.{Gives, gives, gives-none, gives-cond, gives-any, gives-then, gives-value}
+use Rattle.words.proofs.AnswerLaws.{Gives, gives, gives-none, gives-cond, gives-any, gives-then}
 use Rattle.light_bounds.specs.Bounds.{boxCheck}
-use Rattle.light_bounds.specs.Laws.BoundsLaws.{union-given}
-use Rattle.light_bounds.specs.LightBounds.{areCosines, validate, union, join}
+use Rattle.light_bounds.specs.LightBounds.{areCosines, validate, union}
 use Rattle.light_rows.specs.Laws.RecordLaws.{VecFits, BoxFits, RecordFits, vec-fits-read, least-fits}
 use Rattle.light_rows.specs.Laws.RecordLaws.{greatest-fits, normalize-fits, z-fits, join-fits}
-use Rattle.light_bounds.specs.Vecmath.{finiteVec, normalize}
-use Rattle.light_bounds.specs.declared.bounds.Bounds3.{Bounds3}
+use Rattle.light_bounds.specs.Vecmath.{finiteVec}
 use Rattle.light_bounds.specs.declared.light_bounds.LightBounds.{LightBounds}
 use Rattle.light_bounds.specs.declared.vecmath.Vec3.{Vec3}
-use Rattle.lamps.specs.BuildBounds.{boundsOf, allBounds}
+use Rattle.lamps.specs.BuildBounds.{allBounds}
 use Rattle.lamps.specs.LampBounds.{nearlyOne, pointBox, pointPhi, groupPhi, validateEmission}
 use Rattle.lamps.specs.LampBounds.{checked, pointBounds, tooNarrow, falloff, spotRecord}
 use Rattle.lamps.specs.LampBounds.{spotBounds, noArea, triangleBounds, triangleAt, facedRecord}
-use Rattle.lamps.specs.LampBounds.{triangleRecord, joinNext, unionFrom, groupBounds}
-use Rattle.lamps.specs.LampBounds.{lightBoundsForInput}
+use Rattle.lamps.specs.LampBounds.{triangleRecord, joinNext, unionFrom, groupBounds, lightBoundsForInput}
 use Rattle.lamps.specs.LampList.{pointWords, spotWords, groupWords, triangleWords}
 use Rattle.lamps.specs.LampList.{groupFits, lampAt, lampsFrom, trianglesOf}
-use Rattle.lamps.specs.declared.lamp_bounds.AreaTriangleInput.{AreaTriangleInput}
 use Rattle.lamps.specs.declared.lamp_list.Lamp.{Lamp}
 use Rattle.lamps.specs.declared.lamp_list.Lamp.the-variants.{Point, Spot, AreaGroup}
 use Rattle.lamps.specs.declared.lamp_list.Reading.{Reading}

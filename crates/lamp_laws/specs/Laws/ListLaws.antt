@@ -7,25 +7,24 @@ use mathlib.Core.Path.{_≡_, refl, ap, subst, sym, _∙_}
 use mathlib.Core.Bool.{Bool, true, false, cond, _&&_}
 use mathlib.Core.List.{List, [], _∷_, _++_}
 use native.Mathlib.Omega.{arith}
-use borrow.Author.Tests.{le-leb, lt-leb, le-ltb, leb-true, eq-eqb, eqb-true}
+use borrow.Author.Tests.{le-leb, le-ltb, leb-true, eq-eqb, eqb-true}
 use lib.Dec.{T, leb, eqb}
 use lib.ListN.{length, getD, drop}
 use lib.Seq.{getD-drop}
-use Rattle.words.specs.Answers.{Answer, given, refused, _then_}
+use Rattle.words.specs.Answers.{given, refused, _then_}
 use Rattle.words.specs.Limits.{maxLamps, maxWords, crowded}
 use Rattle.words.specs.Rows.{rowsFrom, below}
 use Rattle.words.proofs.AnswerLaws.{then-given, given-injective, not-both, gives-value}
 use Rattle.words.proofs.LimitLaws.{few-lamps}
 use Rattle.words.proofs.RowLaws.{row-at, below-true, below-at}
 use Rattle.light_rows.specs.Laws.RecordLaws.{RecordFits, reread, read-words, behind-record}
-use Rattle.light_rows.specs.RecordWords.{recordWords, vecAt, boxAt, readRecord, recordList, sidePlace}
-use Rattle.light_bounds.specs.Side.{sideKnown, sideOf}
+use Rattle.light_rows.specs.RecordWords.{recordWords, readRecord, recordList, sidePlace}
+use Rattle.light_bounds.specs.Side.{sideKnown}
 use Rattle.light_bounds.specs.Laws.SideLaws.{side-known}
 use Rattle.light_bounds.specs.declared.light_bounds.LightBounds.{LightBounds}
 use Rattle.light_rows.specs.Laws.RecordPlaces.{recordAt-found}
 use Rattle.light_rows.specs.Block.{boundsWords, boundsRow, blockWords, packExhaustiveBounds, handlePlace}
-use Rattle.light_rows.specs.Block.{recordPlace, sideAt, handleAt, blockLayout}
-use Rattle.light_rows.specs.Block.{blockHandles, blockCheck, blockRecord}
+use Rattle.light_rows.specs.Block.{recordPlace, sideAt, handleAt, blockLayout, blockHandles, blockCheck, blockRecord}
 use Rattle.lamps.specs.BuildBounds.{boundsOf, allBounds, buildLightBounds}
 use Rattle.lamps.specs.LampList.{lampList}
 use Rattle.lamps.specs.declared.lamp_list.Reading.{Reading}

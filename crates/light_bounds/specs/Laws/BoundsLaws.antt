@@ -6,7 +6,6 @@ use lib.Dec.{T}
 use lib.Ieee.{Float, nan, inf, fin, binary32, lt, le, eq, fits, isNan, ofBits}
 use lib.Ieee.Fits.{and-l, and-r}
 use lib.Ieee.Scale.{finite}
-use Rattle.ieee.specs.Choose.{fmin}
 use Rattle.ieee.specs.Laws.ChooseOrder.{fmax-nonneg, fmin-le, fmax-le}
 use Rattle.ieee.specs.Laws.OperationOrder.{add-positive}
 use Rattle.ieee.specs.Laws.OrderLaws.{nonneg, le→nonneg, lt→le, not-eq-of-lt}
@@ -15,11 +14,9 @@ use Rattle.words.specs.Answers.{Answer, given, refused, _then_}
 use Rattle.words.proofs.AnswerLaws.{Gives, gives, gives-none, gives-cond, gives-any}
 use Rattle.words.proofs.AnswerLaws.{gives-then, gives-value, then-given, given-injective, not-both}
 use Rattle.light_bounds.specs.Bounds.{boxCheck, finiteBox, boxUnion, leastOf, greatestOf, inverted}
-use Rattle.light_bounds.specs.Cones.{unionDirectionCones}
 use Rattle.light_bounds.specs.Importance.{Seen, dark, lit, facing, NormalStep, withNormal, finish}
 use Rattle.light_bounds.specs.Importance.{finiteQuery, geometry, checkedImportance, importanceBy, importance}
 use Rattle.light_bounds.specs.LightBounds.{joinPowered, operand, union, validate, coneCheck, join}
-use Rattle.light_bounds.specs.Side.{either}
 use Rattle.light_bounds.specs.Vecmath.{finiteVec}
 use Rattle.light_bounds.specs.declared.bounds.Bounds3.{Bounds3}
 use Rattle.light_bounds.specs.declared.light_bounds.LightBounds.{LightBounds}

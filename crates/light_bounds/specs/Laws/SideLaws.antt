@@ -1,7 +1,6 @@
 -- A side's word is known, and is read back as the side. Assumes nothing.
 use mathlib.Core.Path.{_≡_, refl}
 use mathlib.Core.Bool.{Bool, true, false}
-use lib.Dec.{eqb}
 use Rattle.light_bounds.specs.Side.{sideKnown, sideOf, sideWord, lampSide}
 use Rattle.light_bounds.specs.declared.side.Side.{Side}
 

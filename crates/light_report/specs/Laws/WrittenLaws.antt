@@ -14,8 +14,7 @@ use Rattle.words.specs.Answers.{Answer, given, refused}
 use Rattle.words.specs.LittleEndian.{wordsOf}
 use Rattle.light_bvh.specs.Build.{LightBVH}
 use Rattle.light_report.specs.Lines.{lineBytes, reportLines, groupLines, partLine}
-use Rattle.light_report.specs.Report.{reportLamps, blockBytes, reportTree}
-use Rattle.light_report.specs.Report.{headerBytes, behindHeader, report}
+use Rattle.light_report.specs.Report.{reportLamps, blockBytes, reportTree, headerBytes, behindHeader, report}
 use Rattle.light_report.specs.AsCoded.Written.{frontBytes, firstLines, nodeBytes, tableBytes}
 use Rattle.light_report.specs.AsCoded.Written.{chunkLines, allLines, behindFirst, written}
 use Rattle.light_report.specs.Laws.ReportLaws.{report-chunks, front-word, lamps-there, tree-front}

@@ -6,21 +6,20 @@ use mathlib.Core.Bool.{Bool, true, false, cond, _||_}
 use mathlib.Core.List.{List, _++_}
 use native.Mathlib.Omega.{arith}
 use lib.Dec.{T}
-use lib.Ieee.{Float, binary32, toBits, fits, ofBits, le, eq}
+use lib.Ieee.{Float, binary32, toBits, fits, le, eq}
 use lib.Ieee.Bits.{ofBits-toBits}
 use lib.Ieee.Fits.{add-fits, mul-fits}
 use lib.ListN.{getD}
 use Rattle.ieee.specs.Choose.{fmin, fmax, clamp}
 use Rattle.ieee.specs.Laws.FormatLaws.{single-fits, fmin-fits, fmax-fits}
 use Rattle.ieee.specs.Single.{_⊕_, _⊗_, single, zerof, half, onef, minusOne, pi}
-use Rattle.trig.specs.Trig.{acos, cos}
+use Rattle.trig.specs.Trig.{acos}
 use Rattle.trig.specs.Laws.TrigLaws.{cos-fits}
-use Rattle.words.specs.Answers.{Answer, given, refused}
 use Rattle.words.proofs.AnswerLaws.{Gives, gives, gives-none, gives-cond}
 use Rattle.light_bounds.specs.Bounds.{leastOf, greatestOf, boxUnion}
-use Rattle.light_bounds.specs.Cones.{cone, wholeSphere, joined, axisOr, unionDirectionCones}
-use Rattle.light_bounds.specs.LightBounds.{lightBounds, join}
-use Rattle.light_rows.specs.RecordWords.{readRecord, vecAt, boxAt, recordList}
+use Rattle.light_bounds.specs.Cones.{joined, unionDirectionCones}
+use Rattle.light_bounds.specs.LightBounds.{join}
+use Rattle.light_rows.specs.RecordWords.{readRecord, vecAt, recordList}
 use Rattle.light_bounds.specs.Side.{sideOf}
 use Rattle.light_bounds.specs.Laws.SideLaws.{side-back}
 use Rattle.light_bounds.specs.Vecmath.{vec, dot, cross, plus, scaled}

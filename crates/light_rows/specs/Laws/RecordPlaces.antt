@@ -1,8 +1,8 @@
 -- Records at a place, as the code reads and writes them: whether there are words enough is settled first, then the
 -- words. Assumes nothing.
 use Prim.Native.Nat.{ℕ, _+_, _*_, _/_, _≤_, _<_}
-use mathlib.Core.Path.{_≡_, refl, ap, sym, _∙_}
-use mathlib.Core.Bool.{Bool, true, false, and-false}
+use mathlib.Core.Path.{_≡_, refl, sym, _∙_}
+use mathlib.Core.Bool.{true, false}
 use mathlib.Core.List.{List, [], _∷_, _++_}
 use native.Mathlib.Omega.{arith}
 use borrow.Author.Tests.{le-leb}
@@ -14,12 +14,10 @@ use Rattle.words.proofs.LittleEndianLaws.{wordsOf-at}
 use Rattle.words.specs.Answers.{given, refused}
 use Rattle.words.proofs.Stores.{sets-append}
 use Rattle.ieee.specs.Single.{zerof}
-use Rattle.light_rows.specs.AsCoded.RecordRow.{tripleAt, rowAt, vecOf, recordOf, judgedRow}
+use Rattle.light_rows.specs.AsCoded.RecordRow.{tripleAt, rowAt, vecOf, recordOf, judgedRow, writtenAt}
 use Rattle.light_rows.specs.RecordWords.{recordWords, recordAt, readRecord, vecAt}
 use Rattle.light_rows.specs.RecordWords.{vecWords, restWords, recordList}
-use Rattle.light_rows.specs.RecordWords.{maxPlace, directionPlace, phiPlace, cosOPlace}
-use Rattle.light_rows.specs.RecordWords.{cosEPlace, sidePlace}
-use Rattle.light_rows.specs.AsCoded.RecordRow.{writtenAt}
+use Rattle.light_rows.specs.RecordWords.{maxPlace, directionPlace, phiPlace, cosOPlace, cosEPlace, sidePlace}
 use Rattle.light_bounds.specs.Side.{sideKnown}
 use Rattle.light_bounds.specs.Vecmath.{vec}
 use Rattle.light_bounds.specs.declared.light_bounds.LightBounds.{LightBounds}

@@ -18,8 +18,7 @@ use Rattle.light_bounds.specs.Laws.SideLaws.{side-known}
 use Rattle.light_bounds.specs.declared.light_bounds.LightBounds.{LightBounds}
 use Rattle.light_rows.specs.Laws.RecordPlaces.{length-recordList, recordAt-past, recordAt-found}
 use Rattle.light_rows.specs.Nodes.{LightBVHNode, leaf as leafNode, interior, nodeWords, nodePlace}
-use Rattle.light_rows.specs.Nodes.{boundsPlace, headWord, rightChild, parent}
-use Rattle.light_rows.specs.Nodes.{nodeList, nodeOf, nodeAt, boundsAt}
+use Rattle.light_rows.specs.Nodes.{boundsPlace, headWord, rightChild, parent, nodeList, nodeOf, nodeAt, boundsAt}
 use Rattle.light_rows.specs.AsCoded.NodeRow.{headFits}
 use Rattle.light_rows.specs.Tree.{Tree, leaf, fork, bounds, leaves, leafHandles, rightPlace, flatten}
 

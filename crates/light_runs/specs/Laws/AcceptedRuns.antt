@@ -2,13 +2,13 @@
 -- from which u to which a lamp is drawn (`from-one-to-another`). Assumes nothing.
 use Prim.Native.Nat.{ℕ, _≤_, _<_}
 use mathlib.Core.Path.{_≡_, refl, ap, sym, subst, _∙_}
-use mathlib.Core.Bool.{Bool, false, not}
+use mathlib.Core.Bool.{Bool, false}
 use mathlib.Core.List.{List}
 use mathlib.Core.Logic.{_⊎_, inl, inr, _↔_}
 use mathlib.Core.Option.{Option, none, some}
 use native.Mathlib.Nat.{eq-or-lt-of-le}
 use lib.Dec.{T, eqb, eqb→eq}
-use lib.Ieee.{Float, le, isNan, ofBits}
+use lib.Ieee.{Float, le, ofBits}
 use lib.Ieee.Fits.{eq→eqb}
 use Rattle.words.proofs.ListLaws.{reversed-twice, last-first}
 use Rattle.ieee.specs.Choose.{fmin}

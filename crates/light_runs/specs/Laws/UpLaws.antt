@@ -31,8 +31,7 @@ use Rattle.light_runs.specs.Laws.DownLaws.{leaves-weighed, weights-stand
 use Rattle.tree_laws.specs.Laws.StandingLaws.{stands-root}
 use Rattle.tree_laws.specs.AsCoded.StandingTree.{Stands}
 use Rattle.light_runs.specs.AsCoded.WeightedTree.{Weighted, leaf as weightedLeaf, fork as weightedFork}
-use Rattle.light_runs.specs.AsCoded.WeightedTree.{leavesOf, rightOf}
-use Rattle.light_runs.specs.AsCoded.WeightedTree.{walk, weighed}
+use Rattle.light_runs.specs.AsCoded.WeightedTree.{leavesOf, rightOf, walk, weighed}
 
 -- ---- a draw that finds a light
 

@@ -21,8 +21,7 @@ use Rattle.words.specs.LittleEndian.{wordsOf, bytesOf}
 use Rattle.words.specs.Tray.{tray}
 use Rattle.light_bounds.specs.declared.importance.Query.{Query}
 use Rattle.light_bounds.specs.declared.light_bounds.LightBounds.{LightBounds}
-use Rattle.light_rows.specs.Nodes.{LightBVHNode, invalidIndex, parent}
-use Rattle.light_rows.specs.Nodes.{nodeWords, nodePlace, nodeCount, nodeOf, nodeAt}
+use Rattle.light_rows.specs.Nodes.{LightBVHNode, invalidIndex, parent, nodeWords, nodePlace, nodeCount, nodeOf, nodeAt}
 use Rattle.light_rows.specs.Tree.{Tree, leaf, fork, leaves, rightPlace}
 use Rattle.light_rows.specs.Laws.TreeLaws.{leaves-pos, root}
 use Rattle.light_bvh.specs.Build.{LightBVH, isPowered, nodesReserve, nodesWritten, tableWritten}
@@ -36,9 +35,8 @@ use Rattle.tree_laws.specs.Laws.AcceptedTree.{Parts, accepted-sound, accepted-l
 use Rattle.tree_laws.specs.Laws.AcceptedTree.{labels-fit, places-fit, nodes-are}
 use Rattle.tree_laws.specs.Laws.PlaceLaws.{headEnd, nodeIn, nodeIn-leaf, nodeIn-fork, sound-records}
 use Rattle.light_runs.specs.Laws.AcceptedWalks.{check-draw, check-name, from-root}
-use Rattle.tree_laws.specs.Laws.ByteLaws.{words-counted}
+use Rattle.tree_laws.specs.Laws.ByteLaws.{words-counted, nodes-fit, nodes-words, nodes-counted}
 use Rattle.words.proofs.LittleEndianLaws.{IsWord, words-back}
-use Rattle.tree_laws.specs.Laws.ByteLaws.{nodes-fit, nodes-words, nodes-counted}
 use Rattle.tree_laws.specs.Laws.ByteLaws.{table-words-back, table-bytes}
 use Rattle.light_runs.specs.DemandWords.{FromZeroToOne, nodes, table}
 use Rattle.tree_laws.specs.TreeWords.{placeOf}

@@ -11,8 +11,7 @@ use native.Mathlib.Omega.{arith}
 use lib.Dec.{T, ltb, lit<, lit≤, eqb→eq}
 use lib.IntN.{ℤ, pos}
 use lib.Ieee.{Float, nan, inf, fin, Format, binary32, prec, emax, low as lowest, unlike, up, down, size, span, climb}
-use lib.Ieee.{odd, units, round}
-use lib.Ieee.{neg, sum, add, sub, mul, div, lt, le, eq, isNan, fits}
+use lib.Ieee.{odd, units, round, neg, sum, add, sub, mul, div, lt, le, eq, isNan, fits}
 use lib.Ieee.{ofFields, ofBits, ofInt, toUnsigned}
 use lib.Ieee.Back.{round-whole}
 use lib.Ieee.Exact.{HasValue}

@@ -24,8 +24,7 @@ use Rattle.light_bounds.specs.declared.vecmath.Vec3.{Vec3}
 use Rattle.light_rows.specs.Nodes.{LightBVHNode, leaf, interior, parent, nodeBytes, nodeCount, nodeAt, boundsAt}
 use Rattle.packed_bvh.specs.Packed.{headerWords, packedNodeWords, indexMax, leafBit, paired, payload, payloadWord}
 use Rattle.packed_bvh.specs.Packed.{compactWords, payloadCheck, parentCheck, leftCheck, packNode, packNodes, header}
-use Rattle.packed_bvh.specs.Packed.{packedPlace}
-use Rattle.packed_bvh.specs.Packed.{packedReserve, packCheck, agreed, packedTree, packLightBvh}
+use Rattle.packed_bvh.specs.Packed.{packedPlace, packedReserve, packCheck, agreed, packedTree, packLightBvh}
 use Rattle.packed_bvh.specs.Quantize.{quantizeBounds}
 use Rattle.packed_bvh.specs.Laws.QuantizeLaws.{quantize-small}
 use Rattle.packed_bvh.proofs.PackLaws.{count-known}

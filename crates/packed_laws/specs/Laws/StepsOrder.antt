@@ -12,8 +12,7 @@ use borrow.Author.Tests.{eq-eqb}
 use lib.Dec.{T, eqb→eq, lt→ltb}
 use lib.IntN.{ℤ, pos}
 use lib.Ieee.{Float, nan, inf, fin, binary32, unlike, low, up, down, size, span, climb, odd, units, round, mul, div, lt}
-use lib.Ieee.{le, eq, isNan}
-use lib.Ieee.{fits, ofBits, toUnsigned}
+use lib.Ieee.{le, eq, isNan, fits, ofBits, toUnsigned}
 use lib.Ieee.Fits.{down-pos, up-pos}
 use lib.Ieee.Scale.{finite}
 use Rattle.ieee.specs.Choose.{clamp, fmin, fmax}

@@ -3,7 +3,6 @@ use mathlib.Core.Path.{_≡_, refl, sym, ap, _∙_}
 use mathlib.Core.List.{[]}
 use denote.Ref.{now}
 use native.Mathlib.Omega.{arith}
-use lib.ListN.{length}
 use Rattle.words.specs.Laws.TrayLaws.{tray-full}
 use Rattle.words.proofs.AnswerLaws.{only-number}
 use Rattle.words.proofs.Reserves.{tray-zeroed}
@@ -11,7 +10,7 @@ use Rattle.words.proofs.Stores.{stored}
 use Rattle.light_bounds.specs.LightBounds.{bounded}
 use Rattle.light_rows.specs.RecordWords.{recordList, recordWords}
 use Rattle.light_bounds.proofs.LateLaws.{late-union}
-use Rattle.light_rows.specs.Laws.RecordPlaces.{length-recordList, writtenAt-sets}
+use Rattle.light_rows.specs.Laws.RecordPlaces.{writtenAt-sets}
 use borrow.Author.Needs.{needs}
 use Rattle.parts_c.proofs.write_union.Statement.{statement}
 use Rattle.parts_c.proofs.write_union.Tie as tie

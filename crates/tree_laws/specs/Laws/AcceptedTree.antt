@@ -23,8 +23,7 @@ use Rattle.light_rows.specs.Nodes.{LightBVHNode, leaf as leafNode, invalidIndex
 use Rattle.light_rows.specs.Tree.{Tree, leaves, leafHandles, treeWords}
 use Rattle.light_split.specs.Lights.{lightOf}
 use Rattle.light_bvh.specs.Build.{isPowered, boundedHandles, allBounds, validated, LightBVH, treeOf, builtBvh, isShort}
-use Rattle.light_bvh.specs.Build.{buildCheck, buildLightBvh}
-use Rattle.light_bvh.specs.Build.{nodesWritten, tabled, tableWritten}
+use Rattle.light_bvh.specs.Build.{buildCheck, buildLightBvh, nodesWritten, tabled, tableWritten}
 use Rattle.light_bvh.specs.Subtree.{buildSubtree}
 use Rattle.tree_laws.specs.Laws.LeafLaws.{built-leaves, built-words, built-records, bounded-labelled, tree-count}
 use Rattle.tree_laws.specs.Laws.LeafLaws.{powered-once, others-never}

@@ -12,7 +12,7 @@ use lib.Dec.{T, eqb, ltb}
 use lib.ListN.{length}
 use Rattle.words.specs.Answers.{given}
 use Rattle.light_bounds.specs.declared.light_bounds.LightBounds.{LightBounds}
-use Rattle.light_rows.specs.Block.{handleAt, blockHandles}
+use Rattle.light_rows.specs.Block.{blockHandles}
 use Rattle.light_rows.specs.Nodes.{nodeWords, invalidIndex}
 use Rattle.light_rows.specs.Tree.{Tree, leaf, fork, leaves, leafHandles, treeWords}
 use Rattle.light_rows.specs.Laws.TreeLaws.{leaves-pos, length-flatten}

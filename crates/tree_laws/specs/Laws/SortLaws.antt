@@ -15,14 +15,12 @@ use Rattle.light_rows.specs.Tree.{Tree}
 use Rattle.light_split.specs.Partition.{lefts, rights, partitionHandles}
 use Rattle.light_split.specs.Split.{chooseSplit}
 use Rattle.light_split.specs.declared.split.Split.{Split}
-use Rattle.light_bvh.specs.Build.{boundedHandles, validated, treeOf}
-use Rattle.light_bvh.specs.Build.{builtBvh, buildCheck, buildLightBvh}
+use Rattle.light_bvh.specs.Build.{boundedHandles, validated, treeOf, builtBvh, buildCheck, buildLightBvh}
 use Rattle.light_bvh.specs.Subtree.{forked, treeBy, buildSubtree}
-use Rattle.tree_laws.specs.Laws.StretchLaws.{sort-changes-nothing}
+use Rattle.tree_laws.specs.Laws.StretchLaws.{sort-changes-nothing, partition-ascends, bounded-ascends}
 use Rattle.words.proofs.OrderedLists.{Ascends}
 use Rattle.words.proofs.ListLaws.{no-length}
 use Rattle.words.specs.Lists.{sorted}
-use Rattle.tree_laws.specs.Laws.StretchLaws.{partition-ascends, bounded-ascends}
 use Rattle.tree_laws.specs.SortingBuild.{partitionSorting, forkedSorting, treeBySorting, subtreeSorting}
 use Rattle.tree_laws.specs.SortingBuild.{treeSorting, builtSorting, buildSorting}
 

@@ -3,7 +3,7 @@ use Prim.Native.Nat.{_-_}
 use mathlib.Core.Path.{_≡_, ap, sym, _∙_}
 use denote.Ref.{now}
 use native.Mathlib.Omega.{arith}
-use lib.ListN.{length, length-set}
+use lib.ListN.{length-set}
 use Rattle.words.specs.Refusals.{number}
 use Rattle.lamps.specs.AsCoded.Passed.{passed}
 use Rattle.lamps.proofs.BlockLoop.{Taking, taking-none, taking-next, taking-refused, taking-all}

@@ -1,6 +1,5 @@
 -- `lamps::lamp_list::lamp_handle`: each kind has its own. Assumes nothing.
 use borrow.Author.Needs.{needs}
-use Rattle.lamps.specs.LampList.{handle}
 use Rattle.lamps.proofs.lamp_list.lamp_handle.Statement.{statement}
 use Rattle.lamps.proofs.lamp_list.lamp_handle.Tie as tie
 

@@ -1,5 +1,4 @@
 -- `lamps::lamp_list::still_placed`: only where every one before is. Assumes nothing.
-use mathlib.Core.Path.{refl}
 use borrow.Author.Needs.{needs}
 use Rattle.lamps.proofs.lamp_list.still_placed.Statement.{statement}
 use Rattle.lamps.proofs.lamp_list.still_placed.Tie as tie

@@ -1,9 +1,9 @@
 -- `light_bounds::cones::union_direction_cones`: the angle of all directions is PI, and the first test's sum is cut to
 -- PI. Assumes nothing.
 use mathlib.Core.Path.{_≡_, refl, sym, _∙_, ap, subst}
-use mathlib.Core.Bool.{Bool, true, cond}
+use mathlib.Core.Bool.{Bool, true}
 use lib.Dec.{T}
-use lib.Ieee.{Float, binary32, ofBits, toBits, lt, le, isNan}
+use lib.Ieee.{Float, binary32, ofBits, lt, le, isNan}
 use lib.Ieee.Bits.{ofBits-toBits}
 use Rattle.ieee.specs.Choose.{fmin, clamp}
 use Rattle.ieee.specs.Laws.ChooseOrder.{fmin-cap}

@@ -1,5 +1,5 @@
 -- `light_bounds::side::either`: a side that is two-sided is both. Assumes nothing.
-use mathlib.Core.Path.{_≡_, refl}
+use mathlib.Core.Path.{_≡_}
 use Rattle.light_bounds.proofs.side.either.Statement.{statement}
 use Rattle.light_bounds.proofs.side.either.Tie as tie
 

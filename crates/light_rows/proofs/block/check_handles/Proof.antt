@@ -1,11 +1,11 @@
 -- `light_rows::block::check_handles`: up to `i` every handle is its place. Assumes nothing.
 use Prim.Native.Nat.{ℕ, _-_, _≤_}
 use mathlib.Core.Path.{_≡_, refl, subst, sym, ap, _∙_}
-use mathlib.Core.Bool.{true, false}
+use mathlib.Core.Bool.{true}
 use denote.Ref.{now}
 use native.Mathlib.Omega.{arith}
 use borrow.Author.Tests.{eq-eqb, ne-eqb}
-use lib.ListN.{length, getD}
+use lib.ListN.{getD}
 use Rattle.words.specs.Answers.{given}
 use Rattle.words.specs.Rows.{below}
 use Rattle.words.proofs.RowLaws.{below-false, below-next}

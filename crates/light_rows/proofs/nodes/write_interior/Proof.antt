@@ -1,8 +1,7 @@
 -- The definition's own test and words, with the interior node's kind in the head. Assumes nothing.
 use borrow.Author.Needs.{needs}
 use Rattle.light_rows.specs.Nodes.{nodeList}
-use Rattle.light_rows.specs.AsCoded.NodeRow.{nodeFits, nodeWritten}
-use Rattle.light_rows.specs.AsCoded.NodeRow.{rowFits}
+use Rattle.light_rows.specs.AsCoded.NodeRow.{nodeFits, nodeWritten, rowFits}
 use Rattle.light_rows.proofs.nodes.write_interior.Statement.{statement}
 use Rattle.light_rows.proofs.nodes.write_interior.Tie as tie
 

@@ -1,6 +1,6 @@
 -- There is no row, or no room for the number, or the node is put: below 2^30 a number is its own thirty bits.
 -- Assumes nothing.
-use mathlib.Core.Path.{_≡_, refl, sym}
+use mathlib.Core.Path.{_≡_, refl}
 use native.Mathlib.Omega.{arith}
 use denote.Ref.{now}
 use borrow.Author.Needs.{needs}

@@ -1,7 +1,6 @@
 -- `light_rows::record_words::read_record` judges what it fetches, where there are words enough. Assumes nothing.
 use mathlib.Core.Path.{ap, sym, _∙_}
 use denote.Ref.{now}
-use borrow.Author.Tests.{leb-true}
 use Rattle.light_rows.specs.AsCoded.RecordRow.{judgedRow}
 use Rattle.light_rows.specs.Laws.RecordPlaces.{recordAt-is, recordAt-past}
 use borrow.Author.Needs.{needs}

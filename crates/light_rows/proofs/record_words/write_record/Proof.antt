@@ -1,6 +1,5 @@
 -- `light_rows::record_words::write_record`: there is room, or nothing is written. Assumes nothing.
 use mathlib.Core.Path.{sym, _∙_}
-use denote.Ref.{now}
 use borrow.Author.Tests.{leb-true}
 use Rattle.light_rows.specs.AsCoded.RecordRow.{writtenAt}
 use borrow.Author.Needs.{needs}

@@ -1,7 +1,6 @@
 -- `light_split::buckets::omega_for`: a last m_omega of cosines of the same words is that of these cosines. Assumes
 -- nothing.
-use mathlib.Core.Path.{_≡_, refl, ap, sym, _∙_}
-use Rattle.light_split.specs.Buckets.{mOmega}
+use mathlib.Core.Path.{_≡_, sym, _∙_}
 use Rattle.light_split.proofs.BucketLaws.{same-word}
 use borrow.Author.Needs.{needs}
 use borrow.Author.Tests.{eqb-true}
