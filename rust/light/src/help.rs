@@ -48,10 +48,11 @@ Draws a lamp for each bench and prints, a bench a line:
             one that is not
     sum of named   all lamps' chances by name together: about 1; less where a branch shines there by
             its bounds but none of its lamps does, and a draw may end with none
-and the names of bench and lamp, where they have some; or `refused N` and why; the report goes on behind it. The last lines count the rows and say how far
-the chances part at the most. Both multiply rounded shares, and the draw's share of a right branch
-is 1 less the left one's: most part by a few floats, by more where a right branch has a tiny share.
-Where weights overflow they can part wholly, and the sum is not about 1.
+and the names of bench and lamp, where they have some; or `refused N` and why, and the report goes
+on behind it. The last lines count the rows and say how far the chances part at the most. Both
+multiply rounded shares, and the draw's share of a right branch is 1 less the left one's: most part
+by a few floats, by more where a right branch has a tiny share. Where weights overflow they can part
+wholly, and the sum is not about 1.
 
 BENCHES has a bench a line: a point, a normal there, a number u from 0 to 1; `-` in place of the
 normal is none. Comments, numbers and names are as in ROOM, of which `light --help` tells.
