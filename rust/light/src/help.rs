@@ -32,7 +32,8 @@ with 2 where something else failed; one line on standard error says why, but whe
 
 pub const BLOCK: &str = "\
 Prints the bounds block of a room, a lamp a line: handle, box, direction, power phi, the cosines of
-its cone, sides. A NaN or an infinity is printed as its word. `light --help` tells of ROOM.
+its cone, sides, and names where some lamp has one. A NaN or an infinity is printed as its word.
+With --csv or --json the fields are handle, name, line, then the same. `light --help` tells of ROOM.
 ";
 
 pub const REPORT: &str = "\
@@ -58,6 +59,19 @@ BENCHES has a bench a line: a point, a normal there, a number u from 0 to 1; `-`
 normal is none. Comments, numbers and names are as in ROOM, of which `light --help` tells.
     X Y Z  NX NY NZ  U
     X Y Z  -         U
+
+With --csv or --json a bench is a row with the fields
+    bench bench_name u              its line, name and number
+    status                          drawn, none or refused
+    refusal refusal_text            the number and the reason, where it is refused
+    lamp lamp_name lamp_line        the lamp that is drawn
+    drawn named drawn_bits named_bits apart parts_wholly
+    sum_of_named                    or, where a lamp has no chance by name, sum_refused_lamp and
+                                    sum_refusal in its place
+Every row has all fields, empty or null where there is nothing to say. A decimal is the shortest
+that is read as the same float, NaN, Infinity and -Infinity are text. Lines of comma-separated
+values end as RFC 4180 has it; JSON is one array. Rows are written as they come, and where a wrong
+line ends the run the array is closed behind those before it.
 ";
 
 pub const DRAW: &str = "\
@@ -66,6 +80,7 @@ number a line. BENCH is
     \"X Y Z  NX NY NZ\"   a point and a normal, in one argument
     \"X Y Z  -\"          a point with no normal
     BENCHES:LINE        the bench at that line of a file, whose own u is not used
+The sum of named chances stands below, since all draws have it in common.
 `light --help` tells of ROOM, `light report --help` of BENCHES.
 ";
 

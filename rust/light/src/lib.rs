@@ -1,6 +1,7 @@
 //! What the program `light` does: rooms and their lamps, benches and what they look at. `light --help` tells of it.
 
 pub mod bench;
+pub mod block;
 pub mod commands;
 pub mod completions;
 pub mod draw;
@@ -12,7 +13,9 @@ pub mod plan;
 pub mod report;
 pub mod room;
 pub mod rows;
+pub mod sheet;
 pub mod source;
+pub mod table;
 pub mod text;
 
 use options::Asked;

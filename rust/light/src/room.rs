@@ -1,23 +1,7 @@
 //! Rooms: a text table of lamps, and which of them is to blame where a room is refused.
 
-use crate::options::Options;
-use crate::output::Output;
-use crate::source;
-use crate::text::{Line, Stop, Word, Wrong, called, decimal_or_word, fields, line_of, number, numbers, quoted};
+use crate::text::{Line, Stop, Word, Wrong, called, fields, line_of, number, numbers};
 use light_tree::{Block, Lamp, LightTree, Refusal, Triangle, bounds_block, lamp_list};
-
-/// `light block ROOM`.
-pub fn block(options: &Options, output: &mut Output) -> Result<(), Stop> {
-    let [path] = options.arguments();
-    output.text(&source::room(path)?.table()?);
-    Ok(())
-}
-
-/// `light list ROOM`.
-pub fn list(options: &Options, output: &mut Output) -> Result<(), Stop> {
-    let [path] = options.arguments();
-    output.words(&source::room(path)?.list()?)
-}
 
 pub struct Room {
     /// What the room is called in messages.
@@ -28,9 +12,6 @@ pub struct Room {
     /// What each is called.
     names: Vec<Option<String>>,
 }
-
-const COLUMNS: &str =
-    "# handle min_x min_y min_z max_x max_y max_z direction_x direction_y direction_z phi cos_theta_o cos_theta_e sides";
 
 /// "refused 9: …".
 pub fn refused(refusal: Refusal) -> String {
@@ -93,32 +74,6 @@ impl Room {
                 None => self.blame_all(refusal),
             }
         })
-    }
-
-    /// The block as a table.
-    pub fn table(&self) -> Result<String, Stop> {
-        let named = self.names.iter().any(Option::is_some);
-        let mut table = format!("{COLUMNS}{}\n", if named { " name" } else { "" });
-        for (handle, record) in self.block()?.records().enumerate() {
-            let figures = [
-                &record.bounds.min[..],
-                &record.bounds.max,
-                &record.direction,
-                &[record.phi, record.cos_theta_o, record.cos_theta_e],
-            ];
-            table += &handle.to_string();
-            for figure in figures.concat() {
-                table += " ";
-                table += &decimal_or_word(figure);
-            }
-            table += if record.two_sided { " two" } else { " one" };
-            if named {
-                table += " ";
-                table += &self.names[handle].as_deref().map_or("-".into(), quoted);
-            }
-            table += "\n";
-        }
-        Ok(table)
     }
 
     /// One lamp, and perhaps a part of it, is at fault.

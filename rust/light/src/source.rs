@@ -33,6 +33,14 @@ fn failed(name: &str, error: &std::io::Error) -> Stop {
     Stop::Failed(format!("{name}: {error}"))
 }
 
+/// Whether standard input stands for one of two files at most.
+pub fn once(room: &str, benches: &str) -> Result<(), Stop> {
+    match (room, benches) {
+        ("-", "-") => Err(Stop::Failed("standard input is either the room or the benches".into())),
+        _ => Ok(()),
+    }
+}
+
 pub fn room(path: &str) -> Result<Room, Stop> {
     let Source { name, mut from, .. } = Source::open(path)?;
     let mut text = Vec::new();
@@ -44,7 +52,7 @@ pub fn room(path: &str) -> Result<Room, Stop> {
 pub fn benches(path: &str) -> Result<Vec<Bench>, Stop> {
     let mut lines = Lines::open(path)?;
     let mut benches = Vec::new();
-    while lines.next()? {
+    while lines.advance()? {
         benches.extend(lines.bench()?);
     }
     Ok(benches)
@@ -67,8 +75,8 @@ impl Lines {
         Ok(Lines { name, from: BufReader::new(from), size, read: 0, number: 0, line: Vec::new() })
     }
 
-    /// Whether there is a next line.
-    pub fn next(&mut self) -> Result<bool, Stop> {
+    /// Reads the next line, where there is one.
+    pub fn advance(&mut self) -> Result<bool, Stop> {
         self.line.clear();
         let read = self.from.read_until(b'\n', &mut self.line).map_err(|error| failed(&self.name, &error))?;
         self.line.truncate(self.line.strip_suffix(b"\n").unwrap_or(&self.line).len());
