@@ -4,7 +4,7 @@ use crate::help;
 use crate::options::Options;
 use crate::output::Output;
 use crate::text::Stop;
-use crate::{block, completions, draw, man, plan, report, sheet, table};
+use crate::{block, check, completions, draw, man, plan, report, sheet, table};
 
 /// What may stand in an argument's or an option's place.
 pub enum Values {
@@ -90,6 +90,15 @@ pub const COMMANDS: &[Command] = &[
         more: help::BLOCK,
         choices: &[table::CSV, table::JSON],
         run: block::block,
+    },
+    Command {
+        name: "check",
+        arguments: &[ROOM, Argument { name: "BENCHES", often: Often::OnceOrNot, values: Values::File }],
+        writes: None,
+        text: "all that is wrong or doubtful with a room and its benches",
+        more: help::CHECK,
+        choices: check::CHOICES,
+        run: check::check,
     },
     Command {
         name: "plan",

@@ -2,10 +2,12 @@
 
 pub mod bench;
 pub mod block;
+pub mod check;
 pub mod commands;
 pub mod completions;
 pub mod draw;
 pub mod help;
+pub mod lamp;
 pub mod man;
 pub mod options;
 pub mod output;
@@ -17,6 +19,7 @@ pub mod sheet;
 pub mod source;
 pub mod table;
 pub mod text;
+pub mod triangle;
 
 use options::Asked;
 use output::Output;

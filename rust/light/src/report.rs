@@ -49,7 +49,7 @@ fn rows(
 }
 
 fn row(options: &Options, room: &Room, tree: &LightTree, bench: &Bench, sheet: &mut Sheet, output: &mut Output) {
-    let Bench { line, name, place, u } = bench;
+    let Bench { line, name, place, u, .. } = bench;
     let (line, name, outcome) = (*line, name.as_deref(), Outcome::of(tree, *place, *u));
     let summed = sums(options) && !outcome.is_refused();
     let row = Row { line: Some(line), name, u: *u, outcome, sum: summed.then(|| sum(tree, *place)) };
