@@ -3,26 +3,31 @@
 use crate::bench::{self, Place};
 use crate::options::Options;
 use crate::output::Output;
-use crate::report::{Tally, head, sum, sum_text};
+use crate::report::names;
+use crate::rows::{Outcome, Tally, head, sum, sum_text};
 use crate::source::{Lines, room};
-use crate::text::{Stop, Wrong};
+use crate::text::{Stop, Wrong, quoted};
 
 /// `light draw ROOM BENCH U...`.
 pub fn draw(options: &Options, output: &mut Output) -> Result<(), Stop> {
     let [path, bench] = options.arguments();
-    let place = place_of(bench)?;
+    let (place, name) = place_of(bench)?;
     let numbers = numbers(options.behind(2))?;
     let room = room(path)?;
     let tree = room.tree()?;
+    if let Some(name) = name {
+        output.line(&format!("# bench {}", quoted(&name)));
+    }
     output.line(&head("u"));
     let mut tally = Tally::default();
     for (text, u) in numbers {
-        let row = tally.row(&format!("u {text}"), &room, &tree, place, u).unwrap_or_else(|refused| refused);
-        output.line(&format!("{text:>7} {row}"));
+        let outcome = Outcome::of(&tree, place, u);
+        tally.count(&format!("u {text}"), outcome);
+        output.line(&format!("{text:>7} {}{}", outcome.columns(&room), names(&room, None, outcome)));
         output.pause(|| format!("{} draws", tally.rows()))?;
     }
     output.line(&tally.summary("draw", "draws"));
-    output.line(&format!("# sum of all named chances: {}", sum_text(sum(&tree, place))));
+    output.line(&format!("# sum of all named chances: {}", sum_text(&room, sum(&tree, place))));
     Ok(())
 }
 
@@ -32,8 +37,8 @@ fn numbers(texts: &[String]) -> Result<Vec<(&str, f32)>, Stop> {
     texts.iter().map(|text| Ok((text.as_str(), bench::alone(text).map_err(wrong)?))).collect()
 }
 
-/// The bench that an argument tells or names.
-fn place_of(argument: &str) -> Result<Place, Stop> {
+/// The bench that an argument tells, or whose line it tells, and its name.
+fn place_of(argument: &str) -> Result<(Place, Option<String>), Stop> {
     let place = argument.rsplit_once(':').and_then(|(path, line)| Some((path, line.parse::<usize>().ok()?)));
     let Some((path, number)) = place else {
         let wrong = |Wrong { column, why }| Stop::Refused(format!("BENCH, column {column}: {why}"));
@@ -43,7 +48,7 @@ fn place_of(argument: &str) -> Result<Place, Stop> {
     while lines.next()? {
         if lines.number == number {
             let missing = || Stop::Refused(format!("{}: line {number}: there is no bench", lines.name));
-            return lines.bench()?.map(|bench| bench.place).ok_or_else(missing);
+            return lines.bench()?.map(|bench| (bench.place, bench.name)).ok_or_else(missing);
         }
     }
     Err(Stop::Refused(format!("{}: line {number}: there is no such line", lines.name)))

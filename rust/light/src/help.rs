@@ -15,8 +15,14 @@ table, from 0 on.
     point  X Y Z  INTENSITY SCALE
     spot   X Y Z  DX DY DZ  INTENSITY SCALE  COS_THETA_O COS_FALLOFF_END
     group  EMISSION SCALE one|two  |  AX AY AZ  BX BY BZ  CX CY CZ  AREA  NX NY NZ  |  ...
-A group is a luminous surface of triangles, each behind a `|`: three corners, the area, the normal;
-`one` or `two` says how many of its sides shine.
+A spot shines along DX DY DZ; the angle where its light begins to fall off, and the greater one
+where it ends, are told by their cosines. A group is a luminous surface of triangles, each behind a
+`|`: three corners, the area, the normal; `one` or `two` says how many of its sides shine.
+
+Lengths are in one unit of your choice, areas in its square, angles are told as cosines (60 degrees
+is 0.5), intensity and emission are linear: twice the figure is twice the light, and SCALE
+multiplies it. A line may begin with a name in double quotes, such as \"by the window\"; two quotes
+are one within it. It is shown in every report.
 ";
 
 pub const STATUS: &str = "\
@@ -42,13 +48,14 @@ Draws a lamp for each bench and prints, a bench a line:
             one that is not
     sum of named   all lamps' chances by name together: about 1; less where a branch shines there by
             its bounds but none of its lamps does, and a draw may end with none
-or `refused N` and why; the report goes on behind it. The last lines count the rows and say how far
-the chances part at the most. Both multiply rounded shares, and the draw's share of a right branch
-is 1 less the left one's: most part by a few floats, by more where a right branch has a tiny share.
-Where weights overflow they can part wholly, and the sum is not about 1.
+and the names of bench and lamp, where they have some; or `refused N` and why, and the report goes
+on behind it. The last lines count the rows and say how far the chances part at the most. Both
+multiply rounded shares, and the draw's share of a right branch is 1 less the left one's: most part
+by a few floats, by more where a right branch has a tiny share. Where weights overflow they can part
+wholly, and the sum is not about 1.
 
 BENCHES has a bench a line: a point, a normal there, a number u from 0 to 1; `-` in place of the
-normal is none. `#` starts a comment; numbers are as in ROOM, of which `light --help` tells.
+normal is none. Comments, numbers and names are as in ROOM, of which `light --help` tells.
     X Y Z  NX NY NZ  U
     X Y Z  -         U
 ";

@@ -11,6 +11,7 @@ pub mod output;
 pub mod plan;
 pub mod report;
 pub mod room;
+pub mod rows;
 pub mod source;
 pub mod text;
 

@@ -3,7 +3,7 @@
 use crate::options::Options;
 use crate::output::Output;
 use crate::source;
-use crate::text::{Stop, Word, Wrong, decimal_or_word, fields, line_of, number, numbers, words};
+use crate::text::{Line, Stop, Word, Wrong, called, decimal_or_word, fields, line_of, number, numbers, quoted};
 use light_tree::{Block, Lamp, LightTree, Refusal, Triangle, bounds_block, lamp_list};
 
 /// `light block ROOM`.
@@ -30,7 +30,7 @@ pub struct Room {
 }
 
 const COLUMNS: &str =
-    "# handle min_x min_y min_z max_x max_y max_z direction_x direction_y direction_z phi cos_theta_o cos_theta_e sides\n";
+    "# handle min_x min_y min_z max_x max_y max_z direction_x direction_y direction_z phi cos_theta_o cos_theta_e sides";
 
 /// "refused 9: …".
 pub fn refused(refusal: Refusal) -> String {
@@ -41,10 +41,10 @@ impl Room {
     pub fn read(name: &str, text: &[u8]) -> Result<Room, Stop> {
         let mut room = Room { name: name.into(), lamps: Vec::new(), lines: Vec::new(), names: Vec::new() };
         for (line, bytes) in (1..).zip(text.split(|byte| *byte == b'\n')) {
-            if let Some(lamp) = line_of(bytes).and_then(lamp).map_err(|wrong| wrong.in_line(name, line))? {
+            if let Some((name, lamp)) = line_of(bytes).and_then(lamp).map_err(|wrong| wrong.in_line(name, line))? {
                 room.lamps.push(lamp);
                 room.lines.push(line);
-                room.names.push(None);
+                room.names.push(name);
             }
         }
         Ok(room)
@@ -63,6 +63,11 @@ impl Room {
     /// What a lamp is called, where its line says so.
     pub fn name_of(&self, handle: u32) -> Option<&str> {
         self.names[handle as usize].as_deref()
+    }
+
+    /// `lamp 3 "by the window"`.
+    pub fn called(&self, handle: u32) -> String {
+        called(&format!("lamp {handle}"), self.name_of(handle))
     }
 
     /// The lamp list, in words.
@@ -92,7 +97,8 @@ impl Room {
 
     /// The block as a table.
     pub fn table(&self) -> Result<String, Stop> {
-        let mut table = String::from(COLUMNS);
+        let named = self.names.iter().any(Option::is_some);
+        let mut table = format!("{COLUMNS}{}\n", if named { " name" } else { "" });
         for (handle, record) in self.block()?.records().enumerate() {
             let figures = [
                 &record.bounds.min[..],
@@ -105,7 +111,12 @@ impl Room {
                 table += " ";
                 table += &decimal_or_word(figure);
             }
-            table += if record.two_sided { " two\n" } else { " one\n" };
+            table += if record.two_sided { " two" } else { " one" };
+            if named {
+                table += " ";
+                table += &self.names[handle].as_deref().map_or("-".into(), quoted);
+            }
+            table += "\n";
         }
         Ok(table)
     }
@@ -117,8 +128,8 @@ impl Room {
             Lamp::Spot { .. } => "a spot",
             Lamp::Group { .. } => "a group",
         };
-        let (name, line) = (&self.name, self.lines[place]);
-        Stop::Refused(format!("{name}: line {line}: lamp {place}, {kind}{part}: {}", refused(refusal)))
+        let (name, line, lamp) = (&self.name, self.lines[place], self.called(place as u32));
+        Stop::Refused(format!("{name}: line {line}: {lamp}, {kind}{part}: {}", refused(refusal)))
     }
 
     /// The lamps together are.
@@ -149,17 +160,27 @@ fn part(lamp: &Lamp, refusal: Refusal) -> String {
     format!(", at its triangle {bad}")
 }
 
-/// The lamp of a line, none where it is empty.
-fn lamp(line: &str) -> Result<Option<Lamp>, Wrong> {
-    let (words, end) = words(line);
-    let Some((kind, rest)) = words.split_first() else { return Ok(None) };
+/// The lamp of a line and its name, none where it is empty.
+fn lamp(line: &str) -> Result<Option<(Option<String>, Lamp)>, Wrong> {
+    let line = Line::of(line)?;
+    if line.is_empty() {
+        return Ok(None);
+    }
+    kinds(&line).map(|lamp| Some((line.name, lamp)))
+}
+
+fn kinds(line: &Line) -> Result<Lamp, Wrong> {
+    let (words, end) = (&line.words, line.end);
+    let Some((kind, rest)) = words.split_first() else {
+        return Err(Wrong::at(end, "a name alone: point, spot or group belongs behind it"));
+    };
     let mut parts = rest.split(|word| word.text == "|");
     let first = parts.next().unwrap_or_default();
     // where each part ends: at the mark that follows, or with the line
     let mut ends = rest.iter().filter(|word| word.text == "|").map(|word| word.column).chain([end]);
     let first_end = ends.next().unwrap_or(end);
     if kind.text == "group" {
-        return group(first, first_end, parts.zip(ends)).map(Some);
+        return group(first, first_end, parts.zip(ends));
     }
     let lamp = match kind.text {
         "point" => {
@@ -176,7 +197,7 @@ fn lamp(line: &str) -> Result<Option<Lamp>, Wrong> {
     };
     match parts.next() {
         Some(_) => Err(Wrong::at(first_end, "only a group has parts")),
-        None => Ok(Some(lamp)),
+        None => Ok(lamp),
     }
 }
 

@@ -2,7 +2,7 @@
 
 use crate::bench::{self, Bench};
 use crate::room::Room;
-use crate::text::{Stop, counted, line_of};
+use crate::text::{Stop, counted, line_of, unmarked};
 use std::fs::File;
 use std::io::{BufRead, BufReader, Read, stdin};
 
@@ -37,7 +37,7 @@ pub fn room(path: &str) -> Result<Room, Stop> {
     let Source { name, mut from, .. } = Source::open(path)?;
     let mut text = Vec::new();
     from.read_to_end(&mut text).map_err(|error| failed(&name, &error))?;
-    Room::read(&name, &text)
+    Room::read(&name, unmarked(&text))
 }
 
 /// All benches of a table.
@@ -72,6 +72,9 @@ impl Lines {
         self.line.clear();
         let read = self.from.read_until(b'\n', &mut self.line).map_err(|error| failed(&self.name, &error))?;
         self.line.truncate(self.line.strip_suffix(b"\n").unwrap_or(&self.line).len());
+        if self.number == 0 {
+            self.line = unmarked(&self.line).to_vec();
+        }
         self.read += read as u64;
         self.number += 1;
         Ok(read > 0)
