@@ -62,13 +62,13 @@ impl Box2 {
         [self.x + self.w / 2.0, self.y + self.h / 2.0]
     }
 
+    pub fn area(&self) -> f64 {
+        self.w * self.h
+    }
+
     /// Wider by so much on each side, or narrower.
     pub fn grown(&self, by: f64) -> Box2 {
         Box2 { x: self.x - by, y: self.y - by, w: self.w + 2.0 * by, h: self.h + 2.0 * by }
-    }
-
-    pub fn moved(&self, by: [f64; 2]) -> Box2 {
-        Box2 { x: self.x + by[0], y: self.y + by[1], ..*self }
     }
 
     /// The area that both have.

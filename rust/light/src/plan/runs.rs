@@ -27,7 +27,10 @@ pub enum End {
 #[derive(Clone, Copy, Debug, PartialEq)]
 pub enum Step {
     /// A fork that draws go on from: its right child, and the shares of both sides.
-    Fork { right: usize, shares: [f32; 2] },
+    Fork {
+        right: usize,
+        shares: [f32; 2],
+    },
     End(End),
 }
 
@@ -85,7 +88,7 @@ impl Runs {
     /// Which part of all u ends so.
     pub fn part(&self, is: impl Fn(End) -> bool) -> f64 {
         let widths = (0..self.runs.len()).filter(|run| is(self.runs[*run].end)).map(|run| self.span(run));
-        widths.map(|[begin, end]| end - begin).sum()
+        widths.fold(0.0, |sum, [begin, end]| sum + end - begin)
     }
 
     /// The places that a draw enters, from the root to the place where it ends.
