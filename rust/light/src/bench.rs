@@ -17,6 +17,8 @@ pub struct Bench {
     pub place: Place,
     /// The number from 0 to 1 that picks the lamp.
     pub u: f32,
+    /// The columns of its first figure and of u.
+    pub columns: [usize; 2],
 }
 
 const POINT: &str = "X Y Z";
@@ -43,7 +45,8 @@ pub fn bench(line: usize, text: &str) -> Result<Option<Bench>, Wrong> {
     };
     let (place, rest) = front(&words, end)?;
     let [u] = numbers(rest, end, "U")?;
-    Ok(Some(Bench { line, name, place, u }))
+    let columns = [words.first(), words.last()].map(|word| word.map_or(end, |word| word.column));
+    Ok(Some(Bench { line, name, place, u, columns }))
 }
 
 /// A bench without u, and its name.

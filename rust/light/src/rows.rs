@@ -37,6 +37,10 @@ impl Outcome {
         }
     }
 
+    pub fn is_refused(self) -> bool {
+        matches!(self, Outcome::Refused(_))
+    }
+
     /// Its columns in a report.
     pub fn columns(self, room: &Room) -> String {
         match self {

@@ -10,6 +10,15 @@ pub enum Stop {
     Unread,
 }
 
+impl std::fmt::Display for Stop {
+    fn fmt(&self, f: &mut std::fmt::Formatter) -> std::fmt::Result {
+        f.write_str(match self {
+            Stop::Refused(why) | Stop::Failed(why) => why,
+            Stop::Unread => "nobody reads on",
+        })
+    }
+}
+
 /// A wrong place in a line: its column, counted in characters from 1, and what is wrong.
 pub struct Wrong {
     pub column: usize,
@@ -21,9 +30,14 @@ impl Wrong {
         Wrong { column, why: why.into() }
     }
 
-    /// The same, with its file and line.
+    /// What is said of it, with its file and line.
+    pub fn told(&self, name: &str, line: usize) -> String {
+        format!("{name}: line {line}, column {}: {}", self.column, self.why)
+    }
+
+    /// The same, where it ends the program.
     pub fn in_line(self, name: &str, line: usize) -> Stop {
-        Stop::Refused(format!("{name}: line {line}, column {}: {}", self.column, self.why))
+        Stop::Refused(self.told(name, line))
     }
 }
 
@@ -161,19 +175,28 @@ pub fn number(word: Word) -> Result<f32, Wrong> {
 
 /// What to write in place of a word that is no number, where that can be guessed.
 fn hint(text: &str) -> String {
-    let point = text.replacen(',', ".", 1);
-    if point != text && point.parse::<f32>().is_ok() {
-        return format!(": write {point}");
+    let is_number = |text: &str| text.parse::<f32>().is_ok_and(f32::is_finite);
+    let point = text.replacen(',', ".", 1).replacen('\u{2212}', "-", 1);
+    match text.split_once(',') {
+        Some((whole, "")) if is_number(whole) => format!(": write {whole} without the comma"),
+        Some((whole, part)) if is_number(&point) && part.len() == 3 && is_number(whole) => {
+            format!(": write {point}, or {whole}{part} if thousands are meant")
+        }
+        _ if point != text && is_number(&point) => format!(": write {point}"),
+        _ if text.starts_with('"') => ": a name stands first in its line".into(),
+        _ => String::new(),
     }
-    if text.starts_with('"') { ": a name stands first in its line".into() } else { String::new() }
 }
 
-/// As many words as there are names; what comes too much is at fault, or the end where some are missing.
+/// As many words as there are names.
 pub fn fields<'a, const N: usize>(words: &[Word<'a>], end: usize, names: &str) -> Result<[Word<'a>; N], Wrong> {
-    words.try_into().map_err(|_| {
-        let column = words.get(N).map_or(end, |word| word.column);
-        Wrong::at(column, format!("{} figures in place of {N}: {names}", words.len()))
-    })
+    words.try_into().map_err(|_| miscounted(words, N, end, names))
+}
+
+/// Words that should be so many: what comes too much is at fault, or the end where some are missing.
+pub fn miscounted(words: &[Word], count: usize, end: usize, names: &str) -> Wrong {
+    let column = words.get(count).map_or(end, |word| word.column);
+    Wrong::at(column, format!("{} in place of {count}: {names}", counted(words.len(), "figure", "figures")))
 }
 
 /// As many numbers as there are names.

@@ -216,7 +216,7 @@ fn draw() {
     assert_eq!(bad(1, &["draw", "room.txt", "0 0 x -", "0"], ""), "BENCH, column 5: 'x' is no number");
     assert_eq!(
         bad(1, &["draw", "room.txt", "0 0 0 - 1", "0"], ""),
-        "BENCH, column 9: 1 figures in place of 0: a bench here has no U"
+        "BENCH, column 9: 1 figure in place of 0: a bench here has no U"
     );
     assert_eq!(
         bad(1, &["draw", "room.txt", "0 0 0", "0"], ""),
@@ -244,7 +244,7 @@ fn wrong_rooms() {
         ("| 1 2", "column 1: '|' is no kind"),
         ("group 1 1 both", "column 11: 'both' is neither one nor two"),
         ("group 1 1", "column 10: 2 figures in place of 3: EMISSION SCALE one|two"),
-        ("group 1 1 one | 1 | 2", "column 19: 1 figures in place of 13: AX AY AZ"),
+        ("group 1 1 one | 1 | 2", "column 19: 1 figure in place of 13: AX AY AZ"),
         ("group 1 1 one |", "column 16: 0 figures in place of 13"),
         ("group 1 1 one|0 0 0 1 0 0 0 1 0 1 0 0 z", "column 39: 'z' is no number"),
     ] {
@@ -260,14 +260,17 @@ fn refused_rooms() {
     let triangle = "| 0 0 0 1 0 0 0 1 0 0.5 0 0 1 ";
     let flat = "| 0 0 0 1 0 0 0 1 0 0 0 0 1 ";
     let nine = "refused 9: a triangle's area is not a finite number above 0, or a group has no triangle";
-    wrong("point 1 2 3 1 1\n\nspot 1 2 3 0 0 0 1 1 0.5 0.4", "line 3: lamp 1, a spot: refused 7: ");
+    wrong("point 1 2 3 1 1\n\nspot 1 2 3 0 0 0 1 1 0.5 0.4", "line 3, column 12: lamp 1, a spot: refused 7: ");
     let group = format!("group 1 1 one {triangle}{flat}{triangle}\npoint 0 0 0 -1 1");
-    wrong(&group, &format!("line 1: lamp 0, a group, at its triangle 2: {nine}"));
-    wrong("point 0 0 0 1 1\npoint 0 0 0 -1 1", "line 2: lamp 1, a point: refused 8: ");
-    wrong("group 1 1 two", &format!("line 1: lamp 0, a group: {nine}"));
-    wrong("point 0x7fc00000 0 0 1 1", "line 1: lamp 0, a point: refused 5: ");
+    wrong(&group, &format!("line 1, column 65: lamp 0, a group, at its triangle 2: {nine}: AREA is 0: write one above 0"));
+    wrong("point 0 0 0 1 1\npoint 0 0 0 -1 1", "line 2, column 13: lamp 1, a point: refused 8: ");
+    wrong("group 1 1 two", &format!("line 1, column 14: lamp 0, a group: {nine}: a triangle belongs here"));
+    wrong("point 0x7fc00000 0 0 1 1", "line 1, column 7: lamp 0, a point: refused 5: ");
     let bright = triangle.replace("0.5", "1");
-    wrong(&format!("group 1e38 1 one {}", bright.repeat(4)), "line 1: lamp 0, a group, at its triangle 3: refused 10: ");
+    wrong(
+        &format!("group 1e38 1 one {}", bright.repeat(4)),
+        "line 1, column 1: lamp 0, a group, at its triangle 3: refused 10: ",
+    );
     wrong(
         &"point 0 0 0 1 1\n".repeat(4097),
         "refused 2: over 4,096 lamps (columns: 512), weights or table words, 8,191 nodes, or 2^20 words: this room has 4097 lamps",
@@ -276,7 +279,7 @@ fn refused_rooms() {
     // what only the tree refuses: a group's power that is infinite, by its line; powers that are so together, by the room
     let report = |room: &str| bad(1, &["report", "-", "benches.txt"], room);
     let infinite = format!("point 0 0 0 1 1\ngroup 1e38 1 one {}", bright.repeat(2));
-    assert!(report(&infinite).starts_with("standard input: line 2: lamp 1, a group: refused 5: "));
+    assert!(report(&infinite).starts_with("standard input: line 2, column 7: lamp 1, a group: refused 5: "));
     let huge: String = (0..3).map(|x| format!("point {x} 0 0 2.387e37 1\n")).collect();
     assert!(report(&huge).starts_with("standard input: refused 10: "));
     assert_eq!(good(&["block", "-"], &infinite).lines().count(), 3);

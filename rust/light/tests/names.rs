@@ -42,7 +42,7 @@ fn in_draws() {
 #[test]
 fn in_refusals() {
     let said = bad(1, &["block", "-"], "\"on the wall\" point 0 0 0 -1 1");
-    assert!(said.starts_with("standard input: line 1: lamp 0 \"on the wall\", a point: refused 8: "), "{said}");
+    assert!(said.starts_with("standard input: line 1, column 27: lamp 0 \"on the wall\", a point: refused 8: "), "{said}");
     // of a lamp at the centre of a box that is the bench's place
     let places = ["0 2", "5 2", "4 1", "5 1", "2 2", "0 0"];
     let room: String = places.iter().map(|place| format!("\"at {place}\" point {place} 0 1 1\n")).collect();
