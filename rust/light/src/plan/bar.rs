@@ -160,7 +160,7 @@ fn scale(svg: &mut Svg) {
 fn line_at(svg: &mut Svg, view: &View, u: f32, x: f64) {
     if let Some(at) = view.runs.runs.iter().position(|run| (run.first..=run.last).contains(&u)) {
         let span = view.runs.span(at).map(|part| part * WIDE);
-        frame(svg, Box2 { x: span[0], y: TOP - 4.0, w: (span[1] - span[0]).max(4.0), h: HIGH + 8.0 });
+        frame(svg, Box2 { x: span[0], y: TOP - 4.0, w: span[1] - span[0], h: HIGH + 8.0 });
     }
     let words = format!("u = {}", figure(u));
     let half = width(&words, 13.5) / 2.0;

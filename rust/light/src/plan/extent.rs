@@ -78,7 +78,9 @@ fn round_up(x: f64) -> f64 {
 
 /// What stands at a line of the grid.
 fn tick(value: f64, step: f64) -> String {
-    let value = if value.abs() < step / 2.0 { 0.0 } else { value };
+    if value.abs() < step / 2.0 {
+        return "0".into();
+    }
     if value.abs() >= 1e6 || step < 1e-4 {
         return decimal(value as f32);
     }

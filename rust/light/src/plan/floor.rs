@@ -2,7 +2,7 @@
 
 use crate::plan::extent::{Sheet, Side};
 use crate::plan::labels::{Label, Taken};
-use crate::plan::lamps::{Drawn, Style, cross, lamps, ring};
+use crate::plan::lamps::{Stage, Style, cross, ring};
 use crate::plan::legend::legend;
 use crate::plan::marks::wide;
 use crate::plan::markup::{Anchor, Box2, Svg, px, width};
@@ -34,15 +34,14 @@ pub fn floor(scene: &Scene, seen: &Seen, view: &View) -> String {
     title(&mut svg, &plan, "Plan, y over x");
     ruler(&mut svg, &plan, x.step);
 
-    let high = (z.length() * scale).clamp(HEIGHTS[0], HEIGHTS[1]);
-    let up = high / z.length();
+    let up = scale_up(z.length(), scale);
     let heights = Sheet::new(&scene.extent, [0, 2], [left, plan.inner.bottom() + 74.0], [scale, up]);
     grid(&mut svg, &heights, [&x, &z], false);
     title(&mut svg, &heights, &format!("Heights, z over x{}", stretched(up / scale)));
 
-    let many = scene.is_many();
-    sheet(&mut svg, scene, seen, view, &plan, &Style::plan(many));
-    sheet(&mut svg, scene, seen, view, &heights, &Style::heights(many));
+    let (many, drawn) = (scene.is_many(), seen.outcome.lamp());
+    fill(&mut svg, seen, &Stage::new(scene, view, drawn, &plan, Style::plan(many)), true);
+    fill(&mut svg, seen, &Stage::new(scene, view, drawn, &heights, Style::heights(many)), false);
     let bottom = legend(&mut svg, [left - MARGIN, heights.inner.bottom() + MARGIN + 18.0], WIDE - 2.0);
     svg.drawing("plan", Box2 { x: 0.0, y: 0.0, w: WIDE, h: bottom }, &told(scene, seen, view))
 }
@@ -53,10 +52,17 @@ fn left_of(sides: &[Side]) -> f64 {
     (widest + 24.0).max(42.0)
 }
 
+/// The scale of the heights: the plan's, unless that makes them too low or too high by more than a little.
+fn scale_up(length: f64, scale: f64) -> f64 {
+    let high = length * scale;
+    let held = high.clamp(HEIGHTS[0], HEIGHTS[1]);
+    if (held / high - 1.0).abs() < 0.05 { scale } else { held / length }
+}
+
 fn stretched(times: f64) -> String {
     match times {
-        times if times > 1.005 => format!(", stretched {} times", rounded(times)),
-        times if times < 0.995 => format!(", pressed {} times", rounded(1.0 / times)),
+        times if times > 1.0 => format!(", stretched {} times", rounded(times)),
+        times if times < 1.0 => format!(", pressed {} times", rounded(1.0 / times)),
         _ => String::new(),
     }
 }
@@ -110,60 +116,54 @@ fn ruler(svg: &mut Svg, sheet: &Sheet, step: f64) {
 }
 
 /// The lamps, the bench and the way between them on one of the two sheets; labels stand on the plan alone.
-fn sheet(svg: &mut Svg, scene: &Scene, seen: &Seen, view: &View, sheet: &Sheet, style: &Style) {
+fn fill(svg: &mut Svg, seen: &Seen, stage: &Stage, has_labels: bool) {
     let p = wide(seen.bench.place.p);
-    let bench = p.iter().all(|x| x.is_finite()).then(|| sheet.at(p));
-    let drawn = seen.outcome.lamp();
-    let target = drawn
-        .and_then(|handle| scene.marks.get(handle as usize))
-        .map(|mark| Shape::of(mark, sheet, style.sizes).bounds().center());
-    let mut taken = Taken::within(sheet.inner.grown(MARGIN - 1.0));
-    if let (Some(from), Some(to)) = (bench, target) {
-        svg.line([from, to], &format!("{} stroke-dasharray=\"5 3\"", look("none", ACCENT, 1.4)));
-        taken.add_line([from, to]);
+    let bench = p.iter().all(|x| x.is_finite()).then(|| stage.sheet.at(p));
+    let drawn = stage.drawn.and_then(|handle| stage.lamp(handle));
+    let mut taken = Taken::within(stage.sheet.inner.grown(MARGIN - 1.0));
+    if let (Some(from), Some(lamp)) = (bench, drawn) {
+        let line = [from, lamp.shape.bounds().center()];
+        svg.line(line, &format!("{} stroke-dasharray=\"5 3\"", look("none", ACCENT, 1.4)));
+        taken.add_line(line);
     }
     // under the lamps, which an arrow over them would hide
-    let way = normal_of(seen, sheet, style.towards);
-    if let (Some(from), Some(Heading::Along(along))) = (bench, &way) {
-        let long = arrow_length(scene, sheet, style, from, *along);
-        taken.add_line(arrow(svg, from, *along, long));
+    let normal = normal_of(seen, stage);
+    if let (Some(from), Some(Heading::Along(along))) = (bench, &normal) {
+        taken.add_line(arrow(svg, from, *along, arrow_length(stage, from, *along)));
     }
-    let set = lamps(svg, scene, view, drawn, sheet, style);
-    let ring = set.iter().find(|lamp| Some(lamp.handle) == drawn).map(|lamp| ring(svg, &lamp.shape));
-    set.iter().map(|lamp| lamp.shape.bounds()).chain(ring).for_each(|place| taken.add(place));
-    let mark = bench.map(|at| {
-        bench_mark(svg, at, way);
-        Box2::around(at, 14.0, 14.0)
-    });
-    if style.towards > 0.0 {
+    stage.draw(svg);
+    let ring = drawn.map(|lamp| ring(svg, &lamp.shape));
+    stage.lamps().map(|lamp| lamp.shape.bounds()).chain(ring).for_each(|place| taken.add(place));
+    let mark = bench.map(|at| bench_mark(svg, at, normal));
+    if has_labels {
         mark.into_iter().for_each(|mark| taken.add(mark));
-        labels(svg, view, &set, drawn.zip(ring), mark, &mut taken);
+        labels(svg, stage, ring, mark, &mut taken);
     }
 }
 
 /// Which way the bench's normal goes on a sheet, none where it has none.
-fn normal_of(seen: &Seen, sheet: &Sheet, towards: f64) -> Option<Heading> {
+fn normal_of(seen: &Seen, stage: &Stage) -> Option<Heading> {
     let n = wide(seen.bench.place.n);
     let length = n.iter().map(|x| x * x).sum::<f64>().sqrt();
-    (length.is_finite() && length > 0.0).then(|| heading(sheet, n.map(|x| x / length), towards))
+    (length.is_finite() && length > 0.0).then(|| heading(stage.sheet, n.map(|x| x / length), stage.style.towards))
 }
 
 /// Longer where the head of the normal's arrow would lie on a lamp.
-fn arrow_length(scene: &Scene, sheet: &Sheet, style: &Style, from: [f64; 2], along: [f64; 2]) -> f64 {
-    let boxes: Vec<Box2> = scene.marks.iter().map(|mark| Shape::of(mark, sheet, style.sizes).bounds()).collect();
+fn arrow_length(stage: &Stage, from: [f64; 2], along: [f64; 2]) -> f64 {
     let head = |long: f64| Box2::around([from[0] + (long - 4.0) * along[0], from[1] + (long - 4.0) * along[1]], 9.0, 9.0);
-    let is_clear = |long: &f64| !boxes.iter().any(|lamp| lamp.shared(&head(*long)) > 0.0);
+    let is_clear = |long: &f64| !stage.lamps().any(|lamp| lamp.shape.bounds().shared(&head(*long)) > 0.0);
     [24.0, 32.0, 40.0, 48.0].into_iter().find(is_clear).unwrap_or(24.0)
 }
 
 /// The bench as a diamond; a dot says that its normal comes towards the reader, a cross that it goes away.
-fn bench_mark(svg: &mut Svg, at: [f64; 2], normal: Option<Heading>) {
+fn bench_mark(svg: &mut Svg, at: [f64; 2], normal: Option<Heading>) -> Box2 {
     diamond(svg, at, 7.0);
     match normal {
         Some(Heading::Towards) => svg.circle(at, 2.1, "fill=\"#ffffff\""),
         Some(Heading::Away) => svg.path(&cross(at[0], at[1], 2.1), &look("none", "#ffffff", 1.3)),
         _ => {}
     }
+    Box2::around(at, 14.0, 14.0)
 }
 
 /// An arrow in the bench's colour, from its foot to its tip.
@@ -181,26 +181,27 @@ pub fn diamond(svg: &mut Svg, [x, y]: [f64; 2], half: f64) {
 }
 
 /// The lamp drawn, the bench, then lamps from 1 % on by falling chance.
-fn labels(svg: &mut Svg, view: &View, set: &[Drawn], drawn: Option<(u32, Box2)>, bench: Option<Box2>, taken: &mut Taken) {
-    let small: Vec<Box2> = set.iter().map(|lamp| &lamp.shape).filter(|shape| shape.is_disc()).map(Shape::bounds).collect();
-    if let Some((handle, ring)) = drawn {
-        handle_label(svg, view, set, handle, Some(ring), &small, taken);
+fn labels(svg: &mut Svg, stage: &Stage, ring: Option<Box2>, bench: Option<Box2>, taken: &mut Taken) {
+    if let Some(handle) = stage.drawn {
+        handle_label(svg, stage, handle, ring, taken);
     }
     if let Some(bench) = bench {
         taken.set_beside(svg, bench, &Label { words: "bench", size: 12.0, ink: ACCENT, bold: true });
     }
-    let others = view.greatest().into_iter().filter(|handle| drawn.is_none_or(|(drawn, _)| drawn != *handle));
-    for handle in others.take_while(|handle| !(view.chance(*handle) < FROM)) {
-        handle_label(svg, view, set, handle, None, &small, taken);
+    let others = stage.view.greatest().into_iter().filter(|handle| Some(*handle) != stage.drawn);
+    // a chance that is not a number is labelled too
+    for handle in others.take_while(|handle| !(stage.view.chance(*handle) < FROM)) {
+        handle_label(svg, stage, handle, None, taken);
     }
 }
 
 /// A lamp's handle: in a panel, else beside the lamp, or beside its ring where it is the one drawn.
-fn handle_label(svg: &mut Svg, view: &View, set: &[Drawn], handle: u32, ring: Option<Box2>, small: &[Box2], taken: &mut Taken) {
-    let Some(lamp) = set.iter().find(|lamp| lamp.handle == handle) else { return };
-    let (words, ink, bounds) = (handle.to_string(), shade(view.chance(handle)).ink, lamp.shape.bounds());
+fn handle_label(svg: &mut Svg, stage: &Stage, handle: u32, ring: Option<Box2>, taken: &mut Taken) {
+    let Some(lamp) = stage.lamp(handle) else { return };
+    let (words, ink, bounds) = (handle.to_string(), shade(stage.view.chance(handle)).ink, lamp.shape.bounds());
     let label = Label { words: &words, size: if ring.is_some() { 12.0 } else { 11.5 }, ink, bold: ring.is_some() };
-    if lamp.shape.is_disc() || !taken.set_inside(svg, bounds, small, &label) {
+    let small = stage.lamps().map(|lamp| &lamp.shape).filter(|shape| shape.is_disc()).map(Shape::bounds);
+    if !lamp.shape.fills_its_box() || !taken.set_inside(svg, bounds, small, &label) {
         taken.set_beside(svg, ring.unwrap_or(bounds), &Label { ink: INK, ..label });
     }
 }

@@ -3,8 +3,9 @@
 use crate::plan::extent::Sheet;
 use crate::plan::floor::diamond;
 use crate::plan::labels::{Label, Taken};
+use crate::plan::lamps::{dot, dots_look};
 use crate::plan::marks::wide;
-use crate::plan::markup::{Box2, Svg, escaped, px};
+use crate::plan::markup::{Box2, Svg, escaped};
 use crate::plan::scene::Scene;
 use crate::plan::seen::{Gap, Seen};
 use crate::plan::shade::{INK, LINE, look, shade};
@@ -119,13 +120,13 @@ fn lamps(svg: &mut Svg, scene: &Scene, sheet: &Sheet) {
     for mark in &scene.marks {
         match Shape::of(mark, sheet, Sizes { point: 2.0, spot: 2.0, across: 2.0 }) {
             Shape::Area(ways) => areas += &closed(&ways),
-            Shape::Disc { center: [x, y], .. } => dots += &format!("M{} {}h0", px(x), px(y)),
+            Shape::Disc { center, .. } => dots += &dot(center),
         }
     }
     if !areas.is_empty() {
         svg.path(&areas, "fill=\"#e3e3e0\"");
     }
     if !dots.is_empty() {
-        svg.path(&dots, "fill=\"none\" stroke=\"#c9c9c5\" stroke-width=\"4\" stroke-linecap=\"round\"");
+        svg.path(&dots, &dots_look("#c9c9c5", if scene.is_many() { 2.0 } else { 4.0 }));
     }
 }

@@ -7,6 +7,7 @@ use crate::plan::shade::{ACCENT, look};
 pub struct Taken {
     walls: Box2,
     boxes: Vec<Box2>,
+    labels: Vec<Box2>,
     lines: Vec<[[f64; 2]; 2]>,
 }
 
@@ -20,7 +21,7 @@ pub struct Label<'a> {
 
 impl Taken {
     pub fn within(walls: Box2) -> Taken {
-        Taken { walls, boxes: Vec::new(), lines: Vec::new() }
+        Taken { walls, boxes: Vec::new(), labels: Vec::new(), lines: Vec::new() }
     }
 
     pub fn add(&mut self, place: Box2) {
@@ -33,7 +34,9 @@ impl Taken {
 
     fn is_free(&self, place: &Box2) -> bool {
         let hit = |taken: &Box2| taken.shared(place) > 0.0;
-        self.walls.holds(place) && !self.boxes.iter().any(hit) && !self.lines.iter().any(|line| place.meets(*line))
+        self.walls.holds(place)
+            && !self.boxes.iter().chain(&self.labels).any(hit)
+            && !self.lines.iter().any(|line| place.meets(*line))
     }
 
     /// Sets a label above, below, right or left of what it names: at the first place that is free, else nowhere; a bold one at the
@@ -50,20 +53,22 @@ impl Taken {
         let mut places = [2.0, 5.0].into_iter().flat_map(around);
         if let Some(center) = places.clone().find(free).or_else(|| places.find(within)) {
             label.put(svg, center, true);
-            self.add(Box2::around(center, wide, high));
+            self.labels.push(Box2::around(center, wide, high));
         }
     }
 
-    /// Sets a label inside what it names, where it fits and no small lamp lies there; whether it did.
-    pub fn set_inside(&mut self, svg: &mut Svg, named: Box2, small: &[Box2], label: &Label) -> bool {
+    /// Sets a label inside what it names, where it fits and neither a small lamp nor another label is; whether it did.
+    pub fn set_inside(&mut self, svg: &mut Svg, named: Box2, mut small: impl Iterator<Item = Box2>, label: &Label) -> bool {
         let place = Box2::around(named.center(), width(label.words, label.size), label.size);
-        let hit = |taken: &Box2| taken.shared(&place) > 0.0;
         let fits = place.w + 8.0 <= named.w && place.h + 1.0 <= named.h;
-        if !fits || small.iter().any(hit) || self.lines.iter().any(|line| place.meets(*line)) {
-            return false;
+        let hit = |taken: &Box2| taken.shared(&place) > 0.0;
+        let is_taken =
+            small.any(|lamp| hit(&lamp)) || self.labels.iter().any(hit) || self.lines.iter().any(|line| place.meets(*line));
+        if fits && !is_taken {
+            label.put(svg, named.center(), false);
+            self.labels.push(place);
         }
-        label.put(svg, named.center(), false);
-        true
+        fits && !is_taken
     }
 }
 
@@ -108,6 +113,7 @@ pub fn cell_words<'a>(
 
 /// A frame in the bench's colour with a white line inside, so that it is seen in grey and on dark blue too.
 pub fn frame(svg: &mut Svg, cell: Box2) {
+    let cell = Box2::around(cell.center(), cell.w.max(6.0), cell.h);
     svg.rect(cell.grown(-2.8), &look("none", "#ffffff", 1.6));
     svg.rect(cell.grown(-1.0), &look("none", ACCENT, 2.0));
 }

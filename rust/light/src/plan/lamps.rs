@@ -1,17 +1,31 @@
 //! The lamps on the plan and in the heights, each shaded by its chance.
 
 use crate::plan::extent::Sheet;
-use crate::plan::marks::{Form, Mark};
+use crate::plan::marks::Form;
 use crate::plan::markup::{Box2, Svg, px};
 use crate::plan::scene::Scene;
 use crate::plan::seen::View;
 use crate::plan::shade::{ACCENT, EDGE, INK, LINE, is_faint, look, shade};
 use crate::plan::shapes::{Heading, Shape, Sizes, closed, heading, shifts, wedge};
 
-/// A lamp that is drawn by itself.
-pub struct Drawn {
+/// A lamp on a sheet.
+pub struct Placed {
     pub handle: u32,
     pub shape: Shape,
+    /// Where it hangs, if it is drawn beside that.
+    from: Option<[f64; 2]>,
+}
+
+/// A sheet with the lamps on it, for one bench.
+pub struct Stage<'a> {
+    pub scene: &'a Scene<'a>,
+    pub view: &'a View,
+    /// The lamp that the bench looks at.
+    pub drawn: Option<u32>,
+    pub sheet: &'a Sheet,
+    pub style: Style,
+    /// By handle.
+    placed: Vec<Placed>,
 }
 
 /// How lamps are drawn on a sheet.
@@ -57,78 +71,93 @@ fn look_of(scene: &Scene, view: &View, handle: u32) -> Look {
     }
 }
 
-/// Draws the lamps, the greatest chances last and small ones over large ones; what is drawn by itself is told.
-pub fn lamps(svg: &mut Svg, scene: &Scene, view: &View, drawn: Option<u32>, sheet: &Sheet, style: &Style) -> Vec<Drawn> {
-    let is_dot = |mark: &&Mark| scene.is_many() && is_faint(view.chance(mark.handle)) && Some(mark.handle) != drawn;
-    dots(svg, sheet, scene.marks.iter().filter(is_dot));
-    let shapes: Vec<Shape> = scene.marks.iter().map(|mark| Shape::of(mark, sheet, style.sizes)).collect();
-    let shifts = if style.apart { shifts(&scene.marks, &shapes) } else { vec![[0.0; 2]; shapes.len()] };
-    let mut order: Vec<usize> = (0..shapes.len()).filter(|at| !is_dot(&&scene.marks[*at])).collect();
-    let size = |at: usize| if shapes[at].is_disc() { 0.0 } else { shapes[at].bounds().area() };
-    let rank = |at: usize| view.met[at].map_or(-1.0, |met| met.drawn);
-    order.sort_by(|a, b| size(*b).total_cmp(&size(*a)).then(rank(*a).total_cmp(&rank(*b))));
-    order.iter().map(|at| lamp(svg, scene, view, &scene.marks[*at], (&shapes[*at], shifts[*at]), sheet, style)).collect()
-}
-
-/// Marks as plain dots, in one path.
-fn dots<'a>(svg: &mut Svg, sheet: &Sheet, marks: impl Iterator<Item = &'a Mark>) {
-    let places = marks.map(|mark| sheet.at(mark.at)).map(|[x, y]| format!("M{} {}h0", px(x), px(y)));
-    let path: String = places.collect();
-    if !path.is_empty() {
-        svg.path(&path, "fill=\"none\" stroke=\"#b4bccb\" stroke-width=\"2.4\" stroke-linecap=\"round\"");
+impl<'a> Stage<'a> {
+    pub fn new(scene: &'a Scene, view: &'a View, drawn: Option<u32>, sheet: &'a Sheet, style: Style) -> Stage<'a> {
+        let shapes: Vec<Shape> = scene.marks.iter().map(|mark| Shape::of(mark, sheet, style.sizes)).collect();
+        let shifts = if style.apart { shifts(&scene.marks, &shapes) } else { vec![[0.0; 2]; shapes.len()] };
+        let place = |((handle, shape), shift): ((u32, Shape), [f64; 2])| {
+            let from = (shift != [0.0; 2]).then(|| shape.bounds().center());
+            Placed { handle, shape: shape.moved(shift), from }
+        };
+        let placed = (0..).zip(shapes).zip(shifts).map(place).collect();
+        Stage { scene, view, drawn, sheet, style, placed }
     }
-}
 
-fn lamp(
-    svg: &mut Svg,
-    scene: &Scene,
-    view: &View,
-    mark: &Mark,
-    (at, shift): (&Shape, [f64; 2]),
-    sheet: &Sheet,
-    style: &Style,
-) -> Drawn {
-    let shape = at.moved(shift);
-    let how = look_of(scene, view, mark.handle);
-    svg.titled(Some(mark.handle), &scene.title(mark.handle, view), |svg| {
-        match &shape {
-            Shape::Area(ways) => svg.path(&closed(ways), &format!("{} fill-rule=\"evenodd\"", how.shape)),
-            Shape::Disc { center, radius } => {
-                if shift != [0.0; 2] {
-                    svg.line([at.bounds().center(), *center], &look("none", LINE, 0.8));
+    pub fn lamp(&self, handle: u32) -> Option<&Placed> {
+        self.placed.get(handle as usize)
+    }
+
+    /// The lamps that are drawn by themselves: among many the faint ones are dots.
+    pub fn lamps(&self) -> impl Iterator<Item = &Placed> {
+        self.placed.iter().filter(|lamp| !self.is_dot(lamp.handle))
+    }
+
+    fn is_dot(&self, handle: u32) -> bool {
+        self.scene.is_many() && is_faint(self.view.chance(handle)) && Some(handle) != self.drawn
+    }
+
+    /// Draws the lamps, the greatest chances last and small ones over large ones.
+    pub fn draw(&self, svg: &mut Svg) {
+        let dots: String =
+            self.scene.marks.iter().filter(|mark| self.is_dot(mark.handle)).map(|mark| dot(self.sheet.at(mark.at))).collect();
+        if !dots.is_empty() {
+            svg.path(&dots, &dots_look("#b4bccb", 2.4));
+        }
+        let mut order: Vec<&Placed> = self.lamps().collect();
+        let size = |lamp: &Placed| if lamp.shape.is_disc() { 0.0 } else { lamp.shape.bounds().area() };
+        let rank = |lamp: &Placed| self.view.met(lamp.handle).map_or(-1.0, |met| met.drawn);
+        order.sort_by(|a, b| size(b).total_cmp(&size(a)).then(rank(a).total_cmp(&rank(b))));
+        for lamp in order {
+            self.draw_lamp(svg, lamp);
+        }
+    }
+
+    fn draw_lamp(&self, svg: &mut Svg, lamp: &Placed) {
+        let how = look_of(self.scene, self.view, lamp.handle);
+        svg.titled(Some(lamp.handle), &self.scene.title(lamp.handle, self.view), |svg| {
+            match &lamp.shape {
+                Shape::Area(ways) => svg.path(&closed(ways), &format!("{} fill-rule=\"evenodd\"", how.shape)),
+                Shape::Disc { center, radius } => {
+                    if let Some(from) = lamp.from {
+                        svg.line([from, *center], &look("none", LINE, 0.8));
+                    }
+                    self.draw_disc(svg, lamp.handle, *center, *radius, &how);
                 }
-                disc(svg, mark, (*center, *radius), &how, sheet, style);
             }
+            if !self.scene.has_power(lamp.handle) {
+                let through = lamp.shape.bounds().grown(-1.8);
+                svg.line([[through.x, through.y], [through.right(), through.bottom()]], &look("none", LINE, 1.0));
+            }
+        });
+    }
+
+    /// A point's or spot's disc, edged white against what lies under it, with the way that a spot shines.
+    fn draw_disc(&self, svg: &mut Svg, handle: u32, center: [f64; 2], radius: f64, how: &Look) {
+        let spot = match self.scene.marks.get(handle as usize).map(|mark| &mark.form) {
+            Some(Form::Spot { axis, half_angle }) => Some((heading(self.sheet, *axis, self.style.towards), *half_angle)),
+            _ => None,
+        };
+        if let Some((Heading::Along(along), half_angle)) = spot {
+            let look = format!("{} fill-opacity=\"0.7\"", look("#ffffff", LINE, 0.9));
+            svg.path(&wedge(center, along, half_angle, self.style.wedge), &look);
         }
-        if !scene.has_power(mark.handle) {
-            let cross = shape.bounds();
-            svg.line([[cross.x + 1.8, cross.y + 1.8], [cross.right() - 1.8, cross.bottom() - 1.8]], &look("none", LINE, 1.0));
+        svg.circle(center, radius + 1.5, "fill=\"#ffffff\"");
+        svg.circle(center, radius, &how.shape);
+        match spot {
+            Some((Heading::Away, _)) => svg.path(&cross(center[0], center[1], 0.32 * radius), &look("none", how.ink, 1.1)),
+            Some((Heading::Towards, _)) => svg.circle(center, 0.25 * radius, &format!("fill=\"{}\"", how.ink)),
+            _ => {}
         }
-    });
-    Drawn { handle: mark.handle, shape }
+    }
 }
 
-/// A point's or spot's disc, edged white against what lies under it, with the way that a spot shines.
-fn disc(svg: &mut Svg, mark: &Mark, (center, radius): ([f64; 2], f64), how: &Look, sheet: &Sheet, style: &Style) {
-    let Form::Spot { axis, half_angle } = mark.form else {
-        svg.circle(center, radius + 1.5, "fill=\"#ffffff\"");
-        return svg.circle(center, radius, &how.shape);
-    };
-    let heading = heading(sheet, axis, style.towards);
-    if let Heading::Along(along) = heading {
-        svg.path(
-            &wedge(center, along, half_angle, style.wedge),
-            "fill=\"#ffffff\" fill-opacity=\"0.7\" stroke=\"#8a8a8a\" stroke-width=\"0.9\"",
-        );
-    }
-    svg.circle(center, radius + 1.5, "fill=\"#ffffff\"");
-    svg.circle(center, radius, &how.shape);
-    let ([x, y], arm) = (center, 0.32 * radius);
-    match heading {
-        Heading::Away => svg.path(&cross(x, y, arm), &look("none", how.ink, 1.1)),
-        Heading::Towards => svg.circle(center, 0.25 * radius, &format!("fill=\"{}\"", how.ink)),
-        Heading::Along(_) => {}
-    }
+/// A dot of a path, and how such a path looks.
+pub fn dot([x, y]: [f64; 2]) -> String {
+    format!("M{} {}h0", px(x), px(y))
+}
+
+pub fn dots_look(ink: &str, wide: f64) -> String {
+    format!("{} stroke-linecap=\"round\"", look("none", ink, wide))
 }
 
 /// ×.

@@ -11,7 +11,7 @@ mod legend;
 mod marks;
 mod markup;
 mod page;
-mod runs;
+pub mod runs;
 mod scene;
 mod seen;
 mod shade;

@@ -20,6 +20,8 @@ const HATCH: &str = "<svg xmlns=\"http://www.w3.org/2000/svg\" width=\"0\" heigh
 const BAR_TOLD: &str = "The bar: each lamp’s run of u, in the order of the tree’s leaves, with handle and chance. The tree: a fork spans \
     the runs of its lamps and says the share of its left side; the line at u passes through the forks that this draw takes.";
 
+const NO_TREE: &str = "No lamp has power, so there is no tree, and every u draws none.";
+
 /// All that comes before the benches' sections.
 pub fn head(scene: &Scene, table: &str, sights: &[Seen], has_index: bool) -> String {
     let room = escaped(&scene.room.name);
@@ -59,7 +61,7 @@ fn may_differ(sights: &[Seen]) -> String {
     let drawn = sights.iter().filter_map(Seen::gap).fold(Gap::Floats(0), greater);
     let all = sights.iter().filter_map(|seen| seen.view.as_ref()).flat_map(View::gaps).fold(Gap::Floats(0), greater);
     let told = |gap: Gap| match gap {
-        Gap::Floats(0) => "by nothing".into(),
+        Gap::Floats(0) => "not at all".into(),
         Gap::Floats(floats) => format!("by at most {}", many(floats as usize, "float", "floats")),
         Gap::Wholly => "wholly".into(),
     };
@@ -109,9 +111,10 @@ pub fn section(scene: &Scene, seen: &Seen, has_index: bool) -> String {
 
 fn body(scene: &Scene, seen: &Seen, view: &View) -> String {
     let (note, floor, bar) = (note(scene, seen, view), floor(scene, seen, view), bar(scene, seen, view));
+    let told = if scene.tree.powered() == 0 { NO_TREE } else { BAR_TOLD };
     format!(
         "<p class=\"note\">{note}</p><div class=\"cols\"><figure>{floor}</figure><div>{}{}</div></div>\
-         <figure class=\"w\"><h3>Which u draws which lamp</h3>{bar}<figcaption>{BAR_TOLD}</figcaption></figure>",
+         <figure class=\"w\"><h3>Which u draws which lamp</h3>{bar}<figcaption>{told}</figcaption></figure>",
         two(seen, view),
         greatest(scene, seen, view)
     )
@@ -157,9 +160,9 @@ fn note(scene: &Scene, seen: &Seen, view: &View) -> String {
     notes.join(" ")
 }
 
-/// In four digits, where that is not 0.
+/// In four digits, where that is not 0 or 1.
 fn short(u: f32) -> String {
-    if u > 0.0 && u < 0.00005 { figure(u) } else { format!("{u:.4}") }
+    if (0.00005..0.99995).contains(&u) { format!("{u:.4}") } else { figure(u) }
 }
 
 fn none_told(view: &View) -> String {

@@ -51,6 +51,14 @@ impl Shape {
         matches!(self, Shape::Disc { .. })
     }
 
+    /// Whether it is a panel in the middle of which there is room for a label.
+    pub fn fills_its_box(&self) -> bool {
+        match self {
+            Shape::Disc { .. } => false,
+            Shape::Area(ways) => ways.iter().map(|way| enclosed(way)).sum::<f64>() >= 0.8 * self.bounds().area(),
+        }
+    }
+
     pub fn moved(&self, by: [f64; 2]) -> Shape {
         let moved = |[x, y]: [f64; 2]| [x + by[0], y + by[1]];
         match self {

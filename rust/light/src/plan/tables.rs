@@ -88,10 +88,10 @@ pub fn greatest(scene: &Scene, seen: &Seen, view: &View) -> String {
         shown.truncate(TOP - 1);
         shown.push(handle);
     }
-    let columns = if scene.has_names {
-        "<th scope=\"col\" class=\"l\">name or kind</th>"
-    } else {
-        "<th scope=\"col\" class=\"l\">kind</th>"
+    // beside names there is no room for lines, which the titles have too
+    let columns = match scene.has_names {
+        true => "<th scope=\"col\" class=\"l\">name or kind</th>",
+        false => "<th scope=\"col\" class=\"l\">kind</th><th scope=\"col\">line</th>",
     };
     let mut rows = String::new();
     for handle in &shown {
@@ -100,10 +100,10 @@ pub fn greatest(scene: &Scene, seen: &Seen, view: &View) -> String {
         let here = if drawn == Some(*handle) { " here" } else { "" };
         rows += &row(scene, view, *handle, met, &format!("{here}{cut}"));
     }
-    rows += &left_over(view, &all, &shown);
+    rows += &left_over(scene, view, &all, &shown);
     format!(
         "<h3>The greatest chances</h3><table class=\"top\"><thead><tr><td></td><th scope=\"col\">lamp</th>{columns}\
-         <th scope=\"col\">line</th><th scope=\"col\">height</th><th scope=\"col\">chance</th><th scope=\"col\">run of u</th></tr></thead>\
+         <th scope=\"col\">height</th><th scope=\"col\">chance</th><th scope=\"col\">run of u</th></tr></thead>\
          <tbody>{rows}</tbody></table><p class=\"small\">{}</p>",
         counted_lamps(scene, view)
     )
@@ -112,28 +112,29 @@ pub fn greatest(scene: &Scene, seen: &Seen, view: &View) -> String {
 fn row(scene: &Scene, view: &View, handle: u32, met: Met, class: &str) -> String {
     let name = scene.room.name_of(handle).unwrap_or(scene.kind(handle));
     let [from, to] = view.runs.span(met.run);
+    let line = if scene.has_names { String::new() } else { format!("<td>{}</td>", scene.room.line(handle)) };
     let mark = if class.contains("here") { "▸ " } else { "" };
     let chance =
         if met.drawn.is_nan() { format!("<span class=\"m\">{:08x}</span>", met.drawn.to_bits()) } else { percent_of(met.drawn) };
     format!(
         "<tr data-l=\"{handle}\" class=\"{}\"><td><i style=\"background:{}\"></i></td><td>{mark}{handle}</td>\
-         <td class=\"l name\" title=\"{}\">{}</td><td>{}</td><td>{}</td><td>{chance}</td><td>{from:.4}–{to:.4}</td></tr>",
+         <td class=\"l name\" title=\"{}\">{}</td>{line}<td>{}</td><td>{chance}</td><td>{from:.4}–{to:.4}</td></tr>",
         class.trim(),
         shade(met.drawn).fill,
         escaped(&scene.title(handle, view)),
         escaped(name),
-        scene.room.line(handle),
         scene.height(handle),
     )
 }
 
 /// The lamps below the ten together, none, and what is refused.
-fn left_over(view: &View, all: &[u32], shown: &[u32]) -> String {
+fn left_over(scene: &Scene, view: &View, all: &[u32], shown: &[u32]) -> String {
     let others = all.iter().filter(|handle| !shown.contains(handle));
     let rest: f64 = others.clone().map(|handle| f64::from(view.chance(*handle))).sum();
+    let columns = if scene.has_names { 3 } else { 4 };
     let row = |swatch: &str, words: &str, part: f64| {
         format!(
-            "<tr class=\"sum\"><td>{swatch}</td><td colspan=\"4\" class=\"l\">{words}</td><td>{}</td><td></td></tr>",
+            "<tr class=\"sum\"><td>{swatch}</td><td colspan=\"{columns}\" class=\"l\">{words}</td><td>{}</td><td></td></tr>",
             percent(part)
         )
     };
@@ -156,6 +157,11 @@ fn counted_lamps(scene: &Scene, view: &View) -> String {
     let parts = [(powered.saturating_sub(met), "drawn by no u"), (lamps - powered, "without power")];
     let parts: Vec<String> =
         parts.iter().filter(|(count, _)| *count > 0).map(|(count, what)| format!("{} {what}", thousands(*count))).collect();
-    let lamps = many(lamps, "lamp", "lamps");
-    if parts.is_empty() { format!("Some u draws each of {lamps}.") } else { format!("Of {lamps}: {}.", parts.join(", ")) }
+    let all = many(lamps, "lamp", "lamps");
+    match (lamps, parts.is_empty()) {
+        (0, _) => "The room has no lamp.".into(),
+        (1, true) => "It is the only lamp of the room.".into(),
+        (_, true) => format!("Some u draws each of the {all}."),
+        (_, false) => format!("Of {all}: {}.", parts.join(", ")),
+    }
 }
