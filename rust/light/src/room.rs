@@ -91,6 +91,7 @@ impl Room {
             Lamp::Point { .. } => "a point",
             Lamp::Spot { .. } => "a spot",
             Lamp::Group { .. } => "a group",
+            _ => "of another kind",
         };
         let (name, line) = (&self.name, self.lines[place]);
         Stop::Refused(format!("{name}: line {line}: lamp {place}, {kind}{part}: {}", refused(refusal)))

@@ -16,6 +16,7 @@ use crate::{Bounds3, PowerAliasBin};
 compile_error!("the light tree's words are little-endian, and the library is for x86-64");
 
 unsafe extern "C" {
+    fn light_version() -> u32;
     fn light_bounds_block(list: *const u32, list_len: usize, block: *mut u32, block_len: usize) -> u32;
     fn light_build(
         lights: usize,
@@ -169,6 +170,12 @@ pub(crate) fn alias_table(weights: &[f32], bins: &mut [PowerAliasBin], work: &mu
     let (work, work_len) = (work.as_mut_ptr().cast(), 3 * work.len());
     // SAFETY: as said above; `PowerAliasBin` is `repr(C)`, two floats and a word.
     done(unsafe { light_alias_table(weights.as_ptr().cast(), weights.len(), bins, bins_len, work, work_len) })
+}
+
+/// The library's version.
+pub(crate) fn version() -> u32 {
+    // SAFETY: as said above.
+    unsafe { light_version() }
 }
 
 #[cfg(test)]

@@ -37,7 +37,8 @@ fn header() -> Vec<Function> {
             let name = argument.rfind(|c: char| !c.is_alphanumeric() && c != '_').unwrap() + 1;
             rust_type(argument[..name].trim())
         };
-        (name.into(), arguments.split(',').map(|argument| of_argument(argument.trim())).collect(), rust_type(answer))
+        let arguments = arguments.split(',').map(str::trim).filter(|argument| *argument != "void");
+        (name.into(), arguments.map(of_argument).collect(), rust_type(answer))
     };
     declarations.map(function).collect()
 }
@@ -62,5 +63,5 @@ fn declarations() {
     for text in [include_str!("../src/sys.rs"), include_str!("../../trials/src/proved/c.rs")] {
         assert_eq!(declared(text), header());
     }
-    assert_eq!(header().len(), 6);
+    assert_eq!(header().len(), 7);
 }
