@@ -37,7 +37,7 @@ fn archive() -> Result<PathBuf, String> {
     let usual = || Path::new(&set("CARGO_MANIFEST_DIR")).join("../../target/staticlib");
     let folder = env::var_os(FOLDER).map_or_else(usual, PathBuf::from);
     let archive = folder.join("liblight_c.a");
-    println!("cargo:rerun-if-changed={}", archive.display());
+    println!("cargo::rerun-if-changed={}", archive.display());
     archive.canonicalize().map_err(|_| {
         let folder = folder.canonicalize().unwrap_or(folder);
         format!("{}/liblight_c.a is absent: {REMEDY}, or set {FOLDER} to the folder that has it", folder.display())
@@ -81,13 +81,13 @@ fn version(archive: &Path, folder: &Path) -> Result<(), String> {
 }
 
 fn link() -> Result<(), String> {
-    println!("cargo:rerun-if-env-changed={FOLDER}");
+    println!("cargo::rerun-if-env-changed={FOLDER}");
     machine()?;
     let archive = archive()?;
     let folder = archive.parent().ok_or("a file stands in a folder")?;
     version(&archive, folder)?;
-    println!("cargo:rustc-link-search=native={}", folder.display());
-    println!("cargo:rustc-link-lib=static=light_c");
+    println!("cargo::rustc-link-search=native={}", folder.display());
+    println!("cargo::rustc-link-lib=static=light_c");
     Ok(())
 }
 
