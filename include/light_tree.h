@@ -122,7 +122,9 @@ static inline const char *light_refusal_text(uint32_t number)
     case 12: return "the nodes are no tree (wrong kind, side, index or child, endless walk), or k or box differs";
     case 13: return "a packed handle or child is above 2^31 - 1";
     }
-    return number == 0 ? "it is not refused" : "a reason that light_tree.h does not know: its library is of another version";
+    if (number == 0)
+        return "it is not refused";
+    return "a reason that light_tree.h does not know: its library is of another version";
 }
 
 /* ---- limits and sizes; m is a number of lamps or weights, k of powered lamps, n of nodes */

@@ -1,5 +1,5 @@
-//! Links the static library `liblight_c.a` of the proved functions, which Rattle makes and not cargo: finds it, and asks
-//! it for its version.
+//! Links the static library `liblight_c.a` of the proved functions, which Rattle makes and not cargo: finds it, and
+//! asks it for its version.
 
 use std::env;
 use std::path::{Path, PathBuf};
@@ -28,7 +28,7 @@ fn machine() -> Result<(), String> {
     match (&*set("CARGO_CFG_TARGET_ARCH"), &*set("CARGO_CFG_TARGET_OS")) {
         ("x86_64", "linux") => Ok(()),
         (arch, system) => {
-            Err(format!("light_tree is for x86-64 Linux, as liblight_c.a is, and this build is for {arch} and {system}"))
+            Err(format!("light_tree is for x86-64 Linux, as its library is, and this build is for {arch} and {system}"))
         }
     }
 }
@@ -70,7 +70,7 @@ fn version(archive: &Path, folder: &Path) -> Result<(), String> {
     let (major, minor) = (part("MAJOR"), part("MINOR"));
     let (archive, told) = (archive.display(), version_told(folder));
     let Some(told) = told else {
-        return Err(format!("{archive} does not tell its version, so it is not of light_tree {major}.{minor}: {REMEDY}"));
+        return Err(format!("{archive} tells no version, so it is not of light_tree {major}.{minor}: {REMEDY}"));
     };
     let (told_major, told_minor) = (told / 10_000, told / 100 % 100);
     if (told_major.to_string(), told_minor.to_string()) != (major.clone(), minor.clone()) {

@@ -74,13 +74,15 @@ impl AliasTable {
     /// Draws a place by a number u from 0 to 1: the place, and its weight's share p of the sum. None of a table of no
     /// weights. Nothing is allocated.
     ///
-    /// The steps are those of pbrt-v4's `AliasTable::Sample`, in f32: u times the number of bins, cut to a whole number,
-    /// is the bin, at most the last, and what is left, held below 1, is the number that is compared with q. So u = 1,
-    /// which pbrt-v4 excludes, draws from the last bin. They are written here, in Rust, and not proved; the bins are.
+    /// The steps are those of pbrt-v4's `AliasTable::Sample`, in f32: u times the number of bins, cut to a whole
+    /// number, is the bin, at most the last, and what is left, held below 1, is the number that is compared with q.
+    /// So u = 1, which pbrt-v4 excludes, draws from the last bin. They are written here, in Rust, and not proved; the
+    /// bins are.
     ///
     /// # Errors
     ///
-    /// [`BadU`](Refusal::BadU) where u is not a number from 0 to 1, as in [`LightTree::sample`](crate::LightTree::sample).
+    /// [`BadU`](Refusal::BadU) where u is not a number from 0 to 1, as in
+    /// [`LightTree::sample`](crate::LightTree::sample).
     ///
     /// ```
     /// use light_tree::{AliasTable, Refusal};

@@ -85,8 +85,8 @@ pub struct LightBounds {
 }
 
 impl LightBounds {
-    /// The bounds of a lamp of power phi that shines alike in every direction: about (0, 0, 1) with cosines -1 and 0, on
-    /// one side. Nothing is checked here.
+    /// The bounds of a lamp of power phi that shines alike in every direction: about (0, 0, 1) with cosines -1 and 0,
+    /// on one side. Nothing is checked here.
     ///
     /// ```
     /// use light_tree::{Bounds3, LightBounds};

@@ -1,8 +1,8 @@
 use crate::bounds::{Block, block_words};
 use crate::{MAX_LAMPS, Refusal, sys};
 
-/// A lamp as a scene has it. Its handle is its place among the lamps. More kinds may come, so a `match` needs an arm for
-/// all others.
+/// A lamp as a scene has it. Its handle is its place among the lamps. More kinds may come, so a `match` needs an arm
+/// for all others.
 ///
 /// ```
 /// use light_tree::{Lamp, Triangle};
@@ -183,8 +183,8 @@ fn written(lamps: &[Lamp]) -> Written<impl FnOnce(&mut Vec<u32>)> {
     Written { lamps: lamps.len(), words: lamps.iter().map(Lamp::words).sum(), write }
 }
 
-/// The lamp list of lamps: the words that the library, and programs beside it, read them from. Nothing of them is checked
-/// but how many they are.
+/// The lamp list of lamps: the words that the library, and programs beside it, read them from. Nothing of them is
+/// checked but how many they are.
 ///
 /// # Errors
 ///
@@ -207,8 +207,8 @@ pub fn lamp_list(lamps: &[Lamp]) -> Result<Vec<u32>, Refusal> {
 ///
 /// # Errors
 ///
-/// [`Crowded`](Refusal::Crowded) for more than 4,096 lamps or a list of over 2^20 words. Else the first lamp that cannot
-/// be taken refuses them all: [`NotFinite`](Refusal::NotFinite), [`NoDirection`](Refusal::NoDirection),
+/// [`Crowded`](Refusal::Crowded) for more than 4,096 lamps or a list of over 2^20 words. Else the first lamp that
+/// cannot be taken refuses them all: [`NotFinite`](Refusal::NotFinite), [`NoDirection`](Refusal::NoDirection),
 /// [`OutOfRange`](Refusal::OutOfRange), [`NoArea`](Refusal::NoArea) or [`LostUnion`](Refusal::LostUnion).
 ///
 /// ```

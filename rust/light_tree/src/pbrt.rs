@@ -1,14 +1,16 @@
-//! The names and signatures of pbrt-r4, over this crate's: `flat/light_bounds.rs`, `flat/light_bvh.rs`, `webgpu/light_bvh.rs` and
-//! `build_power_alias_table`, `pack_exhaustive_bounds` of `webgpu/light_sampler.rs`.
+//! The names and signatures of pbrt-r4, over this crate's: `flat/light_bounds.rs`, `flat/light_bvh.rs`,
+//! `webgpu/light_bvh.rs` and `build_power_alias_table`, `pack_exhaustive_bounds` of `webgpu/light_sampler.rs`.
 //!
-//! A renderer swaps the module with one line, such as `pub use light_tree::pbrt::*;` where `light_bounds` and `light_bvh` were
-//! declared, and one conversion, `impl From<light_tree::Refusal> for PbrtError`, for its `?`. Other than in pbrt-r4:
+//! A renderer swaps the module with one line, such as `pub use light_tree::pbrt::*;` where `light_bounds` and
+//! `light_bvh` were declared, and one conversion, `impl From<light_tree::Refusal> for PbrtError`, for its `?`. Other
+//! than in pbrt-r4:
 //!
 //! - An error is a [`Refusal`].
 //! - [`build_light_bvh`] takes light records of any type, since it only counts them.
 //! - The fields of [`LightBVH`] can be read and not written, so that draws and fields never part.
 //! - [`LightBounds`] are made by [`LightBounds::new`] and changed field by field, since more fields may come.
-//! - `LightBounds::union`, `LightBounds::importance` and the arithmetic of `Bounds3` are not offered: the library does not export them.
+//! - `LightBounds::union`, `LightBounds::importance` and the arithmetic of `Bounds3` are not offered: the library
+//!   does not export them.
 //!
 //! ```
 //! use light_tree::pbrt::*;
@@ -122,8 +124,8 @@ impl LightBoundInput {
     }
 }
 
-/// A light tree with pbrt-r4's fields: [`LightBVHFields`], which it gives as if they were its own. It keeps a [`LightTree`] beside
-/// them, from which lamps are drawn.
+/// A light tree with pbrt-r4's fields: [`LightBVHFields`], which it gives as if they were its own. It keeps a
+/// [`LightTree`] beside them, from which lamps are drawn.
 ///
 /// ```
 /// use light_tree::pbrt::*;

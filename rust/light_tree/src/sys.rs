@@ -1,11 +1,11 @@
 //! The functions of `liblight_c.a` behind safe ones: the only module with `unsafe`. `include/light_tree.h` tells what
 //! each takes and answers.
 //!
-//! SAFETY, for every call: the declarations are the header's (`tests/header.rs`). Each slice is handed over as a pointer
-//! to its first element and its length, and the slices that are written to are `&mut`, so no two overlap. The functions
-//! read and write within these lengths alone, keep nothing, and are proved for every input. Where a slice is handed over
-//! as another type, both are plain 32-bit numbers or bytes without padding, for which every bit pattern is a value; bytes
-//! hold words little-endian, as the machine does.
+//! SAFETY, for every call: the declarations are the header's (`tests/header.rs`). Each slice is handed over as a
+//! pointer to its first element and its length, and the slices that are written to are `&mut`, so no two overlap. The
+//! functions read and write within these lengths alone, keep nothing, and are proved for every input. Where a slice
+//! is handed over as another type, both are plain 32-bit numbers or bytes without padding, for which every bit
+//! pattern is a value; bytes hold words little-endian, as the machine does.
 
 #![allow(unsafe_code)]
 

@@ -233,10 +233,10 @@ fn last_that_holds(mut holds: u32, end: u32, is_so: impl Fn(u32) -> bool) -> u32
 impl LightTree {
     /// The tree of lamps' bounds. A lamp's handle is its place; one whose phi is 0 is not in the tree.
     ///
-    /// Two allocations, both returned: nodes and table. The block and build's work stand behind the nodes, and their room
-    /// is given back. Build calls itself, 400 bytes of stack for each fork on the way down, 1.7 MB for the deepest tree.
-    /// So more than 128 lamps are built on a thread of their own with 4 MiB, and a caller needs no more than 64 KiB; what
-    /// the thread allocates is freed with it.
+    /// Two allocations, both returned: nodes and table. The block and build's work stand behind the nodes, and their
+    /// room is given back. Build calls itself, 400 bytes of stack for each fork on the way down, 1.7 MB for the
+    /// deepest tree. So more than 128 lamps are built on a thread of their own with 4 MiB, and a caller needs no more
+    /// than 64 KiB; what the thread allocates is freed with it.
     ///
     /// # Errors
     ///
@@ -269,9 +269,9 @@ impl LightTree {
     ///
     /// # Errors
     ///
-    /// Those of [`LightTree::build`], and before all but [`Crowded`](Refusal::Crowded) [`Ragged`](Refusal::Ragged) for a
-    /// block that is cut, too long or has an unknown side, [`Misplaced`](Refusal::Misplaced) for a handle that is not its
-    /// lamp's place.
+    /// Those of [`LightTree::build`], and before all but [`Crowded`](Refusal::Crowded) [`Ragged`](Refusal::Ragged)
+    /// for a block that is cut, too long or has an unknown side, [`Misplaced`](Refusal::Misplaced) for a handle that
+    /// is not its lamp's place.
     ///
     /// ```
     /// use light_tree::{LightTree, Refusal};
@@ -316,20 +316,20 @@ impl LightTree {
         LightTree::from_block(bounds_block(lamps)?.words())
     }
 
-    /// Draws a lamp for a point p and a normal n there, (0, 0, 0) for none, by a number u from 0 to 1: its handle and the chance with
-    /// which it is drawn. None where there is no lamp with power, or where the draw comes to a fork neither side of which shines
-    /// there. Nothing is allocated.
+    /// Draws a lamp for a point p and a normal n there, (0, 0, 0) for none, by a number u from 0 to 1: its handle and
+    /// the chance with which it is drawn. None where there is no lamp with power, or where the draw comes to a fork
+    /// neither side of which shines there. Nothing is allocated.
     ///
-    /// A lone lamp is drawn with chance 1, whatever the point. Else the chance is the product of the shares taken at the
-    /// forks, rounded: x / (x + y) at the left of weights x and y, 1 less that at the right. Where x + y overflows the
-    /// right is taken, with share 1, or with NaN where x itself is infinite.
+    /// A lone lamp is drawn with chance 1, whatever the point. Else the chance is the product of the shares taken at
+    /// the forks, rounded: x / (x + y) at the left of weights x and y, 1 less that at the right. Where x + y
+    /// overflows the right is taken, with share 1, or with NaN where x itself is infinite.
     ///
     /// # Errors
     ///
-    /// [`BadU`](Refusal::BadU) where u is not a number from 0 to 1. At each fork on the way, what the check of a child's
-    /// bounds refuses ([`LightBounds::validate`]), as where powers add up to infinity; [`NotFinite`](Refusal::NotFinite)
-    /// where p or n is not finite; [`NoDirection`](Refusal::NoDirection) where n is too short to divide by, or p lies at the
-    /// centre of a child's box.
+    /// [`BadU`](Refusal::BadU) where u is not a number from 0 to 1. At each fork on the way, what the check of a
+    /// child's bounds refuses ([`LightBounds::validate`]), as where powers add up to infinity;
+    /// [`NotFinite`](Refusal::NotFinite) where p or n is not finite; [`NoDirection`](Refusal::NoDirection) where n is
+    /// too short to divide by, or p lies at the centre of a child's box.
     ///
     /// ```
     /// # use light_tree::{Lamp, LightTree, Refusal};
@@ -375,12 +375,13 @@ impl LightTree {
         Ok(Some((end(0), end(WORD_OF_ONE))))
     }
 
-    /// The chance with which [`sample`](LightTree::sample) draws a lamp, from its leaf up to the root. It is 0 for a lamp without power,
-    /// for a handle past the last, and where at a fork on the way neither side shines there. Nothing is allocated.
+    /// The chance with which [`sample`](LightTree::sample) draws a lamp, from its leaf up to the root. It is 0 for a
+    /// lamp without power, for a handle past the last, and where at a fork on the way neither side shines there.
+    /// Nothing is allocated.
     ///
-    /// Both chances multiply rounded shares, in opposite order, and by name the right one's is y / (x + y). So they part:
-    /// most in their last digits, by more where a right share is tiny. Where x + y overflows the share by name is 0, or NaN
-    /// for a side whose own weight is infinite.
+    /// Both chances multiply rounded shares, in opposite order, and by name the right one's is y / (x + y). So they
+    /// part: most in their last digits, by more where a right share is tiny. Where x + y overflows the share by name
+    /// is 0, or NaN for a side whose own weight is infinite.
     ///
     /// # Errors
     ///
@@ -398,12 +399,13 @@ impl LightTree {
         sys::pmf(&self.nodes, &self.table, p, n, handle)
     }
 
-    /// The tree packed for a graphics card, none where it has no lamp with power. What is returned is all that is allocated.
+    /// The tree packed for a graphics card, none where it has no lamp with power. What is returned is all that is
+    /// allocated.
     ///
     /// # Errors
     ///
-    /// What the check of the first node's bounds refuses that fail it ([`LightBounds::validate`]), as where powers add up to
-    /// infinity.
+    /// What the check of the first node's bounds refuses that fail it ([`LightBounds::validate`]), as where powers
+    /// add up to infinity.
     ///
     /// ```
     /// # use light_tree::{Lamp, LightTree};

@@ -1,4 +1,5 @@
-//! Only what is returned is allocated: draws, chances and checks allocate nothing, the others what they return, once a `Vec`.
+//! Only what is returned is allocated: draws, chances and checks allocate nothing, the others what they return, once
+//! a `Vec`.
 
 use light_tree::*;
 use std::alloc::{GlobalAlloc, Layout, System};

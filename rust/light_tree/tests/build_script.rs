@@ -56,22 +56,23 @@ fn error(lines: Vec<String>) -> String {
 fn build_script() {
     let script = script();
     let usual = Path::new(HERE).join("../../target/staticlib").canonicalize().unwrap();
-    let link = [format!("cargo::rustc-link-search=native={}", usual.display()), "cargo::rustc-link-lib=static=light_c".into()];
-    assert_eq!(told(&script, None, &[]), link);
+    let search = format!("cargo::rustc-link-search=native={}", usual.display());
+    assert_eq!(told(&script, None, &[]), [&search, "cargo::rustc-link-lib=static=light_c"]);
 
     let other_machine = error(told(&script, None, &[("CARGO_CFG_TARGET_ARCH", "aarch64")]));
-    assert_eq!(other_machine, "light_tree is for x86-64 Linux, as liblight_c.a is, and this build is for aarch64 and linux");
+    assert!(other_machine.ends_with("is for x86-64 Linux, as its library is, and this build is for aarch64 and linux"));
 
     let absent = folder("absent");
-    let expected = format!("{}/liblight_c.a is absent: run `rt staticlib light_c` in the repository's root", absent.display());
-    assert!(error(told(&script, Some(&absent), &[])).starts_with(&expected));
+    let missing = format!("{}/liblight_c.a is absent: run `rt staticlib light_c` in", absent.display());
+    assert!(error(told(&script, Some(&absent), &[])).starts_with(&missing));
 
     let silent = library("silent", "#[unsafe(no_mangle)] pub extern \"C\" fn light_sample() {}");
-    assert!(error(told(&script, Some(&silent), &[])).contains("liblight_c.a does not tell its version"));
+    assert!(error(told(&script, Some(&silent), &[])).contains("liblight_c.a tells no version"));
 
     let version = |number| format!("#[unsafe(no_mangle)] pub extern \"C\" fn light_version() -> u32 {{ {number} }}");
     let newer = library("newer", &version(10_203));
-    assert!(error(told(&script, Some(&newer), &[])).contains("liblight_c.a has version 1.2, and this light_tree needs 0.1"));
+    let refused = error(told(&script, Some(&newer), &[]));
+    assert!(refused.contains("liblight_c.a has version 1.2, and this light_tree needs 0.1: run"), "{refused}");
     // a patch changes no function and no layout
     assert_eq!(told(&script, Some(&library("patched", &version(107))), &[]).len(), 2);
 
@@ -87,7 +88,7 @@ fn package() {
     let cargo = std::env::var_os("CARGO").unwrap();
     let listed = succeeds(Command::new(cargo).args(list).arg(format!("{HERE}/Cargo.toml")));
     let listed: Vec<&str> = listed.lines().collect();
-    for name in ["Cargo.toml", "LICENSE", "NOTICE", "README.md", "build.rs", "examples/room.rs", "tests/random/mod.rs"] {
+    for name in ["Cargo.toml", "LICENSE", "NOTICE", "README.md", "build.rs", "examples/room.rs", "tests/cases.rs"] {
         assert!(listed.contains(&name), "no {name} in {listed:?}");
     }
     let sources = std::fs::read_dir(format!("{HERE}/src")).unwrap().map(|entry| entry.unwrap().file_name());

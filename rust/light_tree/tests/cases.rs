@@ -183,8 +183,8 @@ fn checks() {
     assert_eq!(LightTree::build(&[bulb([0.0; 3], HUGE), bulb([1.0; 3], HUGE), bulb([2.0; 3], HUGE)]), Err(Refusal::LostUnion));
 }
 
-/// A group's triangles are joined one by one: two whose powers add up to infinity pass, and build refuses their bounds; a third cannot
-/// be joined to these.
+/// A group's triangles are joined one by one: two whose powers add up to infinity pass, and build refuses their
+/// bounds; a third cannot be joined to these.
 #[test]
 fn triangles() {
     let half =

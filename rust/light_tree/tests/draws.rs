@@ -61,8 +61,8 @@ fn runs_by_brute_force() {
         let tree = LightTree::of_lamps(&room(&mut random)).unwrap();
         let (p, n) = (vector(&mut random, 5.0), [[0.0; 3], vector(&mut random, 1.0)][random.below(2)]);
         // even over the bar, and even over its words, of which most lie close to 0
-        let even = |random: &mut Random| [random.share().to_bits(), random.below(ONE as usize + 1) as u32][random.below(2)];
-        let words: Vec<u32> = [0, ONE].into_iter().chain((0..100).map(|_| even(&mut random))).collect();
+        let mut even = |i| if i % 2 == 0 { random.share().to_bits() } else { random.below(ONE as usize + 1) as u32 };
+        let words: Vec<u32> = [0, ONE].into_iter().chain((0..100).map(&mut even)).collect();
         for word in &words {
             let u = f32::from_bits(*word);
             match tree.run_of(u, p, n).unwrap() {
@@ -70,7 +70,8 @@ fn runs_by_brute_force() {
                     let (first, last) = (first.to_bits(), last.to_bits());
                     let lamp = lamp_of(&tree, p, n, *word).unwrap();
                     assert!((first..=last).contains(word));
-                    let alike = |other: &u32| (first..=last).contains(other) == (lamp_of(&tree, p, n, *other) == Some(lamp));
+                    let draws_it = |other: &u32| lamp_of(&tree, p, n, *other) == Some(lamp);
+                    let alike = |other: &u32| (first..=last).contains(other) == draws_it(other);
                     assert!(words.iter().all(alike), "lamp {lamp} from {first:08x} to {last:08x}");
                     without += near_ends(&tree, p, n, lamp, first, last);
                     runs += 1;
@@ -179,7 +180,8 @@ fn alias_draws_go_by_weight() {
 fn alias_draws_at_ends() {
     let table = AliasTable::build(&[1.0, 3.0]).unwrap();
     let place = |u: f32| table.sample(u).map(|drawn| drawn.unwrap().0);
-    for (u, drawn) in [(0.0, 0), (-0.0, 0), (0.25f32.next_down(), 0), (0.25, 1), (0.5f32.next_down(), 1), (0.5, 1), (1.0, 1)] {
+    let quarter = 0.25f32;
+    for (u, drawn) in [(0.0, 0), (-0.0, 0), (quarter.next_down(), 0), (quarter, 1), (0.5, 1), (1.0, 1)] {
         assert_eq!(place(u), Ok(drawn), "u {u}");
     }
     for u in [-1e-45, 1.0f32.next_up(), f32::NAN, f32::INFINITY, f32::NEG_INFINITY] {

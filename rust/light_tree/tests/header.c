@@ -1,7 +1,7 @@
 /*
- * What the header answers by itself, for tests/header.rs. Prints its version, the sentence of each refusal's number from
- * 0 on, as many as the argument says, and the draw of each case on standard input: words in hexadecimal, the number m
- * of weights, 3 m of bins, and u.
+ * What the header answers by itself, for tests/header.rs. Prints its version, the sentence of each refusal's number
+ * from 0 on, as many as the argument says, and the draw of each case on standard input: words in hexadecimal, the
+ * number m of weights, 3 m of bins, and u.
  */
 #include <inttypes.h>
 #include <stdio.h>

@@ -3,7 +3,7 @@
 
 mod random;
 
-use light_tree::{AliasTable, Refusal, library_version};
+use light_tree::{AliasTable, PowerAliasBin, Refusal, library_version};
 use random::Random;
 use std::io::Write;
 use std::process::{Command, Stdio};
@@ -117,7 +117,9 @@ fn alias_cases() -> (String, Vec<u64>) {
         let near = (end(&mut random).to_bits() as i32 + random.below(9) as i32 - 4) as u32;
         let u = [near, near, random.share().to_bits(), random.word() as u32][random.below(4)];
         words += &format!("{count:x}");
-        table.bins().iter().for_each(|bin| words += &format!(" {:x} {:x} {:x}", bin.q.to_bits(), bin.p.to_bits(), bin.alias));
+        for PowerAliasBin { q, p, alias } in table.bins() {
+            words += &format!(" {:x} {:x} {alias:x}", q.to_bits(), p.to_bits());
+        }
         words += &format!(" {u:x}\n");
         answers.push(number(table.sample(f32::from_bits(u))));
     }
