@@ -4,43 +4,53 @@ use crate::text::{Word, Wrong, number, numbers, words};
 
 /// A point and a normal there, zeros for none.
 #[derive(Clone, Copy)]
-pub struct Bench {
+pub struct Place {
     pub p: [f32; 3],
     pub n: [f32; 3],
+}
+
+/// A bench of a table.
+pub struct Bench {
+    /// Its line, from 1 on.
+    pub line: usize,
+    pub name: Option<String>,
+    pub place: Place,
+    /// The number from 0 to 1 that picks the lamp.
+    pub u: f32,
 }
 
 const POINT: &str = "X Y Z";
 const NORMAL: &str = "NX NY NZ, or - for none";
 
-/// The bench at the front of the words, and those behind it.
-fn front<'a, 'b>(words: &'a [Word<'b>], end: usize) -> Result<(Bench, &'a [Word<'b>]), Wrong> {
+/// The place at the front of the words, and those behind it.
+fn front<'a, 'b>(words: &'a [Word<'b>], end: usize) -> Result<(Place, &'a [Word<'b>]), Wrong> {
     let take = |words: &'a [Word<'b>]| words.split_at(words.len().min(3));
     let until = |rest: &[Word]| rest.first().map_or(end, |word| word.column);
     let (point, rest) = take(words);
     let p = numbers(point, until(rest), POINT)?;
     if let Some((_, rest)) = rest.split_first().filter(|(word, _)| word.text == "-") {
-        return Ok((Bench { p, n: [0.0; 3] }, rest));
+        return Ok((Place { p, n: [0.0; 3] }, rest));
     }
     let (normal, rest) = take(rest);
-    Ok((Bench { p, n: numbers(normal, until(rest), NORMAL)? }, rest))
+    Ok((Place { p, n: numbers(normal, until(rest), NORMAL)? }, rest))
 }
 
-/// The bench of a line and its u, none where it is empty.
-pub fn bench(line: &str) -> Result<Option<(Bench, f32)>, Wrong> {
-    let (words, end) = words(line);
+/// The bench of a line's text, none where it is empty.
+pub fn bench(line: usize, text: &str) -> Result<Option<Bench>, Wrong> {
+    let (words, end) = words(text);
     if words.is_empty() {
         return Ok(None);
     }
-    let (bench, rest) = front(&words, end)?;
+    let (place, rest) = front(&words, end)?;
     let [u] = numbers(rest, end, "U")?;
-    Ok(Some((bench, u)))
+    Ok(Some(Bench { line, name: None, place, u }))
 }
 
 /// A bench without u.
-pub fn point(text: &str) -> Result<Bench, Wrong> {
+pub fn place(text: &str) -> Result<Place, Wrong> {
     let (words, end) = words(text);
-    let (bench, rest) = front(&words, end)?;
-    numbers::<0>(rest, end, "a bench here has no U").map(|_| bench)
+    let (place, rest) = front(&words, end)?;
+    numbers::<0>(rest, end, "a bench here has no U").map(|_| place)
 }
 
 /// A number by itself.

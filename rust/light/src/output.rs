@@ -14,6 +14,8 @@ const MUCH: usize = 1 << 16;
 
 pub struct Output {
     waiting: Vec<u8>,
+    /// Whether what waits is kept for the caller, and standard output left alone.
+    kept: bool,
     terminal: bool,
     /// Whether progress is said: standard error is a terminal, and standard output no pipe, as to a pager that shares the terminal.
     progress: bool,
@@ -23,16 +25,28 @@ pub struct Output {
 }
 
 impl Output {
-    pub fn new() -> Output {
+    /// To standard output.
+    pub fn standard() -> Output {
         let pipe = std::fs::metadata("/dev/stdout").is_ok_and(|output| output.file_type().is_fifo());
         Output {
             waiting: Vec::new(),
+            kept: false,
             terminal: stdout().is_terminal(),
             progress: stderr().is_terminal() && !pipe,
             said: false,
             began: Instant::now(),
             flushed: Instant::now(),
         }
+    }
+
+    /// To be taken by `into_bytes`.
+    pub fn kept() -> Output {
+        Output { kept: true, terminal: false, progress: false, ..Output::standard() }
+    }
+
+    /// What was written and kept.
+    pub fn into_bytes(self) -> Vec<u8> {
+        self.waiting
     }
 
     pub fn text(&mut self, text: &str) {
@@ -69,6 +83,9 @@ impl Output {
 
     pub fn flush(&mut self) -> Result<(), Stop> {
         self.hush();
+        if self.kept {
+            return Ok(());
+        }
         let written = stdout().write_all(&self.waiting).and_then(|()| stdout().flush());
         self.waiting.clear();
         self.flushed = Instant::now();

@@ -1,9 +1,42 @@
 //! The rows of a report: a lamp, with which chance it is drawn and by name, and how far these part.
 
-use crate::bench::Bench;
+use crate::bench::Place;
+use crate::options::Options;
+use crate::output::Output;
 use crate::room::{Room, refused};
-use crate::text::{decimal, rounded};
+use crate::source::{Lines, room};
+use crate::text::{Stop, counted, decimal, rounded};
 use light_tree::{LightTree, Refusal};
+
+/// `light report ROOM BENCHES`.
+pub fn report(options: &Options, output: &mut Output) -> Result<(), Stop> {
+    let [path, benches] = options.arguments();
+    if path == "-" && benches == "-" {
+        return Err(Stop::Failed("standard input is either the room or the benches".into()));
+    }
+    let room = room(path)?;
+    let tree = room.tree()?;
+    let mut lines = Lines::open(benches)?;
+    let lamps = counted(room.lamps().len(), "lamp", "lamps");
+    output.line(&format!("# {}: {lamps}, {} of them with power", room.name, tree.powered()));
+    output.line(&format!("{}  {}", head("bench"), "sum of named"));
+    let mut tally = Tally::default();
+    while lines.next()? {
+        if let Some(bench) = lines.bench()? {
+            let row = match tally.row(&format!("bench {}", bench.line), &room, &tree, bench.place, bench.u) {
+                Ok(row) => format!("{row}  {}", sum_text(sum(&tree, bench.place))),
+                Err(refused) => refused,
+            };
+            output.line(&format!("{:>7} {row}", bench.line));
+        }
+        if lines.waits() {
+            output.flush()?;
+        }
+        output.pause(|| lines.far(tally.rows()))?;
+    }
+    output.line(&tally.summary("bench", "benches"));
+    Ok(())
+}
 
 /// Counts over the rows of a report.
 #[derive(Default)]
@@ -21,11 +54,6 @@ pub struct Tally {
 
 pub fn head(first: &str) -> String {
     format!("#{first:>6} {:>5} {:>5}  {:<14} {:<14} {:8} {:8} {:>6}", "lamp", "line", "drawn", "named", "bits", "bits", "apart")
-}
-
-/// "1 bench", "2 benches".
-pub fn counted(count: usize, one: &str, more: &str) -> String {
-    format!("{count} {}", if count == 1 { one } else { more })
 }
 
 /// How many floats one chance is from the other, and their difference by the greater. None where they part wholly: one is NaN or
@@ -66,16 +94,16 @@ impl Tally {
         floats.to_string()
     }
 
-    /// A row after its first column, or what is said of a bench that is refused; counted. `place` is what the summary calls it.
-    pub fn row(&mut self, place: &str, room: &Room, tree: &LightTree, bench: Bench, u: f32) -> Result<String, String> {
-        let Bench { p, n } = bench;
+    /// A row after its first column, or what is said of a bench that is refused; counted. `called` is what the summary calls it.
+    pub fn row(&mut self, called: &str, room: &Room, tree: &LightTree, place: Place, u: f32) -> Result<String, String> {
+        let Place { p, n } = place;
         let answer = tree.sample(p, n, u).and_then(|drawn| match drawn {
             Some((lamp, chance)) => Ok(Some((lamp, chance, tree.pmf(p, n, lamp)?))),
             None => Ok(None),
         });
         match answer {
             Ok(Some((lamp, drawn, named))) => {
-                let apart = self.count(place, drawn, named);
+                let apart = self.count(called, drawn, named);
                 let [a, b] = [drawn, named].map(decimal);
                 let [c, d] = [drawn, named].map(f32::to_bits);
                 Ok(format!("{lamp:>5} {:>5}  {a:<14} {b:<14} {c:08x} {d:08x} {apart:>6}", room.line(lamp)))
@@ -123,10 +151,10 @@ impl Tally {
 }
 
 /// The sum of all lamps' chances by name, or the first lamp that has none.
-pub fn sum(tree: &LightTree, bench: Bench) -> Result<f64, (u32, Refusal)> {
+pub fn sum(tree: &LightTree, place: Place) -> Result<f64, (u32, Refusal)> {
     let mut sum = 0.0;
     for handle in tree.bounded_handles() {
-        sum += f64::from(tree.pmf(bench.p, bench.n, handle).map_err(|refusal| (handle, refusal))?);
+        sum += f64::from(tree.pmf(place.p, place.n, handle).map_err(|refusal| (handle, refusal))?);
     }
     Ok(sum)
 }

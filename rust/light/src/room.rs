@@ -1,7 +1,23 @@
 //! Rooms: a text table of lamps, and which of them is to blame where a room is refused.
 
+use crate::options::Options;
+use crate::output::Output;
+use crate::source;
 use crate::text::{Stop, Word, Wrong, decimal_or_word, fields, line_of, number, numbers, words};
 use light_tree::{Block, Lamp, LightTree, Refusal, Triangle, bounds_block, lamp_list};
+
+/// `light block ROOM`.
+pub fn block(options: &Options, output: &mut Output) -> Result<(), Stop> {
+    let [path] = options.arguments();
+    output.text(&source::room(path)?.table()?);
+    Ok(())
+}
+
+/// `light list ROOM`.
+pub fn list(options: &Options, output: &mut Output) -> Result<(), Stop> {
+    let [path] = options.arguments();
+    output.words(&source::room(path)?.list()?)
+}
 
 pub struct Room {
     /// What the room is called in messages.
@@ -9,6 +25,8 @@ pub struct Room {
     lamps: Vec<Lamp>,
     /// The line of each lamp.
     lines: Vec<usize>,
+    /// What each is called.
+    names: Vec<Option<String>>,
 }
 
 const COLUMNS: &str =
@@ -21,23 +39,30 @@ pub fn refused(refusal: Refusal) -> String {
 
 impl Room {
     pub fn read(name: &str, text: &[u8]) -> Result<Room, Stop> {
-        let mut room = Room { name: name.into(), lamps: Vec::new(), lines: Vec::new() };
+        let mut room = Room { name: name.into(), lamps: Vec::new(), lines: Vec::new(), names: Vec::new() };
         for (line, bytes) in (1..).zip(text.split(|byte| *byte == b'\n')) {
             if let Some(lamp) = line_of(bytes).and_then(lamp).map_err(|wrong| wrong.in_line(name, line))? {
                 room.lamps.push(lamp);
                 room.lines.push(line);
+                room.names.push(None);
             }
         }
         Ok(room)
     }
 
-    pub fn len(&self) -> usize {
-        self.lamps.len()
+    /// The lamps in the order of their handles.
+    pub fn lamps(&self) -> &[Lamp] {
+        &self.lamps
     }
 
     /// The line of a lamp.
     pub fn line(&self, handle: u32) -> usize {
         self.lines[handle as usize]
+    }
+
+    /// What a lamp is called, where its line says so.
+    pub fn name_of(&self, handle: u32) -> Option<&str> {
+        self.names[handle as usize].as_deref()
     }
 
     /// The lamp list, in words.
@@ -99,7 +124,7 @@ impl Room {
 
     /// The lamps together are.
     fn blame_all(&self, refusal: Refusal) -> Stop {
-        Stop::Refused(format!("{}: {}: this room has {} lamps", self.name, refused(refusal), self.len()))
+        Stop::Refused(format!("{}: {}: this room has {} lamps", self.name, refused(refusal), self.lamps.len()))
     }
 }
 

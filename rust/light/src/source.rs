@@ -1,9 +1,8 @@
 //! Where text comes from: rooms whole, benches line by line.
 
 use crate::bench::{self, Bench};
-use crate::report::counted;
 use crate::room::Room;
-use crate::text::{Stop, line_of};
+use crate::text::{Stop, counted, line_of};
 use std::fs::File;
 use std::io::{BufRead, BufReader, Read, stdin};
 
@@ -41,6 +40,16 @@ pub fn room(path: &str) -> Result<Room, Stop> {
     Room::read(&name, &text)
 }
 
+/// All benches of a table.
+pub fn benches(path: &str) -> Result<Vec<Bench>, Stop> {
+    let mut lines = Lines::open(path)?;
+    let mut benches = Vec::new();
+    while lines.next()? {
+        benches.extend(lines.bench()?);
+    }
+    Ok(benches)
+}
+
 /// The lines of a table, read as they are asked for.
 pub struct Lines {
     pub name: String,
@@ -68,8 +77,9 @@ impl Lines {
         Ok(read > 0)
     }
 
-    pub fn bench(&self) -> Result<Option<(Bench, f32)>, Stop> {
-        line_of(&self.line).and_then(bench::bench).map_err(|wrong| wrong.in_line(&self.name, self.number))
+    pub fn bench(&self) -> Result<Option<Bench>, Stop> {
+        let bench = line_of(&self.line).and_then(|text| bench::bench(self.number, text));
+        bench.map_err(|wrong| wrong.in_line(&self.name, self.number))
     }
 
     /// Whether the next line may have to be waited for.

@@ -128,3 +128,8 @@ pub fn rounded(figure: f64) -> String {
 pub fn decimal_or_word(figure: f32) -> String {
     if figure.is_finite() { decimal(figure) } else { format!("0x{:08x}", figure.to_bits()) }
 }
+
+/// "1 bench", "2 benches".
+pub fn counted(count: usize, one: &str, more: &str) -> String {
+    format!("{count} {}", if count == 1 { one } else { more })
+}

@@ -37,6 +37,7 @@
 mod alias;
 mod bounds;
 mod lamp;
+mod nodes;
 pub mod pbrt;
 mod refusal;
 mod sys;
@@ -45,6 +46,7 @@ mod tree;
 pub use alias::{AliasTable, PowerAliasBin};
 pub use bounds::{Block, Bounds3, EXHAUSTIVE_BOUNDS_WORDS, LightBounds};
 pub use lamp::{Lamp, Triangle, bounds_block, lamp_list};
+pub use nodes::sample_nodes;
 pub use refusal::Refusal;
 pub use tree::{LIGHT_BVH_HEADER_WORDS, LIGHT_BVH_NODE_WORDS, LightBVHNode, LightTree, PackedLightBVH};
 
