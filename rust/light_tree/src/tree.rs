@@ -5,7 +5,7 @@ use std::panic::resume_unwind;
 use std::thread;
 
 /// The words of a node: head, right child, parent, record.
-const NODE_WORDS: usize = 16;
+pub(crate) const NODE_WORDS: usize = 16;
 /// The words of a packed node.
 ///
 /// ```

@@ -7,15 +7,11 @@ use random::Random;
 
 type Vector = [f32; 3];
 
-fn vector(random: &mut Random, size: f32) -> Vector {
-    [(); 3].map(|()| size * (2.0 * random.share() - 1.0))
-}
-
 /// Mostly a small room of lamps of every kind, some without power.
 fn room(random: &mut Random) -> Vec<Lamp> {
     let count = [1, 2, 3, 5, 12, 60][random.below(6)];
     let lamp = |random: &mut Random| {
-        let (world_position, direction) = (vector(random, 4.0), vector(random, 1.0));
+        let (world_position, direction) = (random.vector(4.0), random.vector(1.0));
         let (strength, scale) = (40.0 * random.share(), [0.0, 1.0, 1.0, 1.0][random.below(4)]);
         match random.below(3) {
             0 => Lamp::Point { world_position, intensity_max: strength, scale },
@@ -25,7 +21,7 @@ fn room(random: &mut Random) -> Vec<Lamp> {
                 Lamp::Spot { world_position, direction, intensity_max: strength, scale, cos_theta_o, cos_falloff_end }
             }
             _ => {
-                let world_positions = [world_position, vector(random, 4.0), vector(random, 4.0)];
+                let world_positions = [world_position, random.vector(4.0), random.vector(4.0)];
                 let triangles = vec![Triangle { world_positions, area: 1.0, geometric_normal: direction }];
                 Lamp::Group { triangles, emission_max: strength, scale, two_sided: random.below(2) == 0 }
             }
@@ -59,7 +55,7 @@ fn runs_by_brute_force() {
     let (mut runs, mut without, mut none) = (0, 0, 0);
     for _ in 0..150 {
         let tree = LightTree::of_lamps(&room(&mut random)).unwrap();
-        let (p, n) = (vector(&mut random, 5.0), [[0.0; 3], vector(&mut random, 1.0)][random.below(2)]);
+        let (p, n) = (random.vector(5.0), [[0.0; 3], random.vector(1.0)][random.below(2)]);
         // even over the bar, and even over its words, of which most lie close to 0
         let mut even = |i| if i % 2 == 0 { random.share().to_bits() } else { random.below(ONE as usize + 1) as u32 };
         let words: Vec<u32> = [0, ONE].into_iter().chain((0..100).map(&mut even)).collect();

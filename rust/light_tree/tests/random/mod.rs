@@ -1,4 +1,6 @@
-//! Numbers at random, the same in every run.
+//! Numbers at random, the same in every run. Each test takes some of it.
+
+#![allow(dead_code)]
 
 pub struct Random(pub u64);
 
@@ -19,5 +21,10 @@ impl Random {
     /// From 0 to below 1.
     pub fn share(&mut self) -> f32 {
         (self.word() >> 40) as f32 / (1u64 << 24) as f32
+    }
+
+    /// Three numbers of at most a size, of either sign.
+    pub fn vector(&mut self, size: f32) -> [f32; 3] {
+        [(); 3].map(|()| size * (2.0 * self.share() - 1.0))
     }
 }
