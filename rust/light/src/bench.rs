@@ -1,6 +1,6 @@
 //! Benches: points and normals that lamps shine on, and the number by which one is drawn.
 
-use crate::text::{Word, Wrong, number, numbers, words};
+use crate::text::{Line, Word, Wrong, number, numbers};
 
 /// A point and a normal there, zeros for none.
 #[derive(Clone, Copy)]
@@ -17,6 +17,8 @@ pub struct Bench {
     pub place: Place,
     /// The number from 0 to 1 that picks the lamp.
     pub u: f32,
+    /// The columns of its first figure and of u.
+    pub columns: [usize; 2],
 }
 
 const POINT: &str = "X Y Z";
@@ -37,20 +39,21 @@ fn front<'a, 'b>(words: &'a [Word<'b>], end: usize) -> Result<(Place, &'a [Word<
 
 /// The bench of a line's text, none where it is empty.
 pub fn bench(line: usize, text: &str) -> Result<Option<Bench>, Wrong> {
-    let (words, end) = words(text);
-    if words.is_empty() {
-        return Ok(None);
-    }
+    let Line { name, words, end } = match Line::of(text)? {
+        empty if empty.is_empty() => return Ok(None),
+        line => line,
+    };
     let (place, rest) = front(&words, end)?;
     let [u] = numbers(rest, end, "U")?;
-    Ok(Some(Bench { line, name: None, place, u }))
+    let columns = [words.first(), words.last()].map(|word| word.map_or(end, |word| word.column));
+    Ok(Some(Bench { line, name, place, u, columns }))
 }
 
-/// A bench without u.
-pub fn place(text: &str) -> Result<Place, Wrong> {
-    let (words, end) = words(text);
+/// A bench without u, and its name.
+pub fn place(text: &str) -> Result<(Place, Option<String>), Wrong> {
+    let Line { name, words, end } = Line::of(text)?;
     let (place, rest) = front(&words, end)?;
-    numbers::<0>(rest, end, "a bench here has no U").map(|_| place)
+    numbers::<0>(rest, end, "a bench here has no U").map(|_| (place, name))
 }
 
 /// A number by itself.

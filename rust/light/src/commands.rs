@@ -4,7 +4,7 @@ use crate::help;
 use crate::options::Options;
 use crate::output::Output;
 use crate::text::Stop;
-use crate::{completions, draw, man, plan, report, room};
+use crate::{block, check, completions, draw, man, plan, report, sheet, table, words};
 
 /// What may stand in an argument's or an option's place.
 pub enum Values {
@@ -66,7 +66,7 @@ pub const COMMANDS: &[Command] = &[
         writes: None,
         text: "a lamp drawn for each bench, with its chance, in two ways",
         more: help::REPORT,
-        choices: &[],
+        choices: sheet::CHOICES,
         run: report::report,
     },
     Command {
@@ -79,7 +79,7 @@ pub const COMMANDS: &[Command] = &[
         writes: None,
         text: "lamps drawn for one bench by numbers from 0 to 1",
         more: help::DRAW,
-        choices: &[],
+        choices: sheet::CHOICES,
         run: draw::draw,
     },
     Command {
@@ -88,8 +88,17 @@ pub const COMMANDS: &[Command] = &[
         writes: None,
         text: "where each lamp is, which way it shines, its power, its cone",
         more: help::BLOCK,
-        choices: &[],
-        run: room::block,
+        choices: &[table::CSV, table::JSON],
+        run: block::block,
+    },
+    Command {
+        name: "check",
+        arguments: &[ROOM, Argument { name: "BENCHES", often: Often::OnceOrNot, values: Values::File }],
+        writes: None,
+        text: "all that is wrong or doubtful with a room and its benches",
+        more: help::CHECK,
+        choices: check::CHOICES,
+        run: check::check,
     },
     Command {
         name: "plan",
@@ -107,7 +116,16 @@ pub const COMMANDS: &[Command] = &[
         text: "the lamps as words, for the proved program lamps_to_block",
         more: help::LIST,
         choices: &[],
-        run: room::list,
+        run: words::list,
+    },
+    Command {
+        name: "columns",
+        arguments: &[ROOM, BENCHES],
+        writes: Some("WORDS"),
+        text: "bounds and benches as words, for the proved program columns",
+        more: help::COLUMNS,
+        choices: &[],
+        run: words::columns,
     },
     Command {
         name: "help",

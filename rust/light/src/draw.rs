@@ -1,29 +1,44 @@
-//! Draws for one bench.
+//! `light draw`: draws for one bench.
 
 use crate::bench::{self, Place};
 use crate::options::Options;
 use crate::output::Output;
-use crate::report::{Tally, head, sum, sum_text};
+use crate::rows::{Outcome, head, sum, sum_text};
+use crate::sheet::{Row, Sheet, sums};
 use crate::source::{Lines, room};
-use crate::text::{Stop, Wrong};
+use crate::text::{Stop, Wrong, quoted};
+
+/// A bench that an argument tells, or whose line it tells.
+struct Seat {
+    line: Option<usize>,
+    name: Option<String>,
+    place: Place,
+}
 
 /// `light draw ROOM BENCH U...`.
 pub fn draw(options: &Options, output: &mut Output) -> Result<(), Stop> {
     let [path, bench] = options.arguments();
-    let place = place_of(bench)?;
+    let Seat { line, name, place } = seat(bench)?;
     let numbers = numbers(options.behind(2))?;
     let room = room(path)?;
     let tree = room.tree()?;
-    output.line(&head("u"));
-    let mut tally = Tally::default();
+    let bench = name.as_deref().map_or(String::new(), |name| format!("# bench {}\n", quoted(name)));
+    let mut sheet = Sheet::begin(options, &room, &format!("{bench}{}", head("u")), ["draw", "draws"], output)?;
+    let sum = sums(options).then(|| sum(&tree, place));
+    let mut ended = Ok(());
     for (text, u) in numbers {
-        let row = tally.row(&format!("u {text}"), &room, &tree, place, u).unwrap_or_else(|refused| refused);
-        output.line(&format!("{text:>7} {row}"));
-        output.pause(|| format!("{} draws", tally.rows()))?;
+        let outcome = Outcome::of(&tree, place, u);
+        let row = Row { line, name: name.as_deref(), u, outcome, sum: sum.filter(|_| !outcome.is_refused()) };
+        // the bench's name stands above
+        let names = Row { name: None, ..row }.names(&room);
+        sheet.row(&format!("u {text}"), &row, || format!("{text:>7} {}{names}", outcome.columns(&room)), output);
+        ended = output.pause(|| format!("{} draws", sheet.tally.rows()));
+        if ended.is_err() {
+            break;
+        }
     }
-    output.line(&tally.summary("draw", "draws"));
-    output.line(&format!("# sum of all named chances: {}", sum_text(sum(&tree, place))));
-    Ok(())
+    let sum = sum.map_or(String::new(), |sum| format!("# sum of all named chances: {}\n", sum_text(&room, sum)));
+    sheet.end(ended, &sum, output)
 }
 
 /// Numbers, each with its text.
@@ -32,18 +47,18 @@ fn numbers(texts: &[String]) -> Result<Vec<(&str, f32)>, Stop> {
     texts.iter().map(|text| Ok((text.as_str(), bench::alone(text).map_err(wrong)?))).collect()
 }
 
-/// The bench that an argument tells or names.
-fn place_of(argument: &str) -> Result<Place, Stop> {
+fn seat(argument: &str) -> Result<Seat, Stop> {
     let place = argument.rsplit_once(':').and_then(|(path, line)| Some((path, line.parse::<usize>().ok()?)));
     let Some((path, number)) = place else {
         let wrong = |Wrong { column, why }| Stop::Refused(format!("BENCH, column {column}: {why}"));
-        return bench::place(argument).map_err(wrong);
+        return bench::place(argument).map(|(place, name)| Seat { line: None, name, place }).map_err(wrong);
     };
     let mut lines = Lines::open(path)?;
-    while lines.next()? {
+    while lines.advance()? {
         if lines.number == number {
             let missing = || Stop::Refused(format!("{}: line {number}: there is no bench", lines.name));
-            return lines.bench()?.map(|bench| bench.place).ok_or_else(missing);
+            let bench = lines.bench()?.ok_or_else(missing)?;
+            return Ok(Seat { line: Some(number), name: bench.name, place: bench.place });
         }
     }
     Err(Stop::Refused(format!("{}: line {number}: there is no such line", lines.name)))

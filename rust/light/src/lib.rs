@@ -1,18 +1,26 @@
 //! What the program `light` does: rooms and their lamps, benches and what they look at. `light --help` tells of it.
 
 pub mod bench;
+pub mod block;
+pub mod check;
 pub mod commands;
 pub mod completions;
 pub mod draw;
 pub mod help;
+pub mod lamp;
 pub mod man;
 pub mod options;
 pub mod output;
 pub mod plan;
 pub mod report;
 pub mod room;
+pub mod rows;
+pub mod sheet;
 pub mod source;
+pub mod table;
 pub mod text;
+pub mod triangle;
+pub mod words;
 
 use options::Asked;
 use output::Output;

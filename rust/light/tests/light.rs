@@ -1,40 +1,10 @@
 //! The program on the examples, on wrong text, and its exit statuses.
 
+mod common;
+
+use common::{EXAMPLES, bad, good, light, temporary, text};
 use std::io::Write;
 use std::process::{Command, Output, Stdio};
-
-const EXAMPLES: &str = concat!(env!("CARGO_MANIFEST_DIR"), "/../../examples");
-
-/// `light` with some arguments, in the folder of the examples, with some input.
-fn light(arguments: &[&str], input: &str) -> Output {
-    let mut command = Command::new(env!("CARGO_BIN_EXE_light"));
-    command.args(arguments).current_dir(EXAMPLES);
-    let mut light = command.stdin(Stdio::piped()).stdout(Stdio::piped()).stderr(Stdio::piped()).spawn().unwrap();
-    // a program that ends before it reads is told by its status
-    let _ = light.stdin.take().unwrap().write_all(input.as_bytes());
-    light.wait_with_output().unwrap()
-}
-
-fn text(bytes: &[u8]) -> String {
-    String::from_utf8(bytes.to_vec()).unwrap()
-}
-
-/// What it prints, where nothing goes wrong.
-#[track_caller]
-fn good(arguments: &[&str], input: &str) -> String {
-    let output = light(arguments, input);
-    assert_eq!((output.status.code(), text(&output.stderr).as_str()), (Some(0), ""));
-    text(&output.stdout)
-}
-
-/// The one line that it says where it ends with a status.
-#[track_caller]
-fn bad(status: i32, arguments: &[&str], input: &str) -> String {
-    let output = light(arguments, input);
-    let said = text(&output.stderr);
-    assert_eq!((output.status.code(), said.lines().count()), (Some(status), 1), "{said}");
-    said.trim_end().into()
-}
 
 /// A room whose lamps are refused or whose text is wrong: nothing is printed.
 #[track_caller]
@@ -77,6 +47,29 @@ fn list() {
     assert_eq!(output.stdout, words.map(u32::to_le_bytes).as_flattened());
 }
 
+/// The words for the program columns: the count of lamps, 14 a lamp, and seven a bench.
+#[test]
+fn columns() {
+    let path = temporary("columns");
+    std::fs::write(&path, "1 0 1 - 0.5\n# none\n\"x\" 1 2 3 4 5 6 0x3f800001\n").unwrap();
+    let words = |room: &str| {
+        let output = light(&["columns", "-", path.to_str().unwrap()], room);
+        assert_eq!((output.status.code(), output.stdout.len() % 4), (Some(0), 0));
+        output.stdout.as_chunks().0.iter().map(|bytes| u32::from_le_bytes(*bytes)).collect::<Vec<_>>()
+    };
+    let benches = [1f32, 0., 1., 0., 0., 0., 0.5, 1., 2., 3., 4., 5., 6., 1.0000001].map(f32::to_bits);
+    assert_eq!(words("")[..], [&[0][..], &benches].concat());
+    let pair = words(PAIR);
+    assert_eq!((pair[0], pair.len(), &pair[29..]), (2, 1 + 2 * 14 + 14, &benches[..]));
+    assert_eq!(words(&"point 0 0 0 1 1\n".repeat(600))[0], 600);
+    std::fs::write(&path, "1 0 1 - 0.5\n1 0\n").unwrap();
+    assert!(
+        bad(1, &["columns", "-", path.to_str().unwrap()], PAIR).ends_with(": line 2, column 4: 2 figures in place of 3: X Y Z")
+    );
+    std::fs::remove_file(path).unwrap();
+    assert_eq!(bad(2, &["columns", "-", "-"], ""), "standard input is either the room or the benches");
+}
+
 /// Decimals as they are read and written: the shortest that is the same float, a NaN or an infinity as its word.
 #[test]
 fn decimals() {
@@ -112,10 +105,6 @@ fn report() {
 }
 
 const PAIR: &str = "point 0 0 0 1 1\npoint 2 0 0 1 1\n";
-
-fn temporary(name: &str) -> std::path::PathBuf {
-    std::env::temp_dir().join(format!("light-{}-{name}", std::process::id()))
-}
 
 /// A room of two bulbs, on standard input, with benches in a file.
 fn pair(name: &str, benches: &[u8]) -> Output {
@@ -250,7 +239,7 @@ fn draw() {
     assert_eq!(bad(1, &["draw", "room.txt", "0 0 x -", "0"], ""), "BENCH, column 5: 'x' is no number");
     assert_eq!(
         bad(1, &["draw", "room.txt", "0 0 0 - 1", "0"], ""),
-        "BENCH, column 9: 1 figures in place of 0: a bench here has no U"
+        "BENCH, column 9: 1 figure in place of 0: a bench here has no U"
     );
     assert_eq!(
         bad(1, &["draw", "room.txt", "0 0 0", "0"], ""),
@@ -278,7 +267,7 @@ fn wrong_rooms() {
         ("| 1 2", "column 1: '|' is no kind"),
         ("group 1 1 both", "column 11: 'both' is neither one nor two"),
         ("group 1 1", "column 10: 2 figures in place of 3: EMISSION SCALE one|two"),
-        ("group 1 1 one | 1 | 2", "column 19: 1 figures in place of 13: AX AY AZ"),
+        ("group 1 1 one | 1 | 2", "column 19: 1 figure in place of 13: AX AY AZ"),
         ("group 1 1 one |", "column 16: 0 figures in place of 13"),
         ("group 1 1 one|0 0 0 1 0 0 0 1 0 1 0 0 z", "column 39: 'z' is no number"),
     ] {
@@ -294,14 +283,17 @@ fn refused_rooms() {
     let triangle = "| 0 0 0 1 0 0 0 1 0 0.5 0 0 1 ";
     let flat = "| 0 0 0 1 0 0 0 1 0 0 0 0 1 ";
     let nine = "refused 9: a triangle's area is not a finite number above 0, or a group has no triangle";
-    wrong("point 1 2 3 1 1\n\nspot 1 2 3 0 0 0 1 1 0.5 0.4", "line 3: lamp 1, a spot: refused 7: ");
+    wrong("point 1 2 3 1 1\n\nspot 1 2 3 0 0 0 1 1 0.5 0.4", "line 3, column 12: lamp 1, a spot: refused 7: ");
     let group = format!("group 1 1 one {triangle}{flat}{triangle}\npoint 0 0 0 -1 1");
-    wrong(&group, &format!("line 1: lamp 0, a group, at its triangle 2: {nine}"));
-    wrong("point 0 0 0 1 1\npoint 0 0 0 -1 1", "line 2: lamp 1, a point: refused 8: ");
-    wrong("group 1 1 two", &format!("line 1: lamp 0, a group: {nine}"));
-    wrong("point 0x7fc00000 0 0 1 1", "line 1: lamp 0, a point: refused 5: ");
+    wrong(&group, &format!("line 1, column 65: lamp 0, a group, at its triangle 2: {nine}: AREA is 0: write one above 0"));
+    wrong("point 0 0 0 1 1\npoint 0 0 0 -1 1", "line 2, column 13: lamp 1, a point: refused 8: ");
+    wrong("group 1 1 two", &format!("line 1, column 14: lamp 0, a group: {nine}: a triangle belongs here"));
+    wrong("point 0x7fc00000 0 0 1 1", "line 1, column 7: lamp 0, a point: refused 5: ");
     let bright = triangle.replace("0.5", "1");
-    wrong(&format!("group 1e38 1 one {}", bright.repeat(4)), "line 1: lamp 0, a group, at its triangle 3: refused 10: ");
+    wrong(
+        &format!("group 1e38 1 one {}", bright.repeat(4)),
+        "line 1, column 1: lamp 0, a group, at its triangle 3: refused 10: ",
+    );
     wrong(
         &"point 0 0 0 1 1\n".repeat(4097),
         "refused 2: over 4,096 lamps (columns: 512), weights or table words, 8,191 nodes, or 2^20 words: this room has 4097 lamps",
@@ -310,7 +302,7 @@ fn refused_rooms() {
     // what only the tree refuses: a group's power that is infinite, by its line; powers that are so together, by the room
     let report = |room: &str| bad(1, &["report", "-", "benches.txt"], room);
     let infinite = format!("point 0 0 0 1 1\ngroup 1e38 1 one {}", bright.repeat(2));
-    assert!(report(&infinite).starts_with("standard input: line 2: lamp 1, a group: refused 5: "));
+    assert!(report(&infinite).starts_with("standard input: line 2, column 7: lamp 1, a group: refused 5: "));
     let huge: String = (0..3).map(|x| format!("point {x} 0 0 2.387e37 1\n")).collect();
     assert!(report(&huge).starts_with("standard input: refused 10: "));
     assert_eq!(good(&["block", "-"], &infinite).lines().count(), 3);
