@@ -1,4 +1,4 @@
-//! `light block` and `light list`: the lamps' bounds, and the lamps as words.
+//! `light block`: the lamps' bounds.
 
 use crate::options::Options;
 use crate::output::Output;
@@ -33,12 +33,6 @@ pub fn block(options: &Options, output: &mut Output) -> Result<(), Stop> {
         None => text(&room, output),
         Some(form) => table(&room, form, output),
     }
-}
-
-/// `light list ROOM`.
-pub fn list(options: &Options, output: &mut Output) -> Result<(), Stop> {
-    let [path] = options.arguments();
-    output.words(&room(path)?.list()?)
 }
 
 fn figures(record: &LightBounds) -> [f32; FIGURES.len()] {

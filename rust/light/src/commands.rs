@@ -4,7 +4,7 @@ use crate::help;
 use crate::options::Options;
 use crate::output::Output;
 use crate::text::Stop;
-use crate::{block, check, completions, draw, man, plan, report, sheet, table};
+use crate::{block, check, completions, draw, man, plan, report, sheet, table, words};
 
 /// What may stand in an argument's or an option's place.
 pub enum Values {
@@ -116,7 +116,16 @@ pub const COMMANDS: &[Command] = &[
         text: "the lamps as words, for the proved program lamps_to_block",
         more: help::LIST,
         choices: &[],
-        run: block::list,
+        run: words::list,
+    },
+    Command {
+        name: "columns",
+        arguments: &[ROOM, BENCHES],
+        writes: Some("WORDS"),
+        text: "bounds and benches as words, for the proved program columns",
+        more: help::COLUMNS,
+        choices: &[],
+        run: words::columns,
     },
     Command {
         name: "help",

@@ -113,6 +113,15 @@ Writes the lamp list of a room, 32-bit words, the lowest byte first, as target/b
 reads it. `light --help` tells of ROOM.
 ";
 
+pub const COLUMNS: &str = "\
+Writes what target/bin/columns reads, 32-bit words, the lowest byte first: the bounds block of a
+room, and for each bench seven floats, its point, its normal (0 0 0 for none) and u. That program
+prints the handle and the bits of both chances, a bench a line, and every byte of it is proved. It
+takes 512 lamps, and says `refused 2` where there are more.
+    light columns ROOM BENCHES | target/bin/columns
+`light --help` tells of ROOM, `light report --help` of BENCHES.
+";
+
 pub const HELP: &str = "\
 Prints what a command does, as `light COMMAND --help` does, or of all commands what each is for.
 ";
@@ -159,9 +168,9 @@ pub fn body(command: &Command) -> String {
 }
 
 fn all() -> String {
-    let commands = listed(COMMANDS.iter().map(|command| (command.usage(), command.text)));
-    let options = listed([&HELP_CHOICE, &VERSION].into_iter().map(described));
-    format!("light: {WHAT}\n\n{commands}{options}\n`light COMMAND --help` says more.\n\n{ROOMS}\n{STATUS}")
+    let commands = COMMANDS.iter().map(|command| (command.usage().replacen("light ", "", 1), command.text));
+    let lines = listed(commands.chain([&HELP_CHOICE, &VERSION].map(described)));
+    format!("light: {WHAT}\n\nlight COMMAND ...\n{lines}`light COMMAND --help` says more.\n\n{ROOMS}\n{STATUS}")
 }
 
 fn described(choice: &'static Choice) -> (String, &'static str) {

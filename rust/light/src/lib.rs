@@ -20,6 +20,7 @@ pub mod source;
 pub mod table;
 pub mod text;
 pub mod triangle;
+pub mod words;
 
 use options::Asked;
 use output::Output;

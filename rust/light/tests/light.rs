@@ -47,6 +47,29 @@ fn list() {
     assert_eq!(output.stdout, words.map(u32::to_le_bytes).as_flattened());
 }
 
+/// The words for the program columns: the count of lamps, 14 a lamp, and seven a bench.
+#[test]
+fn columns() {
+    let path = temporary("columns");
+    std::fs::write(&path, "1 0 1 - 0.5\n# none\n\"x\" 1 2 3 4 5 6 0x3f800001\n").unwrap();
+    let words = |room: &str| {
+        let output = light(&["columns", "-", path.to_str().unwrap()], room);
+        assert_eq!((output.status.code(), output.stdout.len() % 4), (Some(0), 0));
+        output.stdout.as_chunks().0.iter().map(|bytes| u32::from_le_bytes(*bytes)).collect::<Vec<_>>()
+    };
+    let benches = [1f32, 0., 1., 0., 0., 0., 0.5, 1., 2., 3., 4., 5., 6., 1.0000001].map(f32::to_bits);
+    assert_eq!(words("")[..], [&[0][..], &benches].concat());
+    let pair = words(PAIR);
+    assert_eq!((pair[0], pair.len(), &pair[29..]), (2, 1 + 2 * 14 + 14, &benches[..]));
+    assert_eq!(words(&"point 0 0 0 1 1\n".repeat(600))[0], 600);
+    std::fs::write(&path, "1 0 1 - 0.5\n1 0\n").unwrap();
+    assert!(
+        bad(1, &["columns", "-", path.to_str().unwrap()], PAIR).ends_with(": line 2, column 4: 2 figures in place of 3: X Y Z")
+    );
+    std::fs::remove_file(path).unwrap();
+    assert_eq!(bad(2, &["columns", "-", "-"], ""), "standard input is either the room or the benches");
+}
+
 /// Decimals as they are read and written: the shortest that is the same float, a NaN or an infinity as its word.
 #[test]
 fn decimals() {

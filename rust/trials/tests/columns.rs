@@ -210,3 +210,28 @@ fn offices() {
         assert!(lines.contains(' '), "no lamp was drawn of {lamps}");
     }
 }
+
+/// What `light` writes or prints of the laboratory and its benches.
+fn light(command: &[&str]) -> Vec<u8> {
+    let examples = concat!(env!("CARGO_MANIFEST_DIR"), "/../../examples");
+    let files = ["laboratory.txt", "benches.txt"].map(|file| format!("{examples}/{file}"));
+    let arguments: Vec<String> = command.iter().map(|word| word.to_string()).chain(files).collect();
+    let mut output = light::output::Output::kept();
+    assert!(light::run(&arguments, &mut output).is_ok());
+    output.into_bytes()
+}
+
+/// The program on the words of `light columns` prints what `light report` does.
+#[test]
+fn the_room_tool() {
+    let table = String::from_utf8(light(&["report", "--csv", "--no-sum"])).unwrap();
+    let mut rows = table.split("\r\n").map(|row| row.split(',').collect::<Vec<_>>());
+    let fields = rows.next().unwrap();
+    let place = |name: &str| fields.iter().position(|field| *field == name).unwrap();
+    let [lamp, drawn, named] = ["lamp", "drawn_bits", "named_bits"].map(place);
+    let bits = |word: &str| word.trim_start_matches("0x").to_string();
+    let rows = rows.filter(|row| row.len() > 1);
+    let lines: String = rows.map(|row| format!("{} {} {}\n", row[lamp], bits(row[drawn]), bits(row[named]))).collect();
+    assert_eq!(lines.lines().count(), 20);
+    assert_eq!(report(&light(&["columns"])), format!("{HEADER}{lines}"));
+}
