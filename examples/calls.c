@@ -58,6 +58,35 @@ static void put_row(uint32_t *row, uint32_t handle, float x, float phi)
     row[13] = 0;
 }
 
+/* The library is this header's; every refusal has a sentence, and no two the same. */
+static void versions_and_sentences(void)
+{
+    HOLDS(light_version() == LIGHT_VERSION);
+    for (uint32_t i = 0; i <= LIGHT_TOO_WIDE + 1; i++)
+        for (uint32_t j = 0; j < i; j++)
+            HOLDS(strlen(light_refusal_text(i)) > 15 && strcmp(light_refusal_text(i), light_refusal_text(j)) != 0);
+    HOLDS(strcmp(light_refusal_text(LIGHT_BAD_U), "u is not a number from 0 to 1") == 0);
+    HOLDS(strcmp(light_refusal_text(1000), light_refusal_text(UINT32_MAX)) == 0);
+}
+
+/* Whether floats are in their first state with these bits of MXCSR changed, which are then changed back. */
+static bool floats_ok_with(unsigned changed)
+{
+    const unsigned first = __builtin_ia32_stmxcsr();
+    __builtin_ia32_ldmxcsr(first ^ changed);
+    const bool ok = light_floats_ok();
+    __builtin_ia32_ldmxcsr(first);
+    return ok;
+}
+
+/* Flush to zero, denormals are zero, and each other rounding are told; a flag that a sum left is nothing. */
+static void floats(void)
+{
+    HOLDS(floats_ok_with(0) && floats_ok_with(1 << 5));
+    HOLDS(!floats_ok_with(1 << 15) && !floats_ok_with(1 << 6));
+    HOLDS(!floats_ok_with(1 << 13) && !floats_ok_with(2 << 13) && !floats_ok_with(3 << 13) && light_floats_ok());
+}
+
 static void lists(void)
 {
     const uint32_t one = light_word(1), four_pi = 0x41490fdb, behind = 0x5eed5eed;
@@ -195,6 +224,20 @@ static void limits(void)
     HOLDS(light_refusal(light_sample(tree, light_tree_bytes(2), POINT, NO_NORMAL, 0.5f)) == LIGHT_BROKEN_TREE);
 }
 
+/* Draws from the bins of the weights 1 and 3. */
+static void alias_draws(const uint32_t *bins)
+{
+    const uint64_t first = 0x3e800000, second = UINT64_C(1) << 32 | 0x3f400000;
+    HOLDS(light_alias_draw(bins, 2, 0) == first && light_alias_draw(bins, 2, -0.0f) == first);
+    HOLDS(light_alias_draw(bins, 2, light_float(0x3e7fffff)) == first && light_alias_draw(bins, 2, 0.25f) == second);
+    HOLDS(light_alias_draw(bins, 2, 0.5f) == second && light_alias_draw(bins, 2, 1) == second);
+    HOLDS(light_handle(second) == 1 && light_chance(second) == 0.75f && light_is_drawn(second));
+    const uint32_t wrong[] = {0x3f800001, 0x80000001, 0x7fc00000, 0x7f800000, 0xff800000};
+    for (size_t i = 0; i < 5; i++)
+        HOLDS(light_refusal(light_alias_draw(bins, 2, light_float(wrong[i]))) == LIGHT_BAD_U);
+    HOLDS(light_is_none(light_alias_draw(bins, 0, 0.5f)) && light_refusal(light_alias_draw(bins, 0, 2)) == LIGHT_BAD_U);
+}
+
 static void alias_tables(void)
 {
     const uint32_t weights[] = {light_word(1), light_word(3)};
@@ -203,6 +246,7 @@ static void alias_tables(void)
     HOLDS(light_alias_table(WORDS(weights), WORDS(bins), WORDS(work)) == 0);
     HOLDS(memcmp(bins, known, sizeof known) == 0 && all_are(work, LIGHT_ALIAS_WORK_RESERVE(2), 0));
     HOLDS(light_alias_table(WORDS(weights), WORDS(bins), work, LIGHT_ALIAS_WORK_RESERVE(2) - 1) == LIGHT_SHORT_TRAY);
+    alias_draws(bins);
 
     /* a sum past the largest float: each p is 0, each q 1 */
     const uint32_t largest[] = {0x7f7fffff, 0x7f7fffff}, alike[] = {light_word(1), 0, LIGHT_NO_INDEX};
@@ -231,6 +275,8 @@ static void empty_slices(void *any)
 int main(void)
 {
     sizes();
+    versions_and_sentences();
+    floats();
     lists();
     trees();
     told_chances();

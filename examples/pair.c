@@ -6,6 +6,10 @@
  *
  *     rt staticlib light_c
  *     cc -std=c99 -Iinclude examples/pair.c target/staticlib/liblight_c.a -o pair && ./pair
+ *
+ * or, where `tools/install PREFIX` put the library, with PKG_CONFIG_PATH=PREFIX/lib/pkgconfig
+ *
+ *     cc -std=c99 examples/pair.c $(pkg-config --cflags --libs light_tree) -o pair
  */
 #include <stdio.h>
 #include <stdlib.h>
@@ -16,7 +20,7 @@
 
 static void fail(const char *what, uint32_t number)
 {
-    fprintf(stderr, "%s: refused %u\n", what, (unsigned)number);
+    fprintf(stderr, "%s: refused %u: %s\n", what, (unsigned)number, light_refusal_text(number));
     exit(1);
 }
 
@@ -32,6 +36,11 @@ static void put_row(uint32_t *row, uint32_t handle, float x, float y, float z)
 
 int main(void)
 {
+    /* a renderer may have set its thread otherwise, and answers would not be the promised ones */
+    if (!light_floats_ok()) {
+        fputs("this thread's floats do not round to nearest, or flush small numbers to zero\n", stderr);
+        return 1;
+    }
     uint32_t block[LIGHT_BLOCK_WORDS(LAMPS)] = {LAMPS};
     put_row(block + 1, 0, 0, 0, 0);
     put_row(block + 1 + LIGHT_ROW_WORDS, 1, 2, 0, 0);

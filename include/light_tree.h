@@ -1,7 +1,8 @@
 /*
  * A light tree: which lamp a point looks at, and with which chance.
  *
- * liblight_c.a holds six functions, for x86-64 Linux; link it with nothing but the C library:
+ * liblight_c, an archive or a shared library, holds seven functions, for x86-64 Linux; link it with
+ * nothing but the C library:
  *
  *     light_bounds_block   a list of lamps to a block of bounds records, one a lamp
  *     light_build          a block to a tree: its nodes, and a table from lamps to leaves
@@ -9,6 +10,7 @@
  *     light_pmf            the chance of one lamp by its handle
  *     light_pack           a tree to the words that a graphics card is given
  *     light_alias_table    weights to an alias table, for draws by power alone
+ *     light_version        the library's version
  *
  * Each is proved to answer, for every input, what a written definition says, bit for bit; the
  * comments below tell it in words. examples/pair.c is a whole program.
@@ -31,13 +33,14 @@
  *   - refusals 1 to 4 change nothing;
  *   - later refusals zero the whole reserve.
  *
- * A refusal carries its number alone (enum light_refusals). Of several that hold the one given is
- * the first of 2, 1, 4, 3; the others come behind these, in the order of the work.
+ * A refusal carries its number alone (enum light_refusals); light_refusal_text has its sentence. Of
+ * several that hold the one given is the first of 2, 1, 4, 3; the others come behind these, in the
+ * order of the work.
  *
  * THREADS AND FLOATS. No function keeps anything between calls or allocates, so any number of
  * threads may draw from one tree. Floats must be in the state that a C program starts in: rounding
  * to nearest, and neither "flush to zero" nor "denormals are zero" set in the calling thread
- * (a renderer may set both), else answers are not the promised ones.
+ * (a renderer may set both), else answers are not the promised ones. light_floats_ok tells.
  *
  * STACK. light_build calls itself, 400 bytes for each fork on the way down, so m lamps take at most
  * 400 m bytes: under 1.7 MB for 4,096 of them. Besides, it and the others take under 5 KB.
@@ -53,6 +56,20 @@
 #ifdef __cplusplus
 extern "C" {
 #endif
+
+/* ---- version */
+
+/* Libraries that are alike in major and minor have the same functions and layouts. */
+#define LIGHT_VERSION_MAJOR 0
+#define LIGHT_VERSION_MINOR 1
+#define LIGHT_VERSION_PATCH 0
+#define LIGHT_VERSION (10000 * LIGHT_VERSION_MAJOR + 100 * LIGHT_VERSION_MINOR + LIGHT_VERSION_PATCH)
+
+/*
+ * The version of the library that is linked, as LIGHT_VERSION tells that of this header. Who loads the
+ * shared library by hand compares both, each divided by 100.
+ */
+uint32_t light_version(void);
 
 /* ---- refusals */
 
@@ -86,6 +103,29 @@ enum light_refusals {
     /* a packed handle or child is above 2^31 - 1 */
     LIGHT_TOO_WIDE = 13
 };
+
+/* The sentence of a refusal's number: ASCII, of one line, without a full stop. */
+static inline const char *light_refusal_text(uint32_t number)
+{
+    switch (number) {
+    case 1: return "a length or layout is wrong, a kind or side unknown, or lights and records differ in number";
+    case 2: return "over 4,096 lamps (columns: 512), weights or table words, 8,191 nodes, or 2^20 words";
+    case 3: return "a slice that is lent for output or for work is shorter than its reserve";
+    case 4: return "a handle is not its lamp's place";
+    case 5: return "a coordinate or a value of a record is infinite or NaN, such as a power that overflows";
+    case 6: return "a box has a min above its max";
+    case 7: return "a direction, normal or way from a box's centre to the point has no length to divide by";
+    case 8: return "an emission, intensity, scale, weight, power or cosine is out of its range";
+    case 9: return "a triangle's area is not a finite number above 0, or a group has no triangle";
+    case 10: return "bounds of lamps or triangles cannot be joined, since some fail their check";
+    case 11: return "u is not a number from 0 to 1";
+    case 12: return "the nodes are no tree (wrong kind, side, index or child, endless walk), or k or box differs";
+    case 13: return "a packed handle or child is above 2^31 - 1";
+    }
+    if (number == 0)
+        return "it is not refused";
+    return "a reason that light_tree.h does not know: its library is of another version";
+}
 
 /* ---- limits and sizes; m is a number of lamps or weights, k of powered lamps, n of nodes */
 
@@ -207,6 +247,15 @@ static inline float light_float(uint32_t word)
     float x;
     memcpy(&x, &word, sizeof x);
     return x;
+}
+
+/*
+ * Whether the calling thread's floats are in the state that answers are promised for: rounding to
+ * nearest (bits 13 and 14 of MXCSR), no "flush to zero" (bit 15), no "denormals are zero" (bit 6).
+ */
+static inline bool light_floats_ok(void)
+{
+    return (__builtin_ia32_stmxcsr() & 0xe040) == 0;
 }
 
 /* ---- a list of lamps to a block */
@@ -438,9 +487,9 @@ static inline uint32_t light_pack_refusal(uint64_t answer)
  *
  * Writes `bins`, words, reserve light_bins_reserve(m): for each weight LIGHT_BIN_WORDS words, q and
  * p, floats' bits, and alias. p is the weight's share of the sum; where that overflows f32 each p is
- * 0 and each q 1 (of the weights 7f7fffff, 7f7fffff both p are 00000000). To draw, pick a bin, each
- * alike, and a number from 0 to below 1: below q the bin's own place is drawn, else the place `alias`,
- * which is LIGHT_NO_INDEX where q is 1.
+ * 0 and each q 1 (of the weights 7f7fffff, 7f7fffff both p are 00000000). light_alias_draw draws:
+ * it picks a bin, each alike, and a number from 0 to below 1; below q the bin's own place is drawn, else
+ * the place `alias`, which is LIGHT_NO_INDEX where q is 1.
  *
  * Uses `work`, words, reserve light_alias_work_reserve(m), and zeroes it.
  *
@@ -449,6 +498,37 @@ static inline uint32_t light_pack_refusal(uint64_t answer)
 uint32_t light_alias_table(const uint32_t *weights, size_t weights_len,
                            uint32_t *bins, size_t bins_len,
                            uint32_t *work, size_t work_len);
+
+/*
+ * Draws a place from an alias table of m weights, by u from 0 to 1, -0 as 0.
+ *
+ * Takes `bins`, words, light_bins_reserve(m) of them, as light_alias_table wrote them.
+ *
+ * Answers as light_sample does, to be taken apart by the same functions: the place as the handle, and its
+ * p as the chance; none where m is 0; refusal 11 where u is not a number from 0 to 1.
+ *
+ * The steps are pbrt-v4's, in floats: u times m, cut to a whole number, at most m - 1, is the bin; what
+ * is left, at most 3f7fffff, is held against q. This function is C, and not proved.
+ */
+static inline uint64_t light_alias_draw(const uint32_t *bins, size_t m, float u)
+{
+    const float below_one = light_float(0x3f7fffff);
+    if (!(0 <= u && u <= 1))
+        return UINT64_C(1) << 63 | LIGHT_BAD_U;
+    if (m == 0)
+        return UINT64_C(1) << 62;
+    /* volatile: the product is rounded, and not drawn together with the difference below */
+    volatile const float scaled = u * (float)m;
+    size_t place = (size_t)scaled;
+    if (place > m - 1)
+        place = m - 1;
+    float left = scaled - (float)place;
+    if (left > below_one)
+        left = below_one;
+    if (!(left < light_float(bins[LIGHT_BIN_WORDS * place])))
+        place = bins[LIGHT_BIN_WORDS * place + 2];
+    return (uint64_t)place << 32 | bins[LIGHT_BIN_WORDS * place + 1];
+}
 
 #ifdef __cplusplus
 }

@@ -1,7 +1,7 @@
 // The light tree for C and Rust, as `include/light_tree.h` tells it: a block from a lamp list, build, draw, chance by
-// name, packing, and the power alias table. Each is its function with numbers and slices for arguments and a number for
-// its answer, and promises what that promises. Draw, chance and packing read and write a tree as bytes, little-endian;
-// the others take words.
+// name, packing, the power alias table, and the library's version. Each but the last is its function with numbers and
+// slices for arguments and a number for its answer, and promises what that promises. Draw, chance and packing read and
+// write a tree as bytes, little-endian; the others take words.
 ghost use mathlib.Core.Path.{_≡_};
 ghost use mathlib.Core.List.{List, [], _∷_};
 ghost use mathlib.Core.Option.{some};
@@ -21,6 +21,7 @@ ghost use Rattle.alias_table.specs.AliasTable.{Bin, buildPowerAliasTable, binWo
 ghost use Rattle.light_c.specs.Codes.{answerReserve, boxWords, summaryList, buildAnswered};
 ghost use Rattle.light_c.specs.AsCoded.ShortAnswer.{shortAnswer};
 ghost use Rattle.light_c.specs.Codes.{queryAt, drawCode, valueCode, packedCode, boxOf};
+ghost use Rattle.light_c.specs.Version.{libraryVersion};
 use alias_table::build_power_alias_table;
 use lamps::build_bounds::build_light_bounds;
 use light_bounds::bounds::AllBounds;
@@ -293,4 +294,21 @@ pub extern "C" fn light_alias_table(weights: &[u32], bins: &mut [u32], work: &mu
         (now (work .entry)) ⌝ }
 {
     counted_code(build_power_alias_table(weights, bins, work))
+}
+
+// ---- the version
+
+// The parts of the library's version: what the header and the Rust crate are held to.
+pub const MAJOR: u32 = 0;
+
+pub const MINOR: u32 = 1;
+
+pub const PATCH: u32 = 0;
+
+// 10,000 times the major part, 100 times the minor one, and the patch.
+#[no_mangle]
+pub extern "C" fn light_version() -> u32
+    ensures { λ r. ⌜ r ≡ libraryVersion ⌝ }
+{
+    MAJOR * 10_000 + MINOR * 100 + PATCH
 }

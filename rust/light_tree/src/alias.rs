@@ -21,8 +21,8 @@ pub struct PowerAliasBin {
 
 /// An alias table: draws by weight alone, as of lamps by their power, with one look.
 ///
-/// To draw, pick a bin, each alike, and a number from 0 to below 1: below q the bin's own place is drawn, else its alias. Weights whose
-/// sum overflows f32 are drawn alike: each bin has p 0 and q 1, as in pbrt-r4.
+/// A draw picks a bin, each alike, and a number from 0 to below 1: below q the bin's own place is drawn, else its
+/// alias. Weights whose sum overflows f32 are drawn alike: each bin has p 0 and q 1, as in pbrt-r4.
 ///
 /// ```
 /// use light_tree::{AliasTable, INVALID_INDEX};
@@ -44,6 +44,11 @@ impl AliasTable {
     ///
     /// One allocation: the work stands behind the bins, and its room is given back.
     ///
+    /// # Errors
+    ///
+    /// [`Crowded`](Refusal::Crowded) for more than 4,096 weights, [`OutOfRange`](Refusal::OutOfRange) for one that is
+    /// not finite or below 0.
+    ///
     /// ```
     /// use light_tree::{AliasTable, Refusal};
     ///
@@ -64,6 +69,40 @@ impl AliasTable {
         bins.truncate(count);
         bins.shrink_to_fit();
         Ok(AliasTable { bins })
+    }
+
+    /// Draws a place by a number u from 0 to 1: the place, and its weight's share p of the sum. None of a table of no
+    /// weights. Nothing is allocated.
+    ///
+    /// The steps are those of pbrt-v4's `AliasTable::Sample`, in f32: u times the number of bins, cut to a whole
+    /// number, is the bin, at most the last, and what is left, held below 1, is the number that is compared with q.
+    /// So u = 1, which pbrt-v4 excludes, draws from the last bin. They are written here, in Rust, and not proved; the
+    /// bins are.
+    ///
+    /// # Errors
+    ///
+    /// [`BadU`](Refusal::BadU) where u is not a number from 0 to 1, as in
+    /// [`LightTree::sample`](crate::LightTree::sample).
+    ///
+    /// ```
+    /// use light_tree::{AliasTable, Refusal};
+    ///
+    /// let table = AliasTable::build(&[1.0, 3.0])?;
+    /// assert_eq!([0.0, 0.2, 0.3, 0.5, 1.0].map(|u| table.sample(u).unwrap().unwrap().0), [0, 0, 1, 1, 1]);
+    /// assert_eq!(table.sample(0.5)?, Some((1, 0.75)));
+    /// assert_eq!(table.sample(1.5), Err(Refusal::BadU));
+    /// # Ok::<(), Refusal>(())
+    /// ```
+    pub fn sample(&self, u: f32) -> Result<Option<(u32, f32)>, Refusal> {
+        if !(0.0..=1.0).contains(&u) {
+            return Err(Refusal::BadU);
+        }
+        let Some(last) = self.bins.len().checked_sub(1) else { return Ok(None) };
+        let scaled = u * self.bins.len() as f32;
+        let own = (scaled as usize).min(last);
+        let left = (scaled - own as f32).min(1.0f32.next_down());
+        let place = if left < self.bins[own].q { own as u32 } else { self.bins[own].alias };
+        Ok(self.bins.get(place as usize).map(|bin| (place, bin.p)))
     }
 
     /// A bin for each weight.

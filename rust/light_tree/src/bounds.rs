@@ -28,6 +28,10 @@ pub struct Bounds3 {
 impl Bounds3 {
     /// A box that is finite and not inverted.
     ///
+    /// # Errors
+    ///
+    /// [`NotFinite`](Refusal::NotFinite) or [`Inverted`](Refusal::Inverted) for any other.
+    ///
     /// ```
     /// use light_tree::{Bounds3, Refusal};
     ///
@@ -36,9 +40,7 @@ impl Bounds3 {
     /// ```
     pub fn new(min: [f32; 3], max: [f32; 3]) -> Result<Bounds3, Refusal> {
         let bounds = Bounds3 { min, max };
-        let lamp =
-            LightBounds { bounds, direction: [0.0, 0.0, 1.0], phi: 1.0, cos_theta_o: 1.0, cos_theta_e: 1.0, two_sided: false };
-        lamp.validate().map(|_| bounds)
+        LightBounds::new(bounds, 1.0).validate().map(|_| bounds)
     }
 
     pub(crate) fn from_words(words: [u32; 6]) -> Bounds3 {
@@ -54,21 +56,19 @@ impl Bounds3 {
 
 /// The bounds of a lamp: where it is, which way it shines, how strongly.
 ///
+/// More fields may come, so they are made by [`LightBounds::new`] and changed field by field.
+///
 /// ```
 /// use light_tree::{Bounds3, LightBounds};
 ///
-/// let bulb = LightBounds {
-///     bounds: Bounds3::new([0.0; 3], [0.0; 3])?,
-///     direction: [0.0, 0.0, 1.0],
-///     phi: 1.0,
-///     cos_theta_o: -1.0,
-///     cos_theta_e: 0.0,
-///     two_sided: false,
-/// };
-/// assert_eq!(bulb.validate(), Ok(bulb));
+/// let mut spot = LightBounds::new(Bounds3::new([0.0; 3], [0.0; 3])?, 40.0);
+/// spot.direction = [0.0, 0.0, -1.0];
+/// (spot.cos_theta_o, spot.cos_theta_e) = (0.9, 0.8);
+/// assert_eq!(spot.validate(), Ok(spot));
 /// # Ok::<(), light_tree::Refusal>(())
 /// ```
 #[derive(Clone, Copy, Debug, PartialEq)]
+#[non_exhaustive]
 pub struct LightBounds {
     /// The box around it.
     pub bounds: Bounds3,
@@ -85,14 +85,35 @@ pub struct LightBounds {
 }
 
 impl LightBounds {
-    /// The bounds themselves where build would accept them: all figures finite, min not above max, a direction with a length, phi not
-    /// below 0, cosines from -1 to 1. Nothing is allocated.
+    /// The bounds of a lamp of power phi that shines alike in every direction: about (0, 0, 1) with cosines -1 and 0,
+    /// on one side. Nothing is checked here.
+    ///
+    /// ```
+    /// use light_tree::{Bounds3, LightBounds};
+    ///
+    /// let bulb = LightBounds::new(Bounds3::new([1.0; 3], [1.0; 3])?, 2.0);
+    /// assert_eq!((bulb.phi, bulb.direction), (2.0, [0.0, 0.0, 1.0]));
+    /// assert_eq!((bulb.cos_theta_o, bulb.cos_theta_e, bulb.two_sided), (-1.0, 0.0, false));
+    /// # Ok::<(), light_tree::Refusal>(())
+    /// ```
+    pub fn new(bounds: Bounds3, phi: f32) -> LightBounds {
+        LightBounds { bounds, direction: [0.0, 0.0, 1.0], phi, cos_theta_o: -1.0, cos_theta_e: 0.0, two_sided: false }
+    }
+
+    /// The bounds themselves where build would accept them: all figures finite, min not above max, a direction with a
+    /// length, phi not below 0, cosines from -1 to 1. Nothing is allocated.
+    ///
+    /// # Errors
+    ///
+    /// The first that holds of [`NotFinite`](Refusal::NotFinite) and [`Inverted`](Refusal::Inverted) for the box,
+    /// [`NotFinite`](Refusal::NotFinite) for other figures, [`NoDirection`](Refusal::NoDirection) and
+    /// [`OutOfRange`](Refusal::OutOfRange).
     ///
     /// ```
     /// use light_tree::{Bounds3, LightBounds, Refusal};
     ///
-    /// let bounds = Bounds3::new([0.0; 3], [0.0; 3])?;
-    /// let lamp = LightBounds { bounds, direction: [0.0; 3], phi: 1.0, cos_theta_o: 1.0, cos_theta_e: 0.0, two_sided: false };
+    /// let mut lamp = LightBounds::new(Bounds3::new([0.0; 3], [0.0; 3])?, 1.0);
+    /// lamp.direction = [0.0; 3];
     /// assert_eq!(lamp.validate(), Err(Refusal::NoDirection));
     /// # Ok::<(), Refusal>(())
     /// ```
@@ -151,7 +172,11 @@ pub(crate) fn write_block(bounds: &[LightBounds], block: &mut [u32]) {
 pub struct Block(pub(crate) Vec<u32>);
 
 impl Block {
-    /// The block of bounds. They are not checked here; build does that. More than 4,096 are [`Refusal::Crowded`].
+    /// The block of bounds. They are not checked here; build does that.
+    ///
+    /// # Errors
+    ///
+    /// [`Crowded`](Refusal::Crowded) for more than 4,096.
     ///
     /// ```
     /// assert_eq!(light_tree::Block::new(&[])?.words(), [0]);

@@ -1,7 +1,8 @@
 use crate::bounds::{Block, block_words};
 use crate::{MAX_LAMPS, Refusal, sys};
 
-/// A lamp as a scene has it. Its handle is its place among the lamps.
+/// A lamp as a scene has it. Its handle is its place among the lamps. More kinds may come, so a `match` needs an arm
+/// for all others.
 ///
 /// ```
 /// use light_tree::{Lamp, Triangle};
@@ -16,6 +17,7 @@ use crate::{MAX_LAMPS, Refusal, sys};
 /// # Ok::<(), light_tree::Refusal>(())
 /// ```
 #[derive(Clone, Debug, PartialEq)]
+#[non_exhaustive]
 pub enum Lamp {
     /// A bulb that shines in every direction.
     Point {
@@ -181,8 +183,12 @@ fn written(lamps: &[Lamp]) -> Written<impl FnOnce(&mut Vec<u32>)> {
     Written { lamps: lamps.len(), words: lamps.iter().map(Lamp::words).sum(), write }
 }
 
-/// The lamp list of lamps: the words that the library, and programs beside it, read them from. Nothing of them is checked but that
-/// they are at most 4,096.
+/// The lamp list of lamps: the words that the library, and programs beside it, read them from. Nothing of them is
+/// checked but how many they are.
+///
+/// # Errors
+///
+/// [`Crowded`](Refusal::Crowded) for more than 4,096.
 ///
 /// ```
 /// use light_tree::{Lamp, lamp_list};
@@ -197,10 +203,13 @@ pub fn lamp_list(lamps: &[Lamp]) -> Result<Vec<u32>, Refusal> {
 
 /// The bounds of lamps, in their order.
 ///
-/// One allocation: the list that the lamps are written to stands behind the block, and its room is given back. The first lamp that
-/// cannot be taken refuses them all: [`Crowded`](Refusal::Crowded), [`NotFinite`](Refusal::NotFinite),
-/// [`NoDirection`](Refusal::NoDirection), [`OutOfRange`](Refusal::OutOfRange), [`NoArea`](Refusal::NoArea) or
-/// [`LostUnion`](Refusal::LostUnion).
+/// One allocation: the list that the lamps are written to stands behind the block, and its room is given back.
+///
+/// # Errors
+///
+/// [`Crowded`](Refusal::Crowded) for more than 4,096 lamps or a list of over 2^20 words. Else the first lamp that
+/// cannot be taken refuses them all: [`NotFinite`](Refusal::NotFinite), [`NoDirection`](Refusal::NoDirection),
+/// [`OutOfRange`](Refusal::OutOfRange), [`NoArea`](Refusal::NoArea) or [`LostUnion`](Refusal::LostUnion).
 ///
 /// ```
 /// use light_tree::{bounds_block, Lamp, Refusal};

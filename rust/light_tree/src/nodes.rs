@@ -1,20 +1,20 @@
 //! Nodes by themselves: draws from words that a program has altered, and what one fork weighs.
 
+use crate::tree::NODE_WORDS;
 use crate::{INVALID_INDEX, LightTree, Refusal, sys};
 
-/// The words of a node: head, right child, parent, record.
-const NODE_WORDS: usize = 16;
 /// The kinds of a head, in its top two bits.
 const LEAF: u32 = 1 << 30;
 const FORK: u32 = 2 << 30;
 
-/// Draws from the words of nodes, 16 a node, as [`LightTree::sample`] draws from a tree's own: for a program that has a copy of
-/// [`LightTree::node_bytes`] and puts something else in a node's place.
+/// Draws from the words of nodes, 16 a node, as [`LightTree::sample`] draws from a tree's own: for a program that has
+/// a copy of [`LightTree::node_bytes`] and puts something else in a node's place.
 ///
 /// # Errors
 ///
-/// Those of [`LightTree::sample`]; and, since nothing is known of the words, [`Ragged`](Refusal::Ragged) or [`Crowded`](Refusal::Crowded) of their number and
-/// [`BrokenTree`](Refusal::BrokenTree) of a node that is absent or of no kind.
+/// Those of [`LightTree::sample`]; and, since nothing is known of the words, [`Ragged`](Refusal::Ragged) or
+/// [`Crowded`](Refusal::Crowded) of their number and [`BrokenTree`](Refusal::BrokenTree) of a node that is absent or
+/// of no kind.
 ///
 /// ```
 /// # use light_tree::{Lamp, LightTree};
@@ -51,8 +51,9 @@ fn by_itself(nodes: &[[u8; 4 * NODE_WORDS]], place: usize) -> Option<[u32; 3 * N
 }
 
 impl LightTree {
-    /// What the two branches of the fork at a place weigh for a point p and a normal n there: the shares x / (x + y) and y / (x + y)
-    /// of weights x and y. None where neither has weight, so that a draw ends there with none, and at a leaf. Nothing is allocated.
+    /// What the two branches of the fork at a place weigh for a point p and a normal n there: the shares x / (x + y)
+    /// and y / (x + y) of weights x and y. None where neither has weight, so that a draw ends there with none, and at
+    /// a leaf. Nothing is allocated.
     ///
     /// The chance of a lamp by name, [`pmf`](LightTree::pmf), is the product of these from its leaf up to the root.
     ///

@@ -1,13 +1,16 @@
-//! The names and signatures of pbrt-r4, over this crate's: `flat/light_bounds.rs`, `flat/light_bvh.rs`, `webgpu/light_bvh.rs` and
-//! `build_power_alias_table`, `pack_exhaustive_bounds` of `webgpu/light_sampler.rs`.
+//! The names and signatures of pbrt-r4, over this crate's: `flat/light_bounds.rs`, `flat/light_bvh.rs`,
+//! `webgpu/light_bvh.rs` and `build_power_alias_table`, `pack_exhaustive_bounds` of `webgpu/light_sampler.rs`.
 //!
-//! A renderer swaps the module with one line, such as `pub use light_tree::pbrt::*;` where `light_bounds` and `light_bvh` were
-//! declared, and one conversion, `impl From<light_tree::Refusal> for PbrtError`, for its `?`. Other than in pbrt-r4:
+//! A renderer swaps the module with one line, such as `pub use light_tree::pbrt::*;` where `light_bounds` and
+//! `light_bvh` were declared, and one conversion, `impl From<light_tree::Refusal> for PbrtError`, for its `?`. Other
+//! than in pbrt-r4:
 //!
 //! - An error is a [`Refusal`].
 //! - [`build_light_bvh`] takes light records of any type, since it only counts them.
 //! - The fields of [`LightBVH`] can be read and not written, so that draws and fields never part.
-//! - `LightBounds::union`, `LightBounds::importance` and the arithmetic of `Bounds3` are not offered: the library does not export them.
+//! - [`LightBounds`] are made by [`LightBounds::new`] and changed field by field, since more fields may come.
+//! - `LightBounds::union`, `LightBounds::importance` and the arithmetic of `Bounds3` are not offered: the library
+//!   does not export them.
 //!
 //! ```
 //! use light_tree::pbrt::*;
@@ -121,8 +124,8 @@ impl LightBoundInput {
     }
 }
 
-/// A light tree with pbrt-r4's fields: [`LightBVHFields`], which it gives as if they were its own. It keeps a [`LightTree`] beside
-/// them, from which lamps are drawn.
+/// A light tree with pbrt-r4's fields: [`LightBVHFields`], which it gives as if they were its own. It keeps a
+/// [`LightTree`] beside them, from which lamps are drawn.
 ///
 /// ```
 /// use light_tree::pbrt::*;
@@ -187,6 +190,11 @@ impl AsRef<LightTree> for LightBVH {
 
 /// The bounds of lamps, in their order: [`bounds_block`](crate::bounds_block), whose words are freed again.
 ///
+/// # Errors
+///
+/// Those of [`bounds_block`](crate::bounds_block), and [`Misplaced`](Refusal::Misplaced) for a handle that is not its
+/// lamp's place.
+///
 /// ```
 /// use light_tree::pbrt::*;
 ///
@@ -202,6 +210,10 @@ pub fn build_light_bounds(inputs: &[LightBoundInput]) -> Result<Vec<LightBounds>
 
 /// The tree of lights' bounds: [`LightTree::build`].
 ///
+/// # Errors
+///
+/// Those of [`LightTree::build`], and [`Ragged`](Refusal::Ragged) where there are more or fewer lights than bounds.
+///
 /// ```
 /// use light_tree::pbrt::*;
 ///
@@ -216,6 +228,10 @@ pub fn build_light_bvh<Light>(lights: &[Light], light_bounds: &[LightBounds]) ->
 
 /// Draws a lamp: [`LightTree::sample`].
 ///
+/// # Errors
+///
+/// Those of [`LightTree::sample`].
+///
 /// ```
 /// use light_tree::pbrt::*;
 ///
@@ -228,6 +244,10 @@ pub fn bvh_light_sampler_sample(bvh: &LightBVH, p: [f32; 3], n: [f32; 3], u: f32
 }
 
 /// The chance of a lamp by its handle: [`LightTree::pmf`].
+///
+/// # Errors
+///
+/// Those of [`LightTree::pmf`].
 ///
 /// ```
 /// use light_tree::pbrt::*;
@@ -242,6 +262,10 @@ pub fn bvh_light_sampler_pmf(bvh: &LightBVH, p: [f32; 3], n: [f32; 3], handle: u
 
 /// The tree packed for a graphics card: [`LightTree::pack`].
 ///
+/// # Errors
+///
+/// Those of [`LightTree::pack`].
+///
 /// ```
 /// use light_tree::pbrt::*;
 ///
@@ -254,6 +278,10 @@ pub fn pack_light_bvh(bvh: &LightBVH) -> Result<Option<PackedLightBVH>, Refusal>
 
 /// The words of a bounds block: [`Block::new`].
 ///
+/// # Errors
+///
+/// Those of [`Block::new`].
+///
 /// ```
 /// assert_eq!(light_tree::pbrt::pack_exhaustive_bounds(&[])?, [0]);
 /// # Ok::<(), light_tree::Refusal>(())
@@ -263,6 +291,10 @@ pub fn pack_exhaustive_bounds(bounds: &[LightBounds]) -> Result<Vec<u32>, Refusa
 }
 
 /// The bins of an alias table: [`AliasTable::build`].
+///
+/// # Errors
+///
+/// Those of [`AliasTable::build`].
 ///
 /// ```
 /// use light_tree::pbrt::*;

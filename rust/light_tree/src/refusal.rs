@@ -22,13 +22,15 @@ macro_rules! refusals {
         #[non_exhaustive]
         pub enum Refusal {
             $(#[doc = concat!($number, ": ", $sentence, ".")] $name,)*
+            /// Not of the library, so without a number (0): the system has no thread of 4 MiB to build a tree on.
+            NoThread,
             /// Any other number: the library that the program is linked with is not the one that this crate is for.
             #[non_exhaustive]
             Unknown(u32),
         }
 
         impl Refusal {
-            /// The number.
+            /// The number; 0 for [`NoThread`](Refusal::NoThread), which is none of the library's.
             ///
             /// ```
             /// assert_eq!(light_tree::Refusal::BadU.number(), 11);
@@ -36,6 +38,7 @@ macro_rules! refusals {
             pub fn number(self) -> u32 {
                 match self {
                     $(Refusal::$name => $number,)*
+                    Refusal::NoThread => 0,
                     Refusal::Unknown(number) => number,
                 }
             }
@@ -60,6 +63,7 @@ macro_rules! refusals {
             fn fmt(&self, f: &mut fmt::Formatter) -> fmt::Result {
                 f.write_str(match self {
                     $(Refusal::$name => $sentence,)*
+                    Refusal::NoThread => "the system has no thread of 4 MiB to build the tree on",
                     Refusal::Unknown(_) => "a reason that light_tree does not know: its library is of another version",
                 })
             }

@@ -1,11 +1,11 @@
 //! The functions of `liblight_c.a` behind safe ones: the only module with `unsafe`. `include/light_tree.h` tells what
 //! each takes and answers.
 //!
-//! SAFETY, for every call: the declarations are the header's (`tests/header.rs`). Each slice is handed over as a pointer
-//! to its first element and its length, and the slices that are written to are `&mut`, so no two overlap. The functions
-//! read and write within these lengths alone, keep nothing, and are proved for every input. Where a slice is handed over
-//! as another type, both are plain 32-bit numbers or bytes without padding, for which every bit pattern is a value; bytes
-//! hold words little-endian, as the machine does.
+//! SAFETY, for every call: the declarations are the header's (`tests/header.rs`). Each slice is handed over as a
+//! pointer to its first element and its length, and the slices that are written to are `&mut`, so no two overlap. The
+//! functions read and write within these lengths alone, keep nothing, and are proved for every input. Where a slice
+//! is handed over as another type, both are plain 32-bit numbers or bytes without padding, for which every bit
+//! pattern is a value; bytes hold words little-endian, as the machine does.
 
 #![allow(unsafe_code)]
 
@@ -16,6 +16,7 @@ use crate::{Bounds3, PowerAliasBin};
 compile_error!("the light tree's words are little-endian, and the library is for x86-64");
 
 unsafe extern "C" {
+    fn light_version() -> u32;
     fn light_bounds_block(list: *const u32, list_len: usize, block: *mut u32, block_len: usize) -> u32;
     fn light_build(
         lights: usize,
@@ -169,6 +170,12 @@ pub(crate) fn alias_table(weights: &[f32], bins: &mut [PowerAliasBin], work: &mu
     let (work, work_len) = (work.as_mut_ptr().cast(), 3 * work.len());
     // SAFETY: as said above; `PowerAliasBin` is `repr(C)`, two floats and a word.
     done(unsafe { light_alias_table(weights.as_ptr().cast(), weights.len(), bins, bins_len, work, work_len) })
+}
+
+/// The library's version.
+pub(crate) fn version() -> u32 {
+    // SAFETY: as said above.
+    unsafe { light_version() }
 }
 
 #[cfg(test)]

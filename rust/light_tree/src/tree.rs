@@ -1,9 +1,11 @@
 use crate::bounds::{Bounds3, LightBounds, block_words, index, write_block};
 use crate::lamp::{Lamp, bounds_block};
 use crate::{MAX_LAMPS, Refusal, sys};
+use std::panic::resume_unwind;
+use std::thread;
 
 /// The words of a node: head, right child, parent, record.
-const NODE_WORDS: usize = 16;
+pub(crate) const NODE_WORDS: usize = 16;
 /// The words of a packed node.
 ///
 /// ```
@@ -22,14 +24,7 @@ pub const LIGHT_BVH_HEADER_WORDS: usize = 8;
 /// ```
 /// use light_tree::{Bounds3, LightBounds, LightTree};
 ///
-/// let bulb = |x: f32| LightBounds {
-///     bounds: Bounds3 { min: [x, 0.0, 0.0], max: [x, 0.0, 0.0] },
-///     direction: [0.0, 0.0, 1.0],
-///     phi: 1.0,
-///     cos_theta_o: -1.0,
-///     cos_theta_e: 0.0,
-///     two_sided: false,
-/// };
+/// let bulb = |x| LightBounds::new(Bounds3 { min: [x, 0.0, 0.0], max: [x, 0.0, 0.0] }, 1.0);
 /// let tree = LightTree::build(&[bulb(0.0), bulb(2.0)])?;
 /// let (p, n) = ([1.0, 0.0, 1.0], [0.0; 3]);
 /// assert_eq!(tree.sample(p, n, 0.75)?, Some((1, 0.5)));
@@ -191,14 +186,64 @@ fn node_count(lamps: usize) -> usize {
     (2 * lamps).saturating_sub(1)
 }
 
+/// Of so many lamps the deepest tree is built in 57 kB of stack: 400 bytes a fork, and 5 kB besides.
+const LAMPS_IN_PLACE: usize = 128;
+/// More than twice what the deepest tree of 4,096 lamps takes.
+const BUILD_STACK: usize = 4 << 20;
+
+/// Builds a block's tree, k and the box. How much stack the caller has left cannot be known, so more than a few lamps
+/// are built on a thread of their own.
+fn built(
+    lights: usize,
+    block: &[u32],
+    nodes: &mut [u32],
+    table: &mut [u32],
+    work: &mut [u32],
+) -> Result<(usize, [u32; 6]), Refusal> {
+    if table.len() <= LAMPS_IN_PLACE {
+        return sys::build(lights, block, nodes, table, work);
+    }
+    thread::scope(|scope| {
+        let build = || sys::build(lights, block, nodes, table, work);
+        let on_its_own = thread::Builder::new().stack_size(BUILD_STACK).spawn_scoped(scope, build);
+        on_its_own.map_err(|_| Refusal::NoThread)?.join().unwrap_or_else(|panic| resume_unwind(panic))
+    })
+}
+
+/// The words of the floats from 0 to 1: they are in the floats' order.
+const WORD_OF_ONE: u32 = 0x3f80_0000;
+
+/// The outermost of the words from one that holds to an end, if all that hold follow each other: by halves.
+fn last_that_holds(mut holds: u32, end: u32, is_so: impl Fn(u32) -> bool) -> u32 {
+    if is_so(end) {
+        return end;
+    }
+    let mut fails = end;
+    while holds.abs_diff(fails) > 1 {
+        let middle = holds.midpoint(fails);
+        if is_so(middle) {
+            holds = middle;
+        } else {
+            fails = middle;
+        }
+    }
+    holds
+}
+
 impl LightTree {
     /// The tree of lamps' bounds. A lamp's handle is its place; one whose phi is 0 is not in the tree.
     ///
-    /// Two allocations, both returned: nodes and table. The block and build's work stand behind the nodes, and their room is given
-    /// back. Build calls itself, 400 bytes of stack for each fork on the way down: under 1.7 MB for the deepest tree of 4,096 lamps.
+    /// Two allocations, both returned: nodes and table. The block and build's work stand behind the nodes, and their
+    /// room is given back. Build calls itself, 400 bytes of stack for each fork on the way down, 1.7 MB for the
+    /// deepest tree. So more than 128 lamps are built on a thread of their own with 4 MiB, and a caller needs no more
+    /// than 64 KiB; what the thread allocates is freed with it.
     ///
-    /// Bounds that fail their check are refused with 5 to 8, in the lamps' order; [`LostUnion`](Refusal::LostUnion) says that bounds
-    /// could not be joined, as where powers add up to infinity.
+    /// # Errors
+    ///
+    /// [`Crowded`](Refusal::Crowded) for more than 4,096 lamps. By the first lamp whose bounds fail their check
+    /// [`NotFinite`](Refusal::NotFinite), [`Inverted`](Refusal::Inverted), [`NoDirection`](Refusal::NoDirection) or
+    /// [`OutOfRange`](Refusal::OutOfRange). [`LostUnion`](Refusal::LostUnion) where bounds cannot be joined, as where
+    /// powers add up to infinity. [`NoThread`](Refusal::NoThread) where the system has no thread to build on.
     ///
     /// ```
     /// use light_tree::{LightTree, Refusal};
@@ -216,11 +261,17 @@ impl LightTree {
         let (nodes, rest) = words.split_at_mut(reserve);
         let (work, block) = rest.split_at_mut(2 * lamps);
         write_block(bounds, block);
-        let answer = sys::build(lamps, block, nodes, &mut table, work)?;
+        let answer = built(lamps, block, nodes, &mut table, work)?;
         Ok(LightTree::of(words, table, answer))
     }
 
     /// The tree of a block's words, which [`Block::words`](crate::Block::words) gives, or a file.
+    ///
+    /// # Errors
+    ///
+    /// Those of [`LightTree::build`], and before all but [`Crowded`](Refusal::Crowded) [`Ragged`](Refusal::Ragged)
+    /// for a block that is cut, too long or has an unknown side, [`Misplaced`](Refusal::Misplaced) for a handle that
+    /// is not its lamp's place.
     ///
     /// ```
     /// use light_tree::{LightTree, Refusal};
@@ -237,7 +288,7 @@ impl LightTree {
         let reserve = NODE_WORDS * node_count(lamps);
         let (mut words, mut table) = (vec![0; reserve + 2 * lamps], vec![0; lamps]);
         let (nodes, work) = words.split_at_mut(reserve);
-        let answer = sys::build(count, block, nodes, &mut table, work)?;
+        let answer = built(count, block, nodes, &mut table, work)?;
         Ok(LightTree::of(words, table, answer))
     }
 
@@ -250,6 +301,10 @@ impl LightTree {
 
     /// The tree of lamps: that of their [`bounds_block`].
     ///
+    /// # Errors
+    ///
+    /// Those of [`bounds_block`], then those of [`LightTree::build`].
+    ///
     /// ```
     /// use light_tree::{Lamp, LightTree};
     ///
@@ -261,13 +316,20 @@ impl LightTree {
         LightTree::from_block(bounds_block(lamps)?.words())
     }
 
-    /// Draws a lamp for a point p and a normal n there, (0, 0, 0) for none, by a number u from 0 to 1: its handle and the chance with
-    /// which it is drawn. None where there is no lamp with power, or where the draw comes to a fork neither side of which shines
-    /// there. Nothing is allocated.
+    /// Draws a lamp for a point p and a normal n there, (0, 0, 0) for none, by a number u from 0 to 1: its handle and
+    /// the chance with which it is drawn. None where there is no lamp with power, or where the draw comes to a fork
+    /// neither side of which shines there. Nothing is allocated.
     ///
-    /// A lone lamp is drawn with chance 1, whatever the point. Else the chance is the product of the shares taken at the forks, rounded:
-    /// x / (x + y) at the left of weights x and y, 1 less that at the right. Where x + y overflows the right is taken, with share 1, or
-    /// with NaN where x itself is infinite.
+    /// A lone lamp is drawn with chance 1, whatever the point. Else the chance is the product of the shares taken at
+    /// the forks, rounded: x / (x + y) at the left of weights x and y, 1 less that at the right. Where x + y
+    /// overflows the right is taken, with share 1, or with NaN where x itself is infinite.
+    ///
+    /// # Errors
+    ///
+    /// [`BadU`](Refusal::BadU) where u is not a number from 0 to 1. At each fork on the way, what the check of a
+    /// child's bounds refuses ([`LightBounds::validate`]), as where powers add up to infinity;
+    /// [`NotFinite`](Refusal::NotFinite) where p or n is not finite; [`NoDirection`](Refusal::NoDirection) where n is
+    /// too short to divide by, or p lies at the centre of a child's box.
     ///
     /// ```
     /// # use light_tree::{Lamp, LightTree, Refusal};
@@ -281,12 +343,49 @@ impl LightTree {
         sys::sample(&self.nodes, p, n, u)
     }
 
-    /// The chance with which [`sample`](LightTree::sample) draws a lamp, from its leaf up to the root. It is 0 for a lamp without power,
-    /// for a handle past the last, and where at a fork on the way neither side shines there. Nothing is allocated.
+    /// The first and the last u that draw the lamp which u draws for a point p and a normal n there; none where u draws
+    /// none. Every float from the first to the last draws that lamp, and no other float does. Nothing is allocated.
     ///
-    /// Both chances multiply rounded shares, in opposite order, and by name the right one's is y / (x + y). So they part: most in their
-    /// last digits, by more where a right share is tiny. Where x + y overflows the share by name is 0, or NaN for a side whose own weight
-    /// is infinite.
+    /// Both ends are found by halves over the words of the floats from 0 to 1, some sixty draws, and are exact: it is
+    /// proved that between two u which draw a lamp every u draws it (`unbroken` and `u-from-to` of
+    /// `crates/light_runs/specs/Demand3.antt`, for every tree that build accepts, every point and normal).
+    ///
+    /// # Errors
+    ///
+    /// Those of the draw by u itself: see [`LightTree::sample`].
+    ///
+    /// ```
+    /// # use light_tree::{Lamp, LightTree};
+    /// # let bulb = |x| Lamp::Point { world_position: [x, 0.0, 0.0], intensity_max: 1.0, scale: 1.0 };
+    /// let tree = LightTree::of_lamps(&[bulb(0.0), bulb(2.0)])?;
+    /// let (p, n) = ([1.0, 0.0, 1.0], [0.0; 3]);
+    /// assert_eq!(tree.run_of(0.25, p, n)?, Some((0.0, 0.5f32.next_down())));
+    /// assert_eq!(tree.run_of(0.75, p, n)?, Some((0.5, 1.0)));
+    /// # Ok::<(), light_tree::Refusal>(())
+    /// ```
+    pub fn run_of(&self, u: f32, p: [f32; 3], n: [f32; 3]) -> Result<Option<(f32, f32)>, Refusal> {
+        let Some((lamp, _)) = self.sample(p, n, u)? else { return Ok(None) };
+        let draws_it = |word| {
+            let drawn = self.sample(p, n, f32::from_bits(word));
+            drawn.is_ok_and(|drawn| drawn.is_some_and(|(handle, _)| handle == lamp))
+        };
+        // -0 draws as 0 does
+        let word = u.abs().to_bits();
+        let end = |end| f32::from_bits(last_that_holds(word, end, draws_it));
+        Ok(Some((end(0), end(WORD_OF_ONE))))
+    }
+
+    /// The chance with which [`sample`](LightTree::sample) draws a lamp, from its leaf up to the root. It is 0 for a
+    /// lamp without power, for a handle past the last, and where at a fork on the way neither side shines there.
+    /// Nothing is allocated.
+    ///
+    /// Both chances multiply rounded shares, in opposite order, and by name the right one's is y / (x + y). So they
+    /// part: most in their last digits, by more where a right share is tiny. Where x + y overflows the share by name
+    /// is 0, or NaN for a side whose own weight is infinite.
+    ///
+    /// # Errors
+    ///
+    /// Those of the forks on the way, as in [`LightTree::sample`].
     ///
     /// ```
     /// # use light_tree::{Lamp, LightTree};
@@ -300,9 +399,13 @@ impl LightTree {
         sys::pmf(&self.nodes, &self.table, p, n, handle)
     }
 
-    /// The tree packed for a graphics card, none where it has no lamp with power. What is returned is all that is allocated.
+    /// The tree packed for a graphics card, none where it has no lamp with power. What is returned is all that is
+    /// allocated.
     ///
-    /// A tree whose bounds are not finite, as where powers add up to infinity, is refused.
+    /// # Errors
+    ///
+    /// What the check of the first node's bounds refuses that fail it ([`LightBounds::validate`]), as where powers
+    /// add up to infinity.
     ///
     /// ```
     /// # use light_tree::{Lamp, LightTree};

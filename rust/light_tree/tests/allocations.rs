@@ -1,4 +1,5 @@
-//! Only what is returned is allocated: draws, chances and checks allocate nothing, the others what they return, once a `Vec`.
+//! Only what is returned is allocated: draws, chances and checks allocate nothing, the others what they return, once
+//! a `Vec`.
 
 use light_tree::*;
 use std::alloc::{GlobalAlloc, Layout, System};
@@ -66,14 +67,16 @@ fn only_what_is_returned() {
     assert_eq!((calls, bytes), (0, 0));
     assert_eq!(counted(|| tree.pmf(p, n, lamp).unwrap() > 0.0), (true, 0, 0));
     assert_eq!(counted(|| tree.sample(p, n, 2.0)), (Err(Refusal::BadU), 0, 0));
+    assert_eq!(counted(|| tree.run_of(0.5, p, n).unwrap().is_some()), (true, 0, 0));
     assert_eq!(counted(|| bounds[0].validate().is_ok()), (true, 0, 0));
     assert_eq!(counted(|| tree.nodes().filter(LightBVHNode::is_leaf).count()), (k as usize, 0, 0));
 
     let (_packed, calls, bytes) = counted(|| tree.pack().unwrap().unwrap());
     // the header's row is left as room behind the nodes
     assert_eq!((calls, bytes), (2, 32 * 2 * k + 4 * m));
-    let (_table, calls, bytes) = counted(|| AliasTable::build(&[1.0; 100]).unwrap());
+    let (table, calls, bytes) = counted(|| AliasTable::build(&[1.0; 100]).unwrap());
     assert_eq!((calls, bytes), (1, 12 * m));
+    assert_eq!(counted(|| table.sample(0.5).unwrap().unwrap().0), (50, 0, 0));
 
     // a refusal leaves nothing, and too many lamps are refused before anything is allocated
     let (refused, _, bytes) = counted(|| AliasTable::build(&[1.0, -1.0]));

@@ -4,14 +4,7 @@ use light_tree::*;
 use std::error::Error;
 
 fn bulb(position: [f32; 3], phi: f32) -> LightBounds {
-    LightBounds {
-        bounds: Bounds3 { min: position, max: position },
-        direction: [0.0, 0.0, 1.0],
-        phi,
-        cos_theta_o: -1.0,
-        cos_theta_e: 0.0,
-        two_sided: false,
-    }
+    LightBounds::new(Bounds3 { min: position, max: position }, phi)
 }
 
 /// Two bulbs of power 1 at (0, 0, 0) and (2, 0, 0).
@@ -169,16 +162,19 @@ fn blocks() {
 fn checks() {
     let good = bulb([0.0; 3], 1.0);
     assert_eq!(good.validate(), Ok(good));
-    let bounds = |min, max| Bounds3 { min, max };
-    let (nan, inverted) = (bounds([f32::NAN; 3], [0.0; 3]), bounds([1.0; 3], [0.0; 3]));
+    let with = |spoil: fn(&mut LightBounds)| {
+        let mut lamp = good;
+        spoil(&mut lamp);
+        lamp
+    };
     for (wrong, refusal) in [
-        (LightBounds { bounds: nan, ..good }, Refusal::NotFinite),
-        (LightBounds { bounds: inverted, direction: [0.0; 3], ..good }, Refusal::Inverted),
-        (LightBounds { direction: [f32::INFINITY, 0.0, 0.0], phi: -1.0, ..good }, Refusal::NotFinite),
-        (LightBounds { direction: [1e-30, 0.0, 0.0], phi: -1.0, ..good }, Refusal::NoDirection),
-        (LightBounds { phi: -1.0, ..good }, Refusal::OutOfRange),
-        (LightBounds { cos_theta_o: 1.5, ..good }, Refusal::OutOfRange),
-        (LightBounds { cos_theta_e: -1.5, ..good }, Refusal::OutOfRange),
+        (with(|lamp| lamp.bounds.min = [f32::NAN; 3]), Refusal::NotFinite),
+        (with(|lamp| (lamp.bounds.min, lamp.direction) = ([1.0; 3], [0.0; 3])), Refusal::Inverted),
+        (with(|lamp| (lamp.direction, lamp.phi) = ([f32::INFINITY, 0.0, 0.0], -1.0)), Refusal::NotFinite),
+        (with(|lamp| (lamp.direction, lamp.phi) = ([1e-30, 0.0, 0.0], -1.0)), Refusal::NoDirection),
+        (with(|lamp| lamp.phi = -1.0), Refusal::OutOfRange),
+        (with(|lamp| lamp.cos_theta_o = 1.5), Refusal::OutOfRange),
+        (with(|lamp| lamp.cos_theta_e = -1.5), Refusal::OutOfRange),
     ] {
         assert_eq!(wrong.validate(), Err(refusal));
         assert_eq!(LightTree::build(&[good, wrong]), Err(refusal));
@@ -187,8 +183,8 @@ fn checks() {
     assert_eq!(LightTree::build(&[bulb([0.0; 3], HUGE), bulb([1.0; 3], HUGE), bulb([2.0; 3], HUGE)]), Err(Refusal::LostUnion));
 }
 
-/// A group's triangles are joined one by one: two whose powers add up to infinity pass, and build refuses their bounds; a third cannot
-/// be joined to these.
+/// A group's triangles are joined one by one: two whose powers add up to infinity pass, and build refuses their
+/// bounds; a third cannot be joined to these.
 #[test]
 fn triangles() {
     let half =

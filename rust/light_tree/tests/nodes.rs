@@ -1,35 +1,19 @@
 //! Nodes by themselves: what one fork weighs makes up the chances by name, and words draw as the tree does.
 
+mod random;
+
 use light_tree::*;
-
-/// Numbers from 0 to 1, of a fixed seed.
-struct Numbers(u64);
-
-impl Numbers {
-    fn next(&mut self) -> f32 {
-        self.0 = self.0.wrapping_mul(6364136223846793005).wrapping_add(1442695040888963407);
-        (self.0 >> 40) as f32 / (1 << 24) as f32
-    }
-
-    /// A point in a box of 8 by 8 by 8.
-    fn point(&mut self) -> [f32; 3] {
-        [(); 3].map(|()| 8.0 * self.next())
-    }
-
-    fn direction(&mut self) -> [f32; 3] {
-        self.point().map(|x| x - 4.0)
-    }
-}
+use random::Random;
 
 /// A room of points and of narrow spots, some of which turn away from a bench.
-fn room(numbers: &mut Numbers, lamps: usize) -> LightTree {
+fn room(random: &mut Random, lamps: usize) -> LightTree {
     let lamp = |at| match at % 3 {
-        0 => Lamp::Point { world_position: numbers.point(), intensity_max: numbers.next(), scale: 1.0 },
+        0 => Lamp::Point { world_position: random.vector(8.0), intensity_max: random.share(), scale: 1.0 },
         _ => Lamp::Spot {
-            world_position: numbers.point(),
-            direction: numbers.direction(),
+            world_position: random.vector(8.0),
+            direction: random.vector(4.0),
             intensity_max: 1.0,
-            scale: numbers.next(),
+            scale: random.share(),
             cos_theta_o: 0.95,
             cos_falloff_end: 0.9,
         },
@@ -58,11 +42,11 @@ fn product(tree: &LightTree, p: [f32; 3], n: [f32; 3], handle: u32) -> f32 {
 
 #[test]
 fn chances_are_products_of_shares() {
-    let mut numbers = Numbers(22);
+    let mut random = Random(22);
     let (mut some, mut none) = (0, 0);
     for lamps in 2..40 {
-        let tree = room(&mut numbers, lamps);
-        let (p, n) = (numbers.point(), if lamps % 2 == 0 { [0.0; 3] } else { numbers.direction() });
+        let tree = room(&mut random, lamps);
+        let (p, n) = (random.vector(8.0), if lamps % 2 == 0 { [0.0; 3] } else { random.vector(4.0) });
         for handle in tree.bounded_handles() {
             let chance = tree.pmf(p, n, handle).unwrap();
             assert_eq!(product(&tree, p, n, handle).to_bits(), chance.to_bits(), "{lamps} lamps, lamp {handle}");
@@ -74,11 +58,11 @@ fn chances_are_products_of_shares() {
 
 #[test]
 fn words_draw_as_the_tree() {
-    let mut numbers = Numbers(23);
-    let tree = room(&mut numbers, 30);
+    let mut random = Random(23);
+    let tree = room(&mut random, 30);
     let words = words(&tree);
     for _ in 0..1000 {
-        let (p, u) = (numbers.point(), numbers.next());
+        let (p, u) = (random.vector(8.0), random.share());
         assert_eq!(sample_nodes(&words, p, [0.0; 3], u), tree.sample(p, [0.0; 3], u));
     }
     assert_eq!(sample_nodes(&words[1..], [0.0; 3], [0.0; 3], 0.5), Err(Refusal::Ragged));
@@ -88,14 +72,7 @@ fn words_draw_as_the_tree() {
 /// Where the weights together are infinite both shares by name are 0, and a draw goes on all the same.
 #[test]
 fn infinite_weights_are_no_none() {
-    let bulb = |x| LightBounds {
-        bounds: Bounds3 { min: [x, 0.0, 0.0], max: [x, 0.0, 0.0] },
-        direction: [0.0, 0.0, 1.0],
-        phi: 1e38,
-        cos_theta_o: -1.0,
-        cos_theta_e: 0.0,
-        two_sided: false,
-    };
+    let bulb = |x| LightBounds::new(Bounds3 { min: [x, 0.0, 0.0], max: [x, 0.0, 0.0] }, 1e38);
     let tree = LightTree::build(&[bulb(0.0), bulb(0.5)]).unwrap();
     let (p, n) = ([0.25, 0.0, 0.6], [0.0; 3]);
     assert_eq!(tree.sample(p, n, 0.25).unwrap(), Some((1, 1.0)));

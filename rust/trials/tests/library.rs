@@ -77,6 +77,7 @@ fn list_of(lamps: &[Lamp]) -> Vec<u32> {
                     list.extend(words(&[a, b, c, &[*area], geometric_normal]));
                 }
             }
+            other => panic!("no words for {other:?}"),
         }
     }
     list
@@ -93,6 +94,7 @@ fn input_of((handle, lamp): (u32, &Lamp)) -> LightBoundInput {
         Lamp::Group { triangles, emission_max, scale, two_sided } => {
             LightBoundInput::AreaGroup { handle, triangles, emission_max, scale, two_sided }
         }
+        other => panic!("pbrt-r4 has no {other:?}"),
     }
 }
 

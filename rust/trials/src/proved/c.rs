@@ -7,6 +7,7 @@
 // proved for every input, so those on plain numbers are safe to call; those on slices take each as a pointer
 // and a length, and are wrapped in `proved`.
 unsafe extern "C" {
+    pub safe fn light_version() -> u32;
     pub fn light_bounds_block(list: *const u32, list_len: usize, block: *mut u32, block_len: usize) -> u32;
     pub fn light_build(
         lights: usize,
