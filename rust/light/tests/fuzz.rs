@@ -149,7 +149,7 @@ fn tried(room: &Path, benches: &Path) -> Result<bool, String> {
     if ends_well(&["report", "--strict", "--json", room, benches])? != good {
         return Err(format!("check finds {} fault, and the report does not agree", if good { "no" } else { "a" }));
     }
-    // PLAN ends_well(&["plan", room, benches])?;
+    ends_well(&["plan", room, benches])?;
     Ok(good)
 }
 
