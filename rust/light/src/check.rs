@@ -110,7 +110,6 @@ fn place_of(lamp: &Lamp) -> Vec<u32> {
     let figures = match lamp {
         Lamp::Point { world_position, .. } | Lamp::Spot { world_position, .. } => world_position.to_vec(),
         Lamp::Group { triangles, .. } => triangles.iter().flat_map(|triangle| triangle.world_positions).flatten().collect(),
-        #[allow(unreachable_patterns)] // kinds of lamps may come
         _ => Vec::new(),
     };
     figures.into_iter().map(|figure| (figure + 0.0).to_bits()).collect()

@@ -95,7 +95,8 @@ _light() {{
     case $command in
 {cases}    esac
 }}
-compdef _light light
+# run from a folder of $fpath it is the function itself, sourced it is told of
+if [ \"$funcstack[1]\" = _light ]; then _light \"$@\"; else compdef _light light; fi
 ",
         HELP.text, VERSION.text
     )

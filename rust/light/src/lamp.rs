@@ -93,7 +93,6 @@ impl Entry<'_> {
 
     /// The word at fault and what to say of it, where that can be told.
     fn fault(&self, refusal: Refusal, triangle: Option<usize>) -> Option<Wrong> {
-        #[allow(unreachable_patterns)] // kinds of lamps may come
         let (part, names, figures) = match (self.lamp, triangle) {
             (Lamp::Point { world_position: [x, y, z], intensity_max, scale }, _) => {
                 (0, POINT, vec![*x, *y, *z, *intensity_max, *scale])

@@ -3,40 +3,81 @@
 mod common;
 
 use common::{bad, good, light, temporary, text};
-use std::io::Write;
-use std::process::{Command, Stdio};
+use std::io::{BufRead, BufReader, Read, Write};
+use std::process::{ChildStdin, ChildStdout, Command, Stdio};
+use std::sync::{LazyLock, Mutex};
 
-/// Reads a table from standard input, strictly, and prints its rows, each field's name and text in its own line. A JSON number is
-/// printed as the text that it is.
+/// Reads tables from standard input, each behind a line with its form and its length, strictly. Of each it prints the rows, the
+/// fields between tabulators and a JSON number as the text that it is, behind a line with their length.
 const READER: &str = r#"
 import csv, io, json, sys
-text = sys.stdin.buffer.read().decode('utf-8')
-if sys.argv[1] == 'csv':
+
+def comma_separated(text):
     assert text.endswith('\r\n') and text.count('\r') == text.count('\n') == text.count('\r\n'), 'line ends'
     rows = list(csv.reader(io.StringIO(text, newline=''), strict=True))
-    fields, rows = rows[0], rows[1:]
-    assert all(len(row) == len(fields) for row in rows), 'fields'
-else:
-    def unknown(word):
-        raise ValueError(word)
-    rows = json.loads(text, parse_float=str, parse_int=str, parse_constant=unknown)
+    assert all(len(row) == len(rows[0]) for row in rows), 'fields'
+    return rows
+
+def refuse(word):
+    raise ValueError(word)
+
+def array(text):
+    rows = json.loads(text, parse_float=str, parse_int=str, parse_constant=refuse)
     assert type(rows) is list
     fields = list(rows[0]) if rows else []
     assert all(list(row) == fields for row in rows), 'fields'
     plain = lambda value: '' if value is None else str(value).lower() if type(value) is bool else value
-    rows = [[plain(value) for value in row.values()] for row in rows]
-print('\n'.join('\t'.join(row) for row in [fields] + rows))
+    return [fields] + [[plain(value) for value in row.values()] for row in rows]
+
+while head := sys.stdin.buffer.readline().split():
+    text = sys.stdin.buffer.read(int(head[1])).decode('utf-8')
+    try:
+        rows = (comma_separated if head[0] == b'csv' else array)(text)
+    except Exception as error:
+        rows = [['wrong', repr(error)]]
+    answer = '\n'.join('\t'.join(row) for row in rows).encode()
+    sys.stdout.buffer.write(b'%d\n' % len(answer) + answer)
+    sys.stdout.buffer.flush()
 "#;
 
-/// The fields' names and the rows of a table.
+/// One Python for all tests, which takes long to start.
+static PYTHON: LazyLock<Mutex<(ChildStdin, BufReader<ChildStdout>)>> = LazyLock::new(|| {
+    let python = Command::new("python3").args(["-c", READER]).stdin(Stdio::piped()).stdout(Stdio::piped()).spawn();
+    let mut python = python.expect("python3 is needed to read the tables");
+    Mutex::new((python.stdin.take().unwrap(), BufReader::new(python.stdout.take().unwrap())))
+});
+
+/// What Python reads of a table: the fields' names and the rows, or `wrong` and why.
+fn answered(form: &str, table: &[u8]) -> Vec<Vec<String>> {
+    let (input, output) = &mut *PYTHON.lock().unwrap();
+    input.write_all(&[format!("{form} {}\n", table.len()).as_bytes(), table].concat()).unwrap();
+    let mut length = String::new();
+    output.read_line(&mut length).unwrap();
+    let mut rows = vec![0; length.trim_end().parse().unwrap()];
+    output.read_exact(&mut rows).unwrap();
+    text(&rows).split('\n').map(|line| line.split('\t').map(String::from).collect()).collect()
+}
+
 #[track_caller]
 fn read(form: &str, table: &[u8]) -> Vec<Vec<String>> {
-    let python = Command::new("python3").args(["-c", READER, form]).stdin(Stdio::piped()).stdout(Stdio::piped()).spawn();
-    let mut python = python.expect("python3 is needed to read the tables");
-    python.stdin.take().unwrap().write_all(table).unwrap();
-    let output = python.wait_with_output().unwrap();
-    assert!(output.status.success(), "{}", text(table));
-    text(&output.stdout).lines().map(|line| line.split('\t').map(String::from).collect()).collect()
+    let rows = answered(form, table);
+    assert_ne!(rows[0][0], "wrong", "{rows:?}: {}", text(table));
+    rows
+}
+
+/// Python takes no table that is not whole or not strict.
+#[test]
+fn the_reader_is_strict() {
+    for (form, table) in [
+        ("csv", "a,b\r\n1\r\n"),
+        ("csv", "a\n1\n"),
+        ("csv", "a\r\n\"1\r\n"),
+        ("json", "[{\"a\": NaN}]"),
+        ("json", "[{\"a\": 1},]"),
+        ("json", "[{\"a\": 1}"),
+    ] {
+        assert_eq!(answered(form, table.as_bytes())[0][0], "wrong", "{table}");
+    }
 }
 
 /// The same rows in both forms.
