@@ -3,7 +3,7 @@
 use crate::text::{Line, Word, Wrong, number, numbers};
 
 /// A point and a normal there, zeros for none.
-#[derive(Clone, Copy)]
+#[derive(Clone, Copy, Debug)]
 pub struct Place {
     pub p: [f32; 3],
     pub n: [f32; 3],

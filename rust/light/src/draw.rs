@@ -1,9 +1,10 @@
 //! `light draw`: draws for one bench.
 
 use crate::bench::{self, Place};
+use crate::chances::Chances;
 use crate::options::Options;
 use crate::output::Output;
-use crate::rows::{Outcome, head, sum, sum_text};
+use crate::rows::{Outcome, head, sum_text};
 use crate::sheet::{Row, Sheet, sums};
 use crate::source::{Lines, room};
 use crate::text::{Stop, Wrong, quoted};
@@ -24,7 +25,7 @@ pub fn draw(options: &Options, output: &mut Output) -> Result<(), Stop> {
     let tree = room.tree()?;
     let bench = name.as_deref().map_or(String::new(), |name| format!("# bench {}\n", quoted(name)));
     let mut sheet = Sheet::begin(options, &room, &format!("{bench}{}", head("u")), ["draw", "draws"], output)?;
-    let sum = sums(options).then(|| sum(&tree, place));
+    let sum = sums(options).then(|| Chances::of(&tree).sum(place));
     let mut ended = Ok(());
     for (text, u) in numbers {
         let outcome = Outcome::of(&tree, place, u);

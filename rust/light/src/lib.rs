@@ -2,6 +2,7 @@
 
 pub mod bench;
 pub mod block;
+pub mod chances;
 pub mod check;
 pub mod commands;
 pub mod completions;

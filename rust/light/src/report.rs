@@ -1,58 +1,62 @@
 //! `light report`: a lamp drawn for each bench.
 
 use crate::bench::Bench;
+use crate::chances::Chances;
 use crate::options::Options;
 use crate::output::Output;
 use crate::room::Room;
-use crate::rows::{Outcome, head, sum};
+use crate::rows::{Outcome, head};
 use crate::sheet::{Row, Sheet, sum_column, sums};
-use crate::source::{Lines, room};
+use crate::source::{Lines, once, room};
 use crate::text::{Stop, called, counted};
 use light_tree::LightTree;
 
 /// `light report ROOM BENCHES`.
 pub fn report(options: &Options, output: &mut Output) -> Result<(), Stop> {
     let [path, benches] = options.arguments();
-    crate::source::once(path, benches)?;
+    once(path, benches)?;
     let room = room(path)?;
     let tree = room.tree()?;
     let mut lines = Lines::open(benches)?;
-    let mut sheet = Sheet::begin(options, &room, &heading(options, &room, &tree), ["bench", "benches"], output)?;
-    let ended = rows(options, &room, &tree, &mut lines, &mut sheet, output);
+    let report = Report { room: &room, tree: &tree, chances: sums(options).then(|| Chances::of(&tree)) };
+    let mut sheet = Sheet::begin(options, &room, &report.heading(), ["bench", "benches"], output)?;
+    let ended = report.rows(&mut lines, &mut sheet, output);
     sheet.end(ended, "", output)
 }
 
-fn heading(options: &Options, room: &Room, tree: &LightTree) -> String {
-    let lamps = counted(room.lamps().len(), "lamp", "lamps");
-    let sum = if sums(options) { "  sum of named" } else { "" };
-    format!("# {}: {lamps}, {} of them with power\n{}{sum}", room.name, tree.powered(), head("bench"))
+/// What rows are made of.
+struct Report<'a> {
+    room: &'a Room,
+    tree: &'a LightTree,
+    /// For the sums, where they are asked for.
+    chances: Option<Chances<'a>>,
 }
 
-fn rows(
-    options: &Options,
-    room: &Room,
-    tree: &LightTree,
-    lines: &mut Lines,
-    sheet: &mut Sheet,
-    output: &mut Output,
-) -> Result<(), Stop> {
-    while lines.advance()? {
-        if let Some(bench) = lines.bench()? {
-            row(options, room, tree, &bench, sheet, output);
-        }
-        if lines.waits() {
-            output.flush()?;
-        }
-        output.pause(|| lines.far(sheet.tally.rows()))?;
+impl Report<'_> {
+    fn heading(&self) -> String {
+        let lamps = counted(self.room.lamps().len(), "lamp", "lamps");
+        let sum = if self.chances.is_some() { "  sum of named" } else { "" };
+        format!("# {}: {lamps}, {} of them with power\n{}{sum}", self.room.name, self.tree.powered(), head("bench"))
     }
-    Ok(())
-}
 
-fn row(options: &Options, room: &Room, tree: &LightTree, bench: &Bench, sheet: &mut Sheet, output: &mut Output) {
-    let Bench { line, name, place, u, .. } = bench;
-    let (line, name, outcome) = (*line, name.as_deref(), Outcome::of(tree, *place, *u));
-    let summed = sums(options) && !outcome.is_refused();
-    let row = Row { line: Some(line), name, u: *u, outcome, sum: summed.then(|| sum(tree, *place)) };
-    let text = || format!("{line:>7} {}{}{}", outcome.columns(room), sum_column(room, row.sum), row.names(room));
-    sheet.row(&called(&format!("bench {line}"), name), &row, text, output);
+    fn rows(&self, lines: &mut Lines, sheet: &mut Sheet, output: &mut Output) -> Result<(), Stop> {
+        while lines.advance()? {
+            if let Some(bench) = lines.bench()? {
+                self.row(&bench, sheet, output);
+            }
+            if lines.waits() {
+                output.flush()?;
+            }
+            output.pause(|| lines.far(sheet.tally.rows()))?;
+        }
+        Ok(())
+    }
+
+    fn row(&self, bench: &Bench, sheet: &mut Sheet, output: &mut Output) {
+        let (line, name, outcome) = (bench.line, bench.name.as_deref(), Outcome::of(self.tree, bench.place, bench.u));
+        let sum = self.chances.as_ref().filter(|_| !outcome.is_refused()).map(|chances| chances.sum(bench.place));
+        let row = Row { line: Some(line), name, u: bench.u, outcome, sum };
+        let text = || format!("{line:>7} {}{}{}", outcome.columns(self.room), sum_column(self.room, sum), row.names(self.room));
+        sheet.row(&called(&format!("bench {line}"), name), &row, text, output);
+    }
 }

@@ -1,6 +1,7 @@
 //! What a draw comes to: a lamp, with which chance it is drawn and by name, and how far these part.
 
 use crate::bench::Place;
+use crate::chances::Sum;
 use crate::room::{Room, refused};
 use crate::text::{counted, decimal, rounded};
 use light_tree::{LightTree, Refusal};
@@ -77,18 +78,7 @@ pub fn apart(a: f32, b: f32) -> Option<(u32, f64)> {
     Some((a.to_bits().abs_diff(b.to_bits()), (x - y).abs() / x.max(y)))
 }
 
-/// The sum of all lamps' chances by name, or the first lamp that has none.
-pub type Sum = Result<f64, (u32, Refusal)>;
-
-pub fn sum(tree: &LightTree, place: Place) -> Sum {
-    let mut sum = 0.0;
-    for handle in tree.bounded_handles() {
-        sum += f64::from(tree.pmf(place.p, place.n, handle).map_err(|refusal| (handle, refusal))?);
-    }
-    Ok(sum)
-}
-
-/// The same, for the last column.
+/// A sum of chances, for the last column.
 pub fn sum_text(room: &Room, sum: Sum) -> String {
     match sum {
         Ok(sum) => format!("{sum:.7}"),

@@ -1,10 +1,11 @@
 //! The rows of `light report` and `light draw`: a text for people, or a table for programs.
 
+use crate::chances::Sum;
 use crate::commands::Choice;
 use crate::options::Options;
 use crate::output::Output;
 use crate::room::Room;
-use crate::rows::{Outcome, Sum, Tally, apart, sum_text};
+use crate::rows::{Outcome, Tally, apart, sum_text};
 use crate::table::{CSV, Form, JSON, Table, Value};
 use crate::text::{Stop, counted, quoted};
 
