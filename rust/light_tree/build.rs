@@ -7,7 +7,7 @@ use std::process::Command;
 
 /// Names the folder of the static library, where that is not the repository's `target/staticlib`.
 const FOLDER: &str = "COLTOCTOBER_STATICLIB";
-const REMEDY: &str = "run `rt staticlib light_c` in the repository's root";
+const REMEDY: &str = "run `rt staticlib light_c` in the root of this crate's repository";
 
 /// Prints the version of the library that it is linked with.
 const ASK: &str = r#"
@@ -66,18 +66,14 @@ fn version(archive: &Path, folder: &Path) -> Result<(), String> {
         println!("cargo::warning=the version of liblight_c.a is not asked for, since the build is for another machine");
         return Ok(());
     }
-    let part = |name: &str| set(&format!("CARGO_PKG_VERSION_{name}"));
-    let (major, minor) = (part("MAJOR"), part("MINOR"));
-    let (archive, told) = (archive.display(), version_told(folder));
-    let Some(told) = told else {
-        return Err(format!("{archive} tells no version, so it is not of light_tree {major}.{minor}: {REMEDY}"));
-    };
-    let (told_major, told_minor) = (told / 10_000, told / 100 % 100);
-    if (told_major.to_string(), told_minor.to_string()) != (major.clone(), minor.clone()) {
-        let wrong = format!("{archive} has version {told_major}.{told_minor}");
-        return Err(format!("{wrong}, and this light_tree needs {major}.{minor}: {REMEDY} of the same version"));
+    let own = format!("{}.{}", set("CARGO_PKG_VERSION_MAJOR"), set("CARGO_PKG_VERSION_MINOR"));
+    let told = version_told(folder).map(|number| format!("{}.{}", number / 10_000, number / 100 % 100));
+    let archive = archive.display();
+    match told {
+        Some(told) if told == own => Ok(()),
+        Some(told) => Err(format!("{archive} has version {told}, and this light_tree needs {own}: {REMEDY}")),
+        None => Err(format!("{archive} tells no version, so it is not of light_tree {own}: {REMEDY}")),
     }
-    Ok(())
 }
 
 fn link() -> Result<(), String> {

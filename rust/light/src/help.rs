@@ -104,7 +104,15 @@ with 0 where no fault is found, with 1 where there is one, with --strict for a w
 ";
 
 pub const PLAN: &str = "\
-Writes one page in HTML, to be looked at in any browser.
+Writes one page in HTML, to be looked at in any browser and printed, a sheet of A4 a bench. It needs
+no network. An index of the benches comes first, unless --bench names one; then of each bench:
+    the lamp that it looks at, with which chance, in both columns of the report, and how these part
+    the plan and the heights: the bench, the lamps where they hang, each shaded by its chance
+    the ten greatest chances
+    the bar of all u from 0 to 1: which u draw which lamp, and which draw none
+    the tree under it: each fork with the share of its left side, the way of the draw marked
+Above 64 lamps the tree is cut off where it gets narrow, and the way is shown by itself. The page
+says what is proved of all this, and what was looked for.
 `light --help` tells of ROOM, `light report --help` of BENCHES.
 ";
 

@@ -82,6 +82,10 @@ impl Room {
     }
 
     fn blame_all(&self, refusal: Refusal) -> Stop {
+        // not the room's fault
+        if refusal == Refusal::NoThread {
+            return Stop::Failed(format!("{}: {refusal}", self.name));
+        }
         let lamps = counted(self.lamps.len(), "lamp", "lamps");
         Stop::Refused(format!("{}: {}: this room has {lamps}", self.name, refused(refusal)))
     }

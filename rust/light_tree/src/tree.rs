@@ -191,29 +191,22 @@ const LAMPS_IN_PLACE: usize = 128;
 /// More than twice what the deepest tree of 4,096 lamps takes.
 const BUILD_STACK: usize = 4 << 20;
 
-/// Builds a block's tree, k and the box. How much stack the caller has left cannot be known, so more than a few lamps
-/// are built on a thread of their own.
-fn built(
-    lights: usize,
-    block: &[u32],
-    nodes: &mut [u32],
-    table: &mut [u32],
-    work: &mut [u32],
-) -> Result<(usize, [u32; 6]), Refusal> {
-    if table.len() <= LAMPS_IN_PLACE {
-        return sys::build(lights, block, nodes, table, work);
+/// Builds a tree of so many lamps: where the caller is, or on a thread of its own, since how much stack the caller has
+/// left cannot be known.
+fn with_stack<T: Send>(lamps: usize, build: impl FnOnce() -> Result<T, Refusal> + Send) -> Result<T, Refusal> {
+    if lamps <= LAMPS_IN_PLACE {
+        return build();
     }
     thread::scope(|scope| {
-        let build = || sys::build(lights, block, nodes, table, work);
         let on_its_own = thread::Builder::new().stack_size(BUILD_STACK).spawn_scoped(scope, build);
         on_its_own.map_err(|_| Refusal::NoThread)?.join().unwrap_or_else(|panic| resume_unwind(panic))
     })
 }
 
-/// The words of the floats from 0 to 1: they are in the floats' order.
+/// The word of 1. The words up to it are the floats from 0 to 1, in their order.
 const WORD_OF_ONE: u32 = 0x3f80_0000;
 
-/// The outermost of the words from one that holds to an end, if all that hold follow each other: by halves.
+/// The last word that holds on the way from one that does to an end, where all that hold follow each other: by halves.
 fn last_that_holds(mut holds: u32, end: u32, is_so: impl Fn(u32) -> bool) -> u32 {
     if is_so(end) {
         return end;
@@ -261,7 +254,7 @@ impl LightTree {
         let (nodes, rest) = words.split_at_mut(reserve);
         let (work, block) = rest.split_at_mut(2 * lamps);
         write_block(bounds, block);
-        let answer = built(lamps, block, nodes, &mut table, work)?;
+        let answer = with_stack(lamps, || sys::build(lamps, block, nodes, &mut table, work))?;
         Ok(LightTree::of(words, table, answer))
     }
 
@@ -288,7 +281,7 @@ impl LightTree {
         let reserve = NODE_WORDS * node_count(lamps);
         let (mut words, mut table) = (vec![0; reserve + 2 * lamps], vec![0; lamps]);
         let (nodes, work) = words.split_at_mut(reserve);
-        let answer = built(count, block, nodes, &mut table, work)?;
+        let answer = with_stack(lamps, || sys::build(count, block, nodes, &mut table, work))?;
         Ok(LightTree::of(words, table, answer))
     }
 

@@ -190,7 +190,8 @@ fn labels(svg: &mut Svg, stage: &Stage, ring: Option<Box2>, bench: Option<Box2>,
     }
     let others = stage.view.greatest().into_iter().filter(|handle| Some(*handle) != stage.drawn);
     // a chance that is not a number is labelled too
-    for handle in others.take_while(|handle| !(stage.view.chance(*handle) < FROM)) {
+    let is_labelled = |handle: &u32| Some(stage.view.chance(*handle)).is_some_and(|chance| chance >= FROM || chance.is_nan());
+    for handle in others.take_while(is_labelled) {
         handle_label(svg, stage, handle, None, taken);
     }
 }

@@ -82,7 +82,8 @@ impl Label<'_> {
     }
 }
 
-/// Where words of a row stand: centred, or on the wider side of the line at u where they would touch it; none where they do not fit.
+/// Where words of a row stand: centred, or on the wider side of the line at u where they would touch it; nowhere if they
+/// do not fit.
 pub fn clear_of(cell: Box2, wide: f64, line: Option<f64>) -> Option<f64> {
     let fits = |from: f64, to: f64| (to - from >= wide + 8.0).then_some(from.midpoint(to));
     let center = fits(cell.x, cell.right())?;
@@ -94,20 +95,11 @@ pub fn clear_of(cell: Box2, wide: f64, line: Option<f64>) -> Option<f64> {
 }
 
 /// A cell of a row, with the first of some words that fits.
-pub fn cell_words<'a>(
-    svg: &mut Svg,
-    cell: Box2,
-    line: Option<f64>,
-    class: &str,
-    ink: &str,
-    words: impl IntoIterator<Item = &'a str>,
-) {
-    for words in words {
-        if let Some(x) = clear_of(cell, width(words, 12.0), line) {
-            let at = [x, cell.center()[1] + 4.3];
-            svg.words(at, Anchor::Middle, &format!("class=\"{class}\" style=\"fill:{ink}\""), words);
-            return;
-        }
+pub fn cell_words(svg: &mut Svg, cell: Box2, line: Option<f64>, class: &str, ink: &str, all: &[String]) {
+    let place = all.iter().find_map(|words| clear_of(cell, width(words, 12.0), line).map(|x| (x, words)));
+    if let Some((x, words)) = place {
+        let look = format!("class=\"{class}\" style=\"fill:{ink}\"");
+        svg.words([x, cell.center()[1] + 4.3], Anchor::Middle, &look, words);
     }
 }
 

@@ -18,7 +18,7 @@ pub fn legend(svg: &mut Svg, [x, y]: [f64; 2], right: f64) -> f64 {
         svg.rect(Box2 { x, y, w: wide - gap, h: 11.0 }, &look(shade.fill, EDGE, 0.7));
         svg.words([x, y + 24.0], Anchor::Start, SOFT, shade.name);
     }
-    let columns = [0.0, 130.0, 272.0, 420.0].map(|from| x + from);
+    let columns = [0.0, 138.0, 292.0, 424.0].map(|from| x + from);
     lamps(svg, columns, y + 46.0);
     states(svg, columns, y + 68.0);
     bench(svg, columns, y + 90.0);

@@ -23,6 +23,12 @@ pub enum End {
     Refused(Refusal),
 }
 
+impl End {
+    pub fn lamp(self) -> Option<u32> {
+        if let End::Lamp(handle) = self { Some(handle) } else { None }
+    }
+}
+
 /// A place of the tree as one bench meets it.
 #[derive(Clone, Copy, Debug, PartialEq)]
 pub enum Step {

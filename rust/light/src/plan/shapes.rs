@@ -72,14 +72,9 @@ impl Shape {
 fn widened(ways: Vec<Vec<[f64; 2]>>, least: f64) -> Vec<Vec<[f64; 2]>> {
     let Some(bounds) = Box2::of(ways.iter().flatten().copied()) else { return ways };
     let long = bounds.w.hypot(bounds.h);
-    if long < least {
-        let square = Box2::around(bounds.center(), least, least);
-        return vec![vec![
-            [square.x, square.y],
-            [square.right(), square.y],
-            [square.right(), square.bottom()],
-            [square.x, square.bottom()],
-        ]];
+    if long < 2.0 * least {
+        let Box2 { x, y, w, h } = Box2::around(bounds.center(), bounds.w.max(least), bounds.h.max(least));
+        return vec![vec![[x, y], [x + w, y], [x + w, y + h], [x, y + h]]];
     }
     if ways.iter().map(|way| enclosed(way)).sum::<f64>() >= 0.8 * least * long {
         return ways;
