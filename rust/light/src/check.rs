@@ -87,23 +87,23 @@ fn check_room(name: &str, text: &[u8], findings: &mut Findings) -> Result<(usize
     if count == 0 {
         findings.warn(name, "there is no lamp in this room");
     }
-    Ok((count, if findings.faults == 0 { tree(name, text, findings) } else { None }))
+    Ok((count, if findings.faults == 0 { tree(name, text, findings)? } else { None }))
 }
 
-/// The tree of a room each of whose lamps is accepted.
-fn tree(name: &str, text: &[u8], findings: &mut Findings) -> Option<LightTree> {
-    match Room::read(name, text).and_then(|room| room.tree()) {
-        Ok(tree) => {
-            if tree.lamps() > 0 && tree.powered() == 0 {
-                findings.warn(name, "no lamp has power: intensity, emission and scale are above 0 where a lamp shines");
-            }
-            Some(tree)
+/// The tree of a room each of whose lamps is accepted, where they are together.
+fn tree(name: &str, text: &[u8], findings: &mut Findings) -> Result<Option<LightTree>, Stop> {
+    let tree = match Room::read(name, text).and_then(|room| room.tree()) {
+        Ok(tree) => tree,
+        Err(Stop::Refused(why)) => {
+            findings.fault(&why);
+            return Ok(None);
         }
-        Err(stop) => {
-            findings.fault(&stop.to_string());
-            None
-        }
+        Err(stop) => return Err(stop),
+    };
+    if tree.lamps() > 0 && tree.powered() == 0 {
+        findings.warn(name, "no lamp has power: intensity, emission and scale are above 0 where a lamp shines");
     }
+    Ok(Some(tree))
 }
 
 /// Where a lamp is: its position, or all corners of its triangles. Both zeros are one.

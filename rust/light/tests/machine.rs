@@ -4,7 +4,7 @@ mod common;
 
 use common::{bad, good, light, temporary, text};
 use std::io::{BufRead, BufReader, Read, Write};
-use std::process::{ChildStdin, ChildStdout, Command, Stdio};
+use std::process::{Child, ChildStdout, Command, Stdio};
 use std::sync::{LazyLock, Mutex};
 
 /// Reads tables from standard input, each behind a line with its form and its length, strictly. Of each it prints the
@@ -41,15 +41,17 @@ while head := sys.stdin.buffer.readline().split():
 "#;
 
 /// One Python for all tests, which takes long to start.
-static PYTHON: LazyLock<Mutex<(ChildStdin, BufReader<ChildStdout>)>> = LazyLock::new(|| {
+static PYTHON: LazyLock<Mutex<(Child, BufReader<ChildStdout>)>> = LazyLock::new(|| {
     let python = Command::new("python3").args(["-c", READER]).stdin(Stdio::piped()).stdout(Stdio::piped()).spawn();
     let mut python = python.expect("python3 is needed to read the tables");
-    Mutex::new((python.stdin.take().unwrap(), BufReader::new(python.stdout.take().unwrap())))
+    let answers = BufReader::new(python.stdout.take().unwrap());
+    Mutex::new((python, answers))
 });
 
 /// What Python reads of a table: the fields' names and the rows, or `wrong` and why.
 fn answered(form: &str, table: &[u8]) -> Vec<Vec<String>> {
-    let (input, output) = &mut *PYTHON.lock().unwrap();
+    let (python, output) = &mut *PYTHON.lock().unwrap();
+    let input = python.stdin.as_mut().unwrap();
     input.write_all(&[format!("{form} {}\n", table.len()).as_bytes(), table].concat()).unwrap();
     let mut length = String::new();
     output.read_line(&mut length).unwrap();
