@@ -256,6 +256,8 @@ fn draw() {
     );
     assert_eq!(bad(1, &["draw", "room.txt", "0 0 0 -", "half"], ""), "U, column 1: 'half' is no number");
     assert!(bad(2, &["draw", "room.txt", "nowhere.txt:1", "0"], "").starts_with("nowhere.txt: "));
+    assert_eq!(bad(2, &["draw", "-", "-:1", "0"], ""), "standard input is either the room or the benches");
+    assert!(good(&["draw", "room.txt", "-:2", "0"], "\n1 0 1 - 0.5").contains("1 drawn"));
 }
 
 #[test]
