@@ -367,15 +367,26 @@ fn help_and_statuses() {
 /// Benches are answered as they come; and who reads no further is not told off.
 #[test]
 fn streams() {
+    for (option, start) in [("--strict", "{:>7} "), ("--csv", "{},"), ("--json", "{\"bench\": {},")] {
+        stream(option, start);
+    }
+}
+
+/// A row begins so, with the bench's line for `{}`.
+fn stream(option: &str, start: &str) {
     use std::io::{BufRead, BufReader};
     let mut command = Command::new(env!("CARGO_BIN_EXE_light"));
-    command.args(["report", "laboratory.txt", "-"]).current_dir(EXAMPLES);
+    command.args(["report", "laboratory.txt", "-", option]).current_dir(EXAMPLES);
     let mut light = command.stdin(Stdio::piped()).stdout(Stdio::piped()).stderr(Stdio::piped()).spawn().unwrap();
-    let (mut input, mut output) = (light.stdin.take().unwrap(), BufReader::new(light.stdout.take().unwrap()).lines());
+    let (mut input, mut output) = (light.stdin.take().unwrap(), BufReader::new(light.stdout.take().unwrap()));
     for number in 1..4 {
         writeln!(input, "1 2 0.9  0 0 1  0.5").unwrap();
-        let row = output.by_ref().map(Result::unwrap).find(|line| !line.starts_with('#')).unwrap();
-        assert!(row.starts_with(&format!("{number:>7} ")), "{row}");
+        let start = start.replace("{:>7}", &format!("{number:>7}")).replace("{}", &number.to_string());
+        // a row of JSON ends when the next one begins
+        let mut read = Vec::new();
+        while !read.ends_with(start.as_bytes()) {
+            assert_ne!(output.read_until(*start.as_bytes().last().unwrap(), &mut read).unwrap(), 0, "{}", text(&read));
+        }
     }
     drop(output);
     while writeln!(input, "1 2 0.9  0 0 1  0.5").is_ok() {}
