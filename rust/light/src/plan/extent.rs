@@ -3,7 +3,6 @@
 use crate::bench::Bench;
 use crate::plan::marks::{Mark, Point3, wide};
 use crate::plan::markup::Box2;
-use crate::text::decimal;
 
 /// A side of the room, outward to round numbers.
 #[derive(Clone, Copy)]
@@ -76,16 +75,20 @@ fn round_up(x: f64) -> f64 {
     [1.0, 2.0, 5.0].into_iter().map(|times| times * power).find(|round| *round >= x * (1.0 - 1e-9)).unwrap_or(10.0 * power)
 }
 
-/// What stands at a line of the grid.
-fn tick(value: f64, step: f64) -> String {
+/// What stands at a line of the grid, by the step to the next.
+pub fn tick(value: f64, step: f64) -> String {
     if value.abs() < step / 2.0 {
         return "0".into();
     }
-    if value.abs() >= 1e6 || step < 1e-4 {
-        return decimal(value as f32);
-    }
-    let digits = (-step.log10().floor()).max(0.0) as usize;
-    format!("{value:.digits$}").replace('-', "−")
+    let text = if value.abs() >= 1e6 || step < 1e-4 {
+        // no more digits than tell it from its neighbours
+        let digits = (value.abs().log10().floor() - step.log10().floor()).clamp(0.0, 9.0) as usize;
+        format!("{value:.digits$e}")
+    } else {
+        let digits = (-step.log10().floor()).max(0.0) as usize;
+        format!("{value:.digits$}")
+    };
+    text.replace('-', "−")
 }
 
 /// Two sides of the room on a drawing: from the left and from below.

@@ -1,6 +1,6 @@
 //! The floor plan over the heights: the lamps where they hang, the bench, the lamp that it looks at.
 
-use crate::plan::extent::{Sheet, Side};
+use crate::plan::extent::{Sheet, Side, tick};
 use crate::plan::labels::{Label, Taken};
 use crate::plan::lamps::{Stage, Style, cross, ring};
 use crate::plan::legend::legend;
@@ -12,8 +12,9 @@ use crate::plan::shade::{ACCENT, GRID, INK, LINE, look, shade};
 use crate::plan::shapes::{Heading, Shape, closed, heading};
 use crate::plan::words::{percent_of, triple};
 
-/// The drawing's width, and where the plan ends at the right.
+/// The drawing's width, and where the plan begins, where what stands at its grid is short, and ends.
 const WIDE: f64 = 580.0;
+const LEFT: f64 = 42.0;
 const RIGHT: f64 = 566.0;
 /// The frame stands so far outside.
 const MARGIN: f64 = 12.0;
@@ -42,14 +43,14 @@ pub fn floor(scene: &Scene, seen: &Seen, view: &View) -> String {
     let (many, drawn) = (scene.is_many(), seen.outcome.lamp());
     fill(&mut svg, seen, &Stage::new(scene, view, drawn, &plan, Style::plan(many)), true);
     fill(&mut svg, seen, &Stage::new(scene, view, drawn, &heights, Style::heights(many)), false);
-    let bottom = legend(&mut svg, [left - MARGIN, heights.inner.bottom() + MARGIN + 18.0], WIDE - 2.0);
+    let bottom = legend(&mut svg, [LEFT - MARGIN, heights.inner.bottom() + MARGIN + 18.0], WIDE - 2.0);
     svg.drawing("plan", Box2 { x: 0.0, y: 0.0, w: WIDE, h: bottom }, &told(scene, seen, view))
 }
 
 /// Where the sheets begin: right of what stands at their grids.
 fn left_of(sides: &[Side]) -> f64 {
     let widest = sides.iter().flat_map(Side::ticks).map(|(_, words)| width(&words, 12.0)).fold(0.0, f64::max);
-    (widest + 24.0).max(42.0)
+    (widest + 24.0).max(LEFT)
 }
 
 /// The scale of the heights: the plan's, unless that makes them too low or too high by more than a little.
@@ -86,7 +87,8 @@ fn grid(svg: &mut Svg, sheet: &Sheet, [across, up]: [&Side; 2], numbered: bool) 
         let x = sheet.inner.x + (value - across.low) * sheet.scale[0];
         lines += &format!("M{} {}v{}", px(x), px(frame.y + 0.5), px(frame.h - 1.0));
         if numbered {
-            svg.words([x, frame.bottom() + 15.0], Anchor::Middle, "class=\"t\"", &words);
+            let at = x.min(WIDE - width(&words, 12.0) / 2.0);
+            svg.words([at, frame.bottom() + 15.0], Anchor::Middle, "class=\"t\"", &words);
         }
     }
     for (value, words) in up.ticks() {
@@ -105,7 +107,7 @@ fn title(svg: &mut Svg, sheet: &Sheet, words: &str) {
 /// How long a step of the grid is, in units of the file, which does not name its unit.
 fn ruler(svg: &mut Svg, sheet: &Sheet, step: f64) {
     let (long, frame) = (step * sheet.scale[0], sheet.inner.grown(MARGIN));
-    let words = format!("{} of the file", if step == 1.0 { "1 unit".into() } else { format!("{step} units") });
+    let words = if step == 1.0 { "1 unit of the file".into() } else { format!("{} units of the file", tick(step, step)) };
     let from = frame.right() - MARGIN - long;
     // a narrow plan has no room for it beside its title
     if from - width(&words, 12.0) - 6.0 < frame.x + 110.0 {
