@@ -1,7 +1,8 @@
 -- Boxes, as `Bounds3` of `light_bounds.rs` has them. Definitions only. Assumes nothing.
 use mathlib.Core.Bool.{Bool, cond, _&&_, _||_}
 use mathlib.Core.Option.{Option, none, some}
-use lib.Ieee.{Float, lt}
+use lib.Dec.{T}
+use lib.Ieee.{Float, lt, le}
 use Rattle.ieee.specs.Choose.{fmin, fmax}
 use Rattle.ieee.specs.Single.{_⊕_, _⊖_, _⊗_, half, twof}
 use Rattle.words.specs.Answers.{Answer, given, refused}
@@ -41,6 +42,15 @@ greatestOf a b = vec (fmax (a .x) (b .x)) (fmax (a .y) (b .y)) (fmax (a .z) (b .
 
 unfoldable pub boxUnion : Bounds3 → Bounds3 → Bounds3
 boxUnion a b = record { min = leastOf (a .min) (b .min); max = greatestOf (a .max) (b .max) }
+
+-- "One box holds another where on each axis its min is at most the other's and its max at least"
+pub record Holds (outer inner : Bounds3) : Type 0 where
+  pub min-x : T (le (outer .min .x) (inner .min .x))
+  pub min-y : T (le (outer .min .y) (inner .min .y))
+  pub min-z : T (le (outer .min .z) (inner .min .z))
+  pub max-x : T (le (inner .max .x) (outer .max .x))
+  pub max-y : T (le (inner .max .y) (outer .max .y))
+  pub max-z : T (le (inner .max .z) (outer .max .z))
 
 unfoldable pub diagonal : Bounds3 → Vec3
 diagonal b = vec (b .max .x ⊖ b .min .x) (b .max .y ⊖ b .min .y) (b .max .z ⊖ b .min .z)

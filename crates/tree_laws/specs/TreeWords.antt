@@ -6,7 +6,7 @@ use mathlib.Core.Bool.{cond}
 use mathlib.Core.List.{List, [], _∷_, _++_}
 use lib.ListN.{getD}
 use Rattle.words.specs.Answers.{Answer, given, refused}
-use Rattle.light_bounds.specs.Laws.BoundsLaws.{Holds}
+use Rattle.light_bounds.specs.Bounds.{Holds}
 use Rattle.light_bounds.specs.declared.light_bounds.LightBounds.{LightBounds}
 use Rattle.light_rows.specs.Nodes.{LightBVHNode, leaf, interior, invalidIndex, nodeAt, boundsAt}
 use Rattle.light_bvh.specs.Build.{LightBVH, isPowered, tableWritten}

@@ -13,7 +13,7 @@ use Rattle.ieee.specs.Single.{_⊕_, _⊗_, _⊘_, zerof}
 use Rattle.words.specs.Answers.{Answer, given, refused, _then_}
 use Rattle.words.proofs.AnswerLaws.{Gives, gives, gives-none, gives-cond, gives-any}
 use Rattle.words.proofs.AnswerLaws.{gives-then, gives-value, then-given, given-injective, not-both}
-use Rattle.light_bounds.specs.Bounds.{boxCheck, finiteBox, boxUnion, leastOf, greatestOf, inverted}
+use Rattle.light_bounds.specs.Bounds.{Holds, boxCheck, finiteBox, boxUnion, leastOf, greatestOf, inverted}
 use Rattle.light_bounds.specs.Importance.{Seen, dark, lit, facing, NormalStep, withNormal, finish}
 use Rattle.light_bounds.specs.Importance.{finiteQuery, geometry, checkedImportance, importanceBy, importance}
 use Rattle.light_bounds.specs.LightBounds.{joinPowered, operand, union, validate, coneCheck, join}
@@ -80,15 +80,6 @@ unfolding ofBits
 union-power a b f p q =
     subst (λ (r : LightBounds). T (lt zerof (r .phi))) (sym (join-made a b p q))
     (add-positive binary32 (a .phi) (b .phi) f p (le→nonneg (b .phi) (lt→le zerof (b .phi) q)))
-
--- "One box holds another where on each axis its min is at most the other's and its max at least"
-pub record Holds (outer inner : Bounds3) : Type 0 where
-  pub min-x : T (le (outer .min .x) (inner .min .x))
-  pub min-y : T (le (outer .min .y) (inner .min .y))
-  pub min-z : T (le (outer .min .z) (inner .min .z))
-  pub max-x : T (le (inner .max .x) (outer .max .x))
-  pub max-y : T (le (inner .max .y) (outer .max .y))
-  pub max-z : T (le (inner .max .z) (outer .max .z))
 
 known : (x : Float) → T (finite x) → T (not (isNan x))
 unfolding isNan

@@ -20,8 +20,8 @@ use Rattle.ieee.specs.Laws.OrderLaws.{le-trans, le-refl, le-of-not-lt, not-le-o
 use Rattle.ieee.specs.Single.{zerof}
 use Rattle.words.specs.Answers.{Answer, given, refused, _then_}
 use Rattle.words.proofs.AnswerLaws.{then-given, given-injective, not-both}
-use Rattle.light_bounds.specs.Bounds.{boxCheck, finiteBox, inverted, boxUnion, leastOf, greatestOf}
-use Rattle.light_bounds.specs.Laws.BoundsLaws.{Holds, union-given}
+use Rattle.light_bounds.specs.Bounds.{Holds, boxCheck, finiteBox, inverted, boxUnion, leastOf, greatestOf}
+use Rattle.light_bounds.specs.Laws.BoundsLaws.{union-given}
 use Rattle.light_bounds.specs.LightBounds.{validate, coneCheck, join, joinPowered}
 use Rattle.light_bounds.specs.Vecmath.{finiteVec}
 use Rattle.light_bounds.specs.declared.bounds.Bounds3.{Bounds3}

@@ -13,7 +13,7 @@ use lib.ListN.{length}
 use Rattle.ieee.specs.Laws.OrderLaws.{le-trans}
 use Rattle.words.specs.Answers.{given}
 use Rattle.words.specs.LittleEndian.{bytesOf, wordsOf}
-use Rattle.light_bounds.specs.Laws.BoundsLaws.{Holds}
+use Rattle.light_bounds.specs.Bounds.{Holds}
 use Rattle.light_bounds.specs.declared.bounds.Bounds3.{Bounds3}
 use Rattle.light_bounds.specs.declared.light_bounds.LightBounds.{LightBounds}
 use Rattle.light_rows.specs.Nodes.{interior, nodeBytes, nodeAt, boundsAt}
