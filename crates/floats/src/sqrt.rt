@@ -124,10 +124,8 @@ fn pattern(s: Scaled, kept: u64) -> u32
 
 // The pattern of the root of d * 2^e units of 2^-300.
 fn digits_root(d: u64, e: u64) -> u32
-    requires { ⌜ 0 < d ⌝ }
-    requires { ⌜ d < 2 ^ 24 ⌝ }
-    requires { ⌜ 151 ≤ e ⌝ }
-    requires { ⌜ e ≤ 404 ⌝ }
+    requires { ⌜ (0 < d) × (d < 2 ^ 24) ⌝ }
+    requires { ⌜ (151 ≤ e) × (e ≤ 404) ⌝ }
     ensures { λ r. ⌜ r ≡ toBits binary32 (rootOf binary32 150 (d * 2 ^ e)) ⌝ }
 {
     let s = normalised(d, e);
@@ -137,10 +135,8 @@ fn digits_root(d: u64, e: u64) -> u32
 
 // The same by a guess, for the normal floats, which are the most.
 fn normal_root(d: u64, e: u64) -> u32
-    requires { ⌜ 0 < d ⌝ }
-    requires { ⌜ d < 2 ^ 24 ⌝ }
-    requires { ⌜ 151 ≤ e ⌝ }
-    requires { ⌜ e ≤ 404 ⌝ }
+    requires { ⌜ (0 < d) × (d < 2 ^ 24) ⌝ }
+    requires { ⌜ (151 ≤ e) × (e ≤ 404) ⌝ }
     ensures { λ r. ⌜ r ≡ toBits binary32 (rootOf binary32 150 (d * 2 ^ e)) ⌝ }
 {
     let s = normalised(d, e);
@@ -150,10 +146,8 @@ fn normal_root(d: u64, e: u64) -> u32
 
 // The pattern of the root of d * 2^e units of 2^-2150.
 fn digits_root64(d: u64, e: u64) -> u64
-    requires { ⌜ 0 < d ⌝ }
-    requires { ⌜ d < 2 ^ 53 ⌝ }
-    requires { ⌜ 1076 ≤ e ⌝ }
-    requires { ⌜ e ≤ 3121 ⌝ }
+    requires { ⌜ (0 < d) × (d < 2 ^ 53) ⌝ }
+    requires { ⌜ (1076 ≤ e) × (e ≤ 3121) ⌝ }
     ensures { λ r. ⌜ r ≡ toBits binary64 (rootOf binary64 1075 (d * 2 ^ e)) ⌝ }
 {
     let s = normalised(d, e);

@@ -19,6 +19,7 @@ use light_bounds::bounds::Validity;
 use light_bounds::bounds::check;
 use light_bounds::bounds::greater;
 use light_bounds::bounds::lesser;
+use light_bounds::cones::Cone;
 use light_bounds::light_bounds::Bounded;
 use light_bounds::light_bounds::LightBounds;
 use light_bounds::light_bounds::are_cosines;
@@ -69,14 +70,13 @@ pub fn light_bounds_for_input(lamp: Lamp, triangles: &[u32]) -> Bounded
             scale,
             cos_theta_o,
             cos_falloff_end,
-        } => spot_bounds(
-            world_position,
-            direction,
-            intensity_max,
-            scale,
-            cos_theta_o,
-            cos_falloff_end,
-        ),
+        } => {
+            let cone = Cone {
+                direction,
+                cos_theta: cos_theta_o,
+            };
+            spot_bounds(world_position, cone, intensity_max, scale, cos_falloff_end)
+        }
         Lamp::AreaGroup {
             handle: _,
             emission_max,
@@ -141,11 +141,14 @@ fn point_bounds(position: Vec3, intensity_max: f32, scale: f32) -> Bounded
                         y: 0.0,
                         z: 1.0,
                     };
+                    let cone = Cone {
+                        direction,
+                        cos_theta: MINUS_ONE,
+                    };
                     checked(LightBounds::of_lamp(
                         bounds,
-                        direction,
+                        cone,
                         point_phi(intensity_max, scale),
-                        MINUS_ONE,
                         COS_HALF_PI,
                         false,
                     ))
@@ -174,24 +177,24 @@ fn too_narrow(cos_theta_e: f32, cos_theta_o: f32, cos_falloff_end: f32) -> bool
     cos_theta_e == 1.0 && cos_theta_o != cos_falloff_end
 }
 
+// The cone of a spot is full within its inner angle and ends at its outer one.
 fn spot_bounds(
     position: Vec3,
-    direction: Vec3,
+    cone: Cone,
     intensity_max: f32,
     scale: f32,
-    cos_theta_o: f32,
     cos_falloff_end: f32,
 ) -> Bounded
-    ensures { λ r. ⌜ bounded r ≡ spotBounds position direction «intensity_max» scale «cos_theta_o» «cos_falloff_end» ⌝ }
+    ensures { λ r. ⌜ bounded r ≡
+        spotBounds position (cone .direction) «intensity_max» scale (cone .«cos_theta») «cos_falloff_end» ⌝ }
 {
     match validate_emission(intensity_max, scale) {
         Validity::Valid => {
-            if are_cosines(cos_theta_o, cos_falloff_end) {
+            if are_cosines(cone.cos_theta, cos_falloff_end) {
                 return spot_record(
                     position,
-                    direction,
+                    cone,
                     point_phi(intensity_max, scale),
-                    cos_theta_o,
                     cos_falloff_end,
                 );
             }
@@ -202,26 +205,25 @@ fn spot_bounds(
 }
 
 // Box, direction, record.
-fn spot_record(
-    position: Vec3,
-    direction: Vec3,
-    phi: f32,
-    cos_theta_o: f32,
-    cos_falloff_end: f32,
-) -> Bounded
-    ensures { λ r. ⌜ bounded r ≡ spotRecord position direction phi «cos_theta_o» «cos_falloff_end» ⌝ }
+fn spot_record(position: Vec3, cone: Cone, phi: f32, cos_falloff_end: f32) -> Bounded
+    ensures { λ r. ⌜ bounded r ≡ spotRecord position (cone .direction) phi (cone .«cos_theta») «cos_falloff_end» ⌝ }
 {
     let bounds = point_box(position);
     match check(bounds) {
-        Validity::Valid => match normalize(direction) {
-            Direction::Unit(unit) => checked(LightBounds::of_lamp(
-                bounds,
-                unit,
-                phi,
-                cos_theta_o,
-                falloff(cos_theta_o, cos_falloff_end),
-                false,
-            )),
+        Validity::Valid => match normalize(cone.direction) {
+            Direction::Unit(direction) => {
+                let cos_theta = cone.cos_theta;
+                checked(LightBounds::of_lamp(
+                    bounds,
+                    Cone {
+                        direction,
+                        cos_theta,
+                    },
+                    phi,
+                    falloff(cos_theta, cos_falloff_end),
+                    false,
+                ))
+            }
             Direction::Refused(why) => Bounded::Refused(why),
         },
         Validity::Refused(why) => Bounded::Refused(why),
@@ -292,14 +294,11 @@ fn faced_record(bounds: Bounds3, normal: Vec3, phi: f32, two_sided: bool) -> Bou
     match normalize(normal) {
         Direction::Unit(direction) => {
             if is_finite_vec(direction) {
-                return checked(LightBounds::of_lamp(
-                    bounds,
+                let cone = Cone {
                     direction,
-                    phi,
-                    1.0,
-                    COS_HALF_PI,
-                    two_sided,
-                ));
+                    cos_theta: 1.0,
+                };
+                return checked(LightBounds::of_lamp(bounds, cone, phi, COS_HALF_PI, two_sided));
             }
             Bounded::Refused(Refusal::NoDirection)
         }

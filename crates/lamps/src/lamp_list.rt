@@ -121,27 +121,9 @@ pub fn lamp_handle(lamp: Lamp) -> u32
     ensures { λ r. ⌜ r ≡ handle lamp ⌝ }
 {
     match lamp {
-        Lamp::Point {
-            handle,
-            world_position: _,
-            intensity_max: _,
-            scale: _,
-        } => handle,
-        Lamp::Spot {
-            handle,
-            world_position: _,
-            direction: _,
-            intensity_max: _,
-            scale: _,
-            cos_theta_o: _,
-            cos_falloff_end: _,
-        } => handle,
-        Lamp::AreaGroup {
-            handle,
-            emission_max: _,
-            scale: _,
-            two_sided: _,
-        } => handle,
+        Lamp::Point { handle, .. } => handle,
+        Lamp::Spot { handle, .. } => handle,
+        Lamp::AreaGroup { handle, .. } => handle,
     }
 }
 

@@ -9,6 +9,7 @@ use super::bounds::Bounds3;
 use super::bounds::Validity;
 use super::bounds::check;
 use super::bounds::union as box_union;
+use super::cones::Cone;
 use super::cones::union_direction_cones;
 use super::side::Side;
 use super::side::either;
@@ -30,46 +31,26 @@ pub struct LightBounds {
 }
 
 impl LightBounds {
-    // A record is put together here alone.
-    pub fn new(
-        bounds: Bounds3,
-        direction: Vec3,
-        phi: f32,
-        cos_theta_o: f32,
-        cos_theta_e: f32,
-        side: Side,
-    ) -> Self
-        ensures { λ r. ⌜ r ≡ lightBounds bounds direction phi «cos_theta_o» «cos_theta_e» side ⌝ }
+    // A record is put together here alone; the cone is of the directions that its lights face.
+    pub fn new(bounds: Bounds3, cone: Cone, phi: f32, cos_theta_e: f32, side: Side) -> Self
+        ensures { λ r. ⌜ r ≡ lightBounds bounds (cone .direction) phi (cone .«cos_theta») «cos_theta_e» side ⌝ }
     {
+        let direction = cone.direction;
         LightBounds {
             bounds,
             direction,
             phi,
-            cos_theta_o,
+            cos_theta_o: cone.cos_theta,
             cos_theta_e,
             side,
         }
     }
 
     // The record of a lamp in a list.
-    pub fn of_lamp(
-        bounds: Bounds3,
-        direction: Vec3,
-        phi: f32,
-        cos_theta_o: f32,
-        cos_theta_e: f32,
-        two_sided: bool,
-    ) -> Self
-        ensures { λ r. ⌜ r ≡ lampRecord bounds direction phi «cos_theta_o» «cos_theta_e» «two_sided» ⌝ }
+    pub fn of_lamp(bounds: Bounds3, cone: Cone, phi: f32, cos_theta_e: f32, two_sided: bool) -> Self
+        ensures { λ r. ⌜ r ≡ lampRecord bounds (cone .direction) phi (cone .«cos_theta») «cos_theta_e» «two_sided» ⌝ }
     {
-        LightBounds::new(
-            bounds,
-            direction,
-            phi,
-            cos_theta_o,
-            cos_theta_e,
-            lamp_side(two_sided),
-        )
+        LightBounds::new(bounds, cone, phi, cos_theta_e, lamp_side(two_sided))
     }
 }
 
@@ -163,12 +144,10 @@ fn join(a: LightBounds, b: LightBounds) -> LightBounds
         return a;
     }
     let cone = union_direction_cones(a.direction, a.cos_theta_o, b.direction, b.cos_theta_o);
-    let direction = cone.direction;
     LightBounds::new(
         box_union(a.bounds, b.bounds),
-        direction,
+        cone,
         a.phi + b.phi,
-        cone.cos_theta,
         min(a.cos_theta_e, b.cos_theta_e),
         either(a.side, b.side),
     )

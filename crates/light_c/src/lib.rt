@@ -14,6 +14,7 @@ ghost use Rattle.words.specs.Tray.{tray};
 ghost use Rattle.light_rows.specs.Block.{blockWords, packExhaustiveBounds};
 ghost use Rattle.lamps.specs.BuildBounds.{buildLightBounds};
 ghost use Rattle.light_bounds.specs.Bounds.{allBoundsOf};
+ghost use Rattle.light_bounds.specs.Vecmath.{vec};
 ghost use Rattle.light_bvh.specs.Build.{nodesWritten, tableWritten, workWritten, nodesReserve, workReserve};
 ghost use Rattle.light_sampler.specs.Sampler.{sample, pmf, drawn, chance};
 ghost use Rattle.packed_bvh.specs.Packed.{packLightBvh, packed, packedBytes, bytesReserve, wordsPacked};
@@ -142,20 +143,18 @@ pub extern "C" fn light_build(
 
 // ---- draws and chances
 
+fn vec3(x: f32, y: f32, z: f32) -> Vec3
+    ensures { λ r. ⌜ r ≡ vec x y z ⌝ }
+{
+    Vec3 { x, y, z }
+}
+
 // Point, normal.
 fn query_at(px: f32, py: f32, pz: f32, nx: f32, ny: f32, nz: f32) -> Query
     ensures { λ r. ⌜ r ≡ queryAt px py pz nx ny nz ⌝ }
 {
-    let p = Vec3 {
-        x: px,
-        y: py,
-        z: pz,
-    };
-    let n = Vec3 {
-        x: nx,
-        y: ny,
-        z: nz,
-    };
+    let p = vec3(px, py, pz);
+    let n = vec3(nx, ny, nz);
     Query { p, n }
 }
 
@@ -216,30 +215,12 @@ pub extern "C" fn light_pmf(
 // ---- the packed tree
 
 // The box of two corners, or its absence.
-fn box_of(
-    present: u32,
-    min_x: f32,
-    min_y: f32,
-    min_z: f32,
-    max_x: f32,
-    max_y: f32,
-    max_z: f32,
-) -> AllBounds
-    ensures { λ r. ⌜ allBoundsOf r ≡ boxOf present «min_x» «min_y» «min_z» «max_x» «max_y» «max_z» ⌝ }
+fn box_of(present: u32, min: Vec3, max: Vec3) -> AllBounds
+    ensures { λ r. ⌜ allBoundsOf r ≡ boxOf present (min .x) (min .y) (min .z) (max .x) (max .y) (max .z) ⌝ }
 {
     if present == 0 {
         return AllBounds::Absent;
     }
-    let min = Vec3 {
-        x: min_x,
-        y: min_y,
-        z: min_z,
-    };
-    let max = Vec3 {
-        x: max_x,
-        y: max_y,
-        z: max_z,
-    };
     AllBounds::Bounds(Bounds3 { min, max })
 }
 
@@ -275,7 +256,9 @@ pub extern "C" fn light_pack(
         (packLightBvh (now (nodes .entry)) k (boxOf present «min_x» «min_y» «min_z» «max_x» «max_y» «max_z»)
         (length (now (out .entry)))) (now (out .entry)) ⌝ }
 {
-    let all = box_of(present, min_x, min_y, min_z, max_x, max_y, max_z);
+    let min = vec3(min_x, min_y, min_z);
+    let max = vec3(max_x, max_y, max_z);
+    let all = box_of(present, min, max);
     packed_code(pack_light_bvh(nodes, k, all, out))
 }
 

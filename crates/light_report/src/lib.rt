@@ -7,7 +7,6 @@ mod lines;
 ghost use mathlib.Core.Path.{_≡_};
 ghost use Prim.Native.Nat.{_+_, _*_, _/_, _%_, _≤_};
 ghost use lib.ListN.{length, getD, take};
-ghost use lib.Seq.{sets};
 ghost use Rattle.words.specs.Answers.{counted};
 ghost use Rattle.words.specs.LittleEndian.{wordsOf};
 ghost use Rattle.words.specs.Tray.{tray};
@@ -15,7 +14,7 @@ ghost use Rattle.light_bvh.specs.Build.{summary, nodesReserve, nodesWritten, ta
 ghost use Rattle.light_report.specs.Report.{blockBytes, blockLamps, treeOf, reportTree};
 ghost use Rattle.light_report.specs.AsCoded.Written.{powered, sizes, taken};
 ghost use Rattle.light_report.specs.AsCoded.Written.{frontBytes, firstLines, nodeBytes};
-ghost use Rattle.light_report.specs.AsCoded.Written.{tableBytes, chunkLines, openedOf};
+ghost use Rattle.light_report.specs.AsCoded.Written.{tableBytes, chunkLines, Opens};
 use light_bvh::build::Built;
 use light_bvh::build::build_light_bvh;
 use light_rows::block::EXHAUSTIVE_BOUNDS_WORDS;
@@ -182,12 +181,8 @@ fn open_report(
     requires { ⌜ (7169 ≤ length (now block)) × (length (now nodes) ≡ 16368) × (length (now table) ≡ 512)
         × (length (now work) ≡ 1024) ⌝ }
     requires { ⌜ (length (now «node_bytes») ≡ 65472) × (length (now «table_bytes») ≡ 2048) × (36 ≤ length (now out)) ⌝ }
-    ensures { λ r. ⌜ r ≡ openedOf (reportTree (now (front .entry))) ⌝ }
-    ensures { λ _. ⌜ now («node_bytes» .exit)
-        ≡ sets (now («node_bytes» .entry)) 0 (nodeBytes (reportTree (now (front .entry)))) ⌝ }
-    ensures { λ _. ⌜ now («table_bytes» .exit)
-        ≡ sets (now («table_bytes» .entry)) 0 (tableBytes (reportTree (now (front .entry)))) ⌝ }
-    ensures { λ _. ⌜ now (out .exit) ≡ sets (now (out .entry)) 0 (firstLines (reportTree (now (front .entry)))) ⌝ }
+    ensures { λ r. ⌜ Opens (reportTree (now (front .entry))) r (now («node_bytes» .entry)) (now («table_bytes» .entry))
+        (now (out .entry)) (now («node_bytes» .exit)) (now («table_bytes» .exit)) (now (out .exit)) ⌝ }
 {
     let header = put_text(out, 0, b"lamp drawn named\n");
     match take_tree(front, block, nodes, table, work) {
@@ -199,6 +194,54 @@ fn open_report(
         }
         Taken::Refused(why) => Opened::Ended(header + put_refused(out, header, why)),
     }
+}
+
+fn lend_words(
+    front: &[u8],
+    block: &mut [u32; 7169],
+    nodes: &mut [u32; 16368],
+    table: &mut [u32; 512],
+    work: &mut [u32; 1024],
+    node_bytes: &mut [u8],
+    table_bytes: &mut [u8],
+    out: &mut [u8],
+) -> Opened
+    requires { ⌜ (length (now «node_bytes») ≡ 65472) × (length (now «table_bytes») ≡ 2048) × (36 ≤ length (now out)) ⌝ }
+    ensures { λ r. ⌜ Opens (reportTree (now (front .entry))) r (now («node_bytes» .entry)) (now («table_bytes» .entry))
+        (now (out .entry)) (now («node_bytes» .exit)) (now («table_bytes» .exit)) (now (out .exit)) ⌝ }
+{
+    open_report(
+        front,
+        block,
+        nodes,
+        table,
+        work,
+        node_bytes,
+        table_bytes,
+        out,
+    )
+}
+
+// The same with words of its own, for the block, the tree and what build works on.
+fn open_front(front: &[u8], node_bytes: &mut [u8], table_bytes: &mut [u8], out: &mut [u8]) -> Opened
+    requires { ⌜ (length (now «node_bytes») ≡ 65472) × (length (now «table_bytes») ≡ 2048) × (36 ≤ length (now out)) ⌝ }
+    ensures { λ r. ⌜ Opens (reportTree (now (front .entry))) r (now («node_bytes» .entry)) (now («table_bytes» .entry))
+        (now (out .entry)) (now («node_bytes» .exit)) (now («table_bytes» .exit)) (now (out .exit)) ⌝ }
+{
+    let mut block = [0u32; 7169];
+    let mut nodes = [0u32; 16368];
+    let mut table = [0u32; 512];
+    let mut work = [0u32; 1024];
+    lend_words(
+        front,
+        &mut block,
+        &mut nodes,
+        &mut table,
+        &mut work,
+        node_bytes,
+        table_bytes,
+        out,
+    )
 }
 
 // ---- reading and writing
@@ -267,30 +310,15 @@ fn write_groups(front: &[u8], nodes: &[u8], table: &[u8], chunk: &mut [u8], out:
 // Behind a front that was read.
 fn write_report(
     front: &[u8],
-    block: &mut [u32],
-    nodes: &mut [u32],
-    table: &mut [u32],
-    work: &mut [u32],
     node_bytes: &mut [u8],
     table_bytes: &mut [u8],
     chunk: &mut [u8],
     out: &mut [u8],
 )
-    requires { ⌜ (7169 ≤ length (now block)) × (length (now nodes) ≡ 16368) × (length (now table) ≡ 512)
-        × (length (now work) ≡ 1024) ⌝ }
     requires { ⌜ (length (now «node_bytes») ≡ 65472) × (length (now «table_bytes») ≡ 2048) ⌝ }
     requires { ⌜ (36 ≤ length (now out)) × (29 * (length (now chunk) / 28) + 29 ≤ length (now out)) ⌝ }
 {
-    match open_report(
-        front,
-        block,
-        nodes,
-        table,
-        work,
-        node_bytes,
-        table_bytes,
-        out,
-    ) {
+    match open_front(front, node_bytes, table_bytes, out) {
         Opened::Groups(lines, nodes_end, table_end) => {
             if write_first(front, &out[0..lines]) {
                 write_groups(
@@ -310,58 +338,28 @@ fn write_report(
 
 fn report(
     front: &mut [u8],
-    block: &mut [u32],
-    nodes: &mut [u32],
-    table: &mut [u32],
-    work: &mut [u32],
     node_bytes: &mut [u8],
     table_bytes: &mut [u8],
     chunk: &mut [u8],
     out: &mut [u8],
 )
     requires { ⌜ 28676 ≤ length (now front) ⌝ }
-    requires { ⌜ (7169 ≤ length (now block)) × (length (now nodes) ≡ 16368) × (length (now table) ≡ 512)
-        × (length (now work) ≡ 1024) ⌝ }
     requires { ⌜ (length (now «node_bytes») ≡ 65472) × (length (now «table_bytes») ≡ 2048) ⌝ }
     requires { ⌜ (36 ≤ length (now out)) × (29 * (length (now chunk) / 28) + 29 ≤ length (now out)) ⌝ }
 {
     let n = read_front(front);
-    write_report(
-        &front[0..n],
-        block,
-        nodes,
-        table,
-        work,
-        node_bytes,
-        table_bytes,
-        chunk,
-        out,
-    );
+    write_report(&front[0..n], node_bytes, table_bytes, chunk, out);
 }
 
-// Room for the block, the tree and a chunk, as words and as bytes.
+// Room for the block, the tree and a chunk, as bytes.
 fn lend(
     front: &mut [u8; 28676],
-    block: &mut [u32; 7169],
-    nodes: &mut [u32; 16368],
-    table: &mut [u32; 512],
-    work: &mut [u32; 1024],
     node_bytes: &mut [u8; 65472],
     table_bytes: &mut [u8; 2048],
     chunk: &mut [u8; 57344],
     out: &mut [u8; 59421],
 ) {
-    report(
-        front,
-        block,
-        nodes,
-        table,
-        work,
-        node_bytes,
-        table_bytes,
-        chunk,
-        out,
-    );
+    report(front, node_bytes, table_bytes, chunk, out);
 }
 
 // The program `columns`, whole; all of its room is on the stack: 306 KiB. It gives nothing back: what it hands to
@@ -370,20 +368,12 @@ pub fn columns()
     ensures { λ r. ⌜ r ≡ tt ⌝ }
 {
     let mut front = [0u8; 28676];
-    let mut block = [0u32; 7169];
-    let mut nodes = [0u32; 16368];
-    let mut table = [0u32; 512];
-    let mut work = [0u32; 1024];
     let mut node_bytes = [0u8; 65472];
     let mut table_bytes = [0u8; 2048];
     let mut chunk = [0u8; 57344];
     let mut out = [0u8; 59421];
     lend(
         &mut front,
-        &mut block,
-        &mut nodes,
-        &mut table,
-        &mut work,
         &mut node_bytes,
         &mut table_bytes,
         &mut chunk,

@@ -60,21 +60,20 @@ pub enum Node {
 
 // ---- writing
 
-fn put_node(
-    words: &mut [u32],
-    at: usize,
-    head: u32,
+// The words between a node's head and its record.
+struct Links {
     right_child: u32,
     parent: u32,
-    bounds: LightBounds,
-)
+}
+
+fn put_node(words: &mut [u32], at: usize, head: u32, links: Links, bounds: LightBounds)
     requires { ⌜ at + nodeWords ≤ length (now words) ⌝ }
     ensures { λ _. ⌜ now (words .exit) ≡
-        sets (now (words .entry)) at (head ∷ «right_child» ∷ parent ∷ recordList bounds) ⌝ }
+        sets (now (words .entry)) at (head ∷ links .«right_child» ∷ links .parent ∷ recordList bounds) ⌝ }
 {
     words[at] = head;
-    words[at + RIGHT_CHILD_PLACE] = right_child;
-    words[at + PARENT_PLACE] = parent;
+    words[at + RIGHT_CHILD_PLACE] = links.right_child;
+    words[at + PARENT_PLACE] = links.parent;
     write_record(words, at + BOUNDS_PLACE, bounds);
 }
 
@@ -84,15 +83,14 @@ fn write_node(
     place: usize,
     kind: u32,
     number: u32,
-    right_child: u32,
-    parent: u32,
+    links: Links,
     bounds: LightBounds,
 ) -> bool
     requires { ⌜ kind ≤ 0x8000_0000 ⌝ }
     ensures { λ r. ⌜ r ≡ rowFits (now (words .entry)) place number ⌝ }
     ensures { λ _. ⌜ now (words .exit) ≡ cond (rowFits (now (words .entry)) place number)
         (sets (now (words .entry)) (nodePlace place)
-        ((kind + handleOf number) ∷ «right_child» ∷ parent ∷ recordList bounds))
+        ((kind + handleOf number) ∷ links .«right_child» ∷ links .parent ∷ recordList bounds))
         (now (words .entry)) ⌝ }
 {
     if words.len() / NODE_WORDS <= place {
@@ -101,14 +99,7 @@ fn write_node(
     if number >= HEAD_ROOM {
         return false;
     }
-    put_node(
-        words,
-        NODE_WORDS * place,
-        kind + number,
-        right_child,
-        parent,
-        bounds,
-    );
+    put_node(words, NODE_WORDS * place, kind + number, links, bounds);
     true
 }
 
@@ -124,15 +115,11 @@ pub fn write_leaf(
     ensures { λ r. ⌜ r ≡ nodeFits (now (words .entry)) place (leaf «light_handle» parent) ⌝ }
     ensures { λ _. ⌜ now (words .exit) ≡ nodeWritten (now (words .entry)) place (leaf «light_handle» parent) bounds ⌝ }
 {
-    write_node(
-        words,
-        place,
-        0x4000_0000,
-        light_handle,
-        INVALID_INDEX,
+    let links = Links {
+        right_child: INVALID_INDEX,
         parent,
-        bounds,
-    )
+    };
+    write_node(words, place, 0x4000_0000, light_handle, links, bounds)
 }
 
 // The same of an interior node, whose head has its left child.
@@ -148,15 +135,11 @@ pub fn write_interior(
     ensures { λ _. ⌜ now (words .exit) ≡
         nodeWritten (now (words .entry)) place (interior «left_child» «right_child» parent) bounds ⌝ }
 {
-    write_node(
-        words,
-        place,
-        0x8000_0000,
-        left_child,
+    let links = Links {
         right_child,
         parent,
-        bounds,
-    )
+    };
+    write_node(words, place, 0x8000_0000, left_child, links, bounds)
 }
 
 // ---- read back while the tree is built, from words: those past the end are 0

@@ -12,6 +12,7 @@ ghost use Rattle.light_rows.specs.RecordWords.{recordWords, phiPlace, re
 ghost use Rattle.light_rows.specs.RecordWords.{vecWords, restWords, recordList};
 ghost use Rattle.light_rows.specs.AsCoded.RecordRow.{writtenAt};
 use light_bounds::bounds::Bounds3;
+use light_bounds::cones::Cone;
 use light_bounds::light_bounds::LightBounds;
 use light_bounds::side::is_side;
 use light_bounds::side::side_of;
@@ -151,11 +152,14 @@ fn record_of(row: Row) -> LightBounds
 {
     let min = vec_of(row.min);
     let max = vec_of(row.max);
+    let cone = Cone {
+        direction: vec_of(row.direction),
+        cos_theta: f32_of_word(row.cos_theta_o),
+    };
     LightBounds::new(
         Bounds3 { min, max },
-        vec_of(row.direction),
+        cone,
         f32_of_word(row.phi),
-        f32_of_word(row.cos_theta_o),
         f32_of_word(row.cos_theta_e),
         side_of(row.side),
     )

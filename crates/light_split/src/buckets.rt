@@ -16,6 +16,7 @@ use floats::choose::min;
 use light_bounds::bounds::Bounds3;
 use light_bounds::bounds::diagonal;
 use light_bounds::bounds::surface_area;
+use light_bounds::cones::Cone;
 use light_bounds::cones::safe_sqrt;
 use light_bounds::light_bounds::Bounded;
 use light_bounds::light_bounds::LightBounds;
@@ -58,9 +59,13 @@ pub(crate) fn empty_slot() -> Slot
         min: zero,
         max: zero,
     };
+    let cone = Cone {
+        direction: zero,
+        cos_theta: 0.0,
+    };
     Slot {
         filled: false,
-        bounds: LightBounds::new(bounds, zero, 0.0, 0.0, 0.0, side_of(0)),
+        bounds: LightBounds::new(bounds, cone, 0.0, 0.0, side_of(0)),
     }
 }
 

@@ -1,1 +1,2 @@
+pub mod LibraryFunctions
 pub mod PartCodes

@@ -4,22 +4,21 @@ ghost use mathlib.Core.Path.{_≡_};
 ghost use Prim.Native.Nat.{ℕ, _*_, _/_, _≤_};
 ghost use lib.Ieee.{binary32, binary64, ofBits, toBits};
 ghost use lib.ListN.{getD, length};
-ghost use Rattle.ieee.specs.Choose.{fmin, fmax, clamp, fabs, isSignNegative};
+ghost use Rattle.ieee.specs.Choose.{clamp, isSignNegative};
 ghost use Rattle.ieee.specs.Narrow.{narrow};
 ghost use Rattle.ieee.specs.Sqrt.{sqrt};
-ghost use Rattle.ieee.specs.Whole.{floor, ceil, roundAway, toU16, toU32, toUsize};
 ghost use Rattle.words.specs.AsCoded.Fill.{filled};
 ghost use Rattle.words.specs.LittleEndian.{wordsOf, bytesOf};
 ghost use Rattle.words.specs.AsCoded.WordSlices.{setWord, wordCount, readWords, writtenWords};
 ghost use Rattle.words.specs.Answers.{counted, code};
 ghost use Rattle.words.specs.Tray.{tray};
-ghost use Rattle.trig.specs.Trig.{cos as cosOf, sin as sinOf, acos as acosOf, asin as asinOf};
 ghost use Rattle.light_bounds.specs.Bounds.{validity};
 ghost use Rattle.light_bounds.specs.Importance.{weight};
 ghost use Rattle.light_bounds.specs.LightBounds.{union as unionOf};
 ghost use Rattle.light_rows.specs.RecordWords.{recordList, recordWords};
 ghost use Rattle.light_rows.specs.Block.{blockCheck};
 ghost use Rattle.light_c.specs.Codes.{valueCode};
+ghost use Rattle.parts_c.specs.LibraryFunctions.{ofOne, ofTwo, angleOf, toWhole};
 ghost use Rattle.parts_c.specs.PartCodes.{countCode, validateWords, importanceWords, unionWords};
 use light_bounds::bounds::Validity;
 use light_bounds::importance::Weight;
@@ -44,18 +43,59 @@ use words::refusals::refusal_number;
 
 // ---- words and floats: plain numbers, and slices as a pointer and a length
 
+// The functions of one number, by a number of their own; the number itself past the last.
 #[no_mangle]
-pub extern "C" fn floats_min(x: f32, y: f32) -> f32
-    ensures { λ r. ⌜ r ≡ fmin x y ⌝ }
+pub extern "C" fn floats_of_one(which: u32, x: f32) -> f32
+    ensures { λ r. ⌜ r ≡ ofOne which x ⌝ }
 {
-    floats::choose::min(x, y)
+    match which {
+        0 => floats::choose::abs(x),
+        1 => floats::whole::floor(x),
+        2 => floats::whole::ceil(x),
+        3 => floats::whole::round(x),
+        4 => floats::sqrt::sqrt(x),
+        _ => x,
+    }
 }
 
+// The same of angles and cosines.
 #[no_mangle]
-pub extern "C" fn floats_max(x: f32, y: f32) -> f32
-    ensures { λ r. ⌜ r ≡ fmax x y ⌝ }
+pub extern "C" fn trig_of_one(which: u32, x: f32) -> f32
+    ensures { λ r. ⌜ r ≡ angleOf which x ⌝ }
 {
-    floats::choose::max(x, y)
+    match which {
+        0 => trig::cos(x),
+        1 => trig::sin(x),
+        2 => trig::acos(x),
+        3 => trig::asin(x),
+        _ => x,
+    }
+}
+
+// The same of two; the first of them past the last.
+#[no_mangle]
+pub extern "C" fn floats_of_two(which: u32, x: f32, y: f32) -> f32
+    ensures { λ r. ⌜ r ≡ ofTwo which x y ⌝ }
+{
+    match which {
+        0 => floats::choose::min(x, y),
+        1 => floats::choose::max(x, y),
+        _ => x,
+    }
+}
+
+// The casts to whole numbers and the word of a float, by a number of their own; 0 past the last.
+#[no_mangle]
+pub extern "C" fn floats_to_whole(which: u32, x: f32) -> u64
+    ensures { λ r. ⌜ r ≡ toWhole which x ⌝ }
+{
+    match which {
+        0 => floats::whole::to_u16(x) as u64,
+        1 => floats::whole::to_u32(x) as u64,
+        2 => floats::whole::to_usize(x) as u64,
+        3 => words::floats::word_of_f32(x) as u64,
+        _ => 0,
+    }
 }
 
 #[no_mangle]
@@ -66,66 +106,10 @@ pub extern "C" fn floats_clamp(x: f32, lo: f32, hi: f32) -> f32
 }
 
 #[no_mangle]
-pub extern "C" fn floats_abs(x: f32) -> f32
-    ensures { λ r. ⌜ r ≡ fabs x ⌝ }
-{
-    floats::choose::abs(x)
-}
-
-#[no_mangle]
 pub extern "C" fn floats_is_sign_negative(x: f32) -> bool
     ensures { λ r. ⌜ r ≡ isSignNegative x ⌝ }
 {
     floats::choose::is_sign_negative(x)
-}
-
-#[no_mangle]
-pub extern "C" fn floats_floor(x: f32) -> f32
-    ensures { λ r. ⌜ r ≡ floor binary32 x ⌝ }
-{
-    floats::whole::floor(x)
-}
-
-#[no_mangle]
-pub extern "C" fn floats_ceil(x: f32) -> f32
-    ensures { λ r. ⌜ r ≡ ceil binary32 x ⌝ }
-{
-    floats::whole::ceil(x)
-}
-
-#[no_mangle]
-pub extern "C" fn floats_round(x: f32) -> f32
-    ensures { λ r. ⌜ r ≡ roundAway binary32 x ⌝ }
-{
-    floats::whole::round(x)
-}
-
-#[no_mangle]
-pub extern "C" fn floats_to_u16(x: f32) -> u16
-    ensures { λ r. ⌜ r ≡ toU16 x ⌝ }
-{
-    floats::whole::to_u16(x)
-}
-
-#[no_mangle]
-pub extern "C" fn floats_to_u32(x: f32) -> u32
-    ensures { λ r. ⌜ r ≡ toU32 x ⌝ }
-{
-    floats::whole::to_u32(x)
-}
-
-#[no_mangle]
-pub extern "C" fn floats_to_usize(x: f32) -> usize
-    ensures { λ r. ⌜ r ≡ toUsize x ⌝ }
-{
-    floats::whole::to_usize(x)
-}
-
-#[no_mangle]
-pub extern "C" fn floats_sqrt(x: f32) -> f32
-    ensures { λ r. ⌜ r ≡ sqrt binary32 x ⌝ }
-{
-    floats::sqrt::sqrt(x)
 }
 
 #[no_mangle]
@@ -154,13 +138,6 @@ pub extern "C" fn words_f32_of_word(w: u32) -> f32
     ensures { λ r. ⌜ r ≡ ofBits binary32 w ⌝ }
 {
     words::floats::f32_of_word(w)
-}
-
-#[no_mangle]
-pub extern "C" fn words_word_of_f32(x: f32) -> u32
-    ensures { λ r. ⌜ r ≡ toBits binary32 x ⌝ }
-{
-    words::floats::word_of_f32(x)
 }
 
 #[no_mangle]
@@ -236,35 +213,7 @@ pub extern "C" fn words_bytes_of_words(words: &[u32], bytes: &mut [u8]) -> u32
     counted_code(words::little_endian::bytes_of_words(words, bytes))
 }
 
-// ---- cosines and arcs; bounds of lamps, records and queries as slices of words
-
-#[no_mangle]
-pub extern "C" fn trig_cos(x: f32) -> f32
-    ensures { λ r. ⌜ r ≡ cosOf x ⌝ }
-{
-    trig::cos(x)
-}
-
-#[no_mangle]
-pub extern "C" fn trig_sin(x: f32) -> f32
-    ensures { λ r. ⌜ r ≡ sinOf x ⌝ }
-{
-    trig::sin(x)
-}
-
-#[no_mangle]
-pub extern "C" fn trig_acos(x: f32) -> f32
-    ensures { λ r. ⌜ r ≡ acosOf x ⌝ }
-{
-    trig::acos(x)
-}
-
-#[no_mangle]
-pub extern "C" fn trig_asin(x: f32) -> f32
-    ensures { λ r. ⌜ r ≡ asinOf x ⌝ }
-{
-    trig::asin(x)
-}
+// ---- bounds of lamps, records and queries as slices of words
 
 // 0, or the refusal's number.
 #[no_mangle]

@@ -8,10 +8,12 @@ use Rattle.light_c.proofs.light_pack.Tie as tie
 returns : tie.Need-returns
 returns c =
     let done = c .before .before .before in
-    rw (← done .before .before .box-of .ensures)
+    let corners = done .before .before .before in
+    let all = rw (corners .vec32 .ensures, corners .before .vec3 .ensures) at (done .before .before .box-of .ensures) in
+    rw (← all)
     (c .packed-code .ensures ∙ ap packedCode (done .pack-light-bvh .ensures .0), done .pack-light-bvh .ensures .1)
 
 pub light-pack-spec : {M : Type 1} → statement M
 light-pack-spec =
-    tie.close (tie.spec (λ c κs. search needs) (λ c κs. search needs) (λ c κs. search needs) (λ c. search needs)
-    returns)
+    tie.close (tie.spec (λ c κs. search needs) (λ c κs. search needs) (λ c κs. search needs) (λ c κs. search needs)
+    (λ c κs. search needs) (λ c. search needs) returns)

@@ -97,17 +97,12 @@ returns c =
     let front = now (start (call at) .args .front) in
     let opened = opened-groups front (m at) (k at) (sized at) _ _ _ (header (call at) .1) (nodes (before put) .1)
     (table put .1) in
-    let first = first-header front (m at) (k at) (sized at) in (
-      opened,
-      (
-        nodes (before put) .0,
-        (
-          table put .0,
-          header (call at) .0 ∙ ap
-              (sets (now (start (call at) .args .out)) 0) first,
-        ),
-      ),
-    )
+    let first = first-header front (m at) (k at) (sized at) in record {
+      opened = opened;
+      nodes-laid = nodes (before put) .0;
+      table-laid = table put .0;
+      lines-laid = header (call at) .0 ∙ ap (sets (now (start (call at) .args .out)) 0) first;
+    }
 
 -- of a bad block
 module _ (c : tie.After-put-refused) where
@@ -131,13 +126,12 @@ returns-2 : tie.Need-returns-2
 returns-2 c =
     let put = c .before .before in
     let args = start (call-2 put) .args in
-    let end = ended put in (
-      end .opened,
-      (
-        ap (sets (now (args .node-bytes)) 0) (end .no-nodes),
-        (ap (sets (now (args .table-bytes)) 0) (end .no-table), end .lines),
-      ),
-    )
+    let end = ended put in record {
+      opened = end .opened;
+      nodes-laid = ap (sets (now (args .node-bytes)) 0) (end .no-nodes);
+      table-laid = ap (sets (now (args .table-bytes)) 0) (end .no-table);
+      lines-laid = end .lines;
+    }
 
 table-end : tie.Need-part-put-words-end-2
 table-end c =

@@ -4,8 +4,10 @@ use Prim.Native.Nat.{ℕ}
 use mathlib.Core.Bool.{cond}
 use mathlib.Core.List.{List, [], _++_, map, flatten}
 use mathlib.Core.Option.{Option}
+use mathlib.Core.Path.{_≡_}
 use lib.Dec.{ltb}
 use lib.ListN.{length, getD}
+use lib.Seq.{sets}
 use Rattle.words.specs.Answers.{Answer, given, refused}
 use Rattle.words.specs.LittleEndian.{wordsOf, bytesOf}
 use Rattle.words.specs.Refusals.{number}
@@ -56,6 +58,14 @@ unfoldable pub openedOf : Answer LightBVH → Opened
 openedOf (given b) = Groups (length (firstLines (given b))) (length (nodeBytes (given b)))
     (length (tableBytes (given b)))
 openedOf (refused n) = Ended (length (firstLines (refused n)))
+
+-- what opening a report leaves: its answer, and in place of what three slices held the tree's bytes and the first lines
+pub record Opens (t : Answer LightBVH) (answer : Opened) (nodes table out nodes-left table-left out-left : List ℕ)
+    : Type 0 where
+  pub opened : answer ≡ openedOf t
+  pub nodes-laid : nodes-left ≡ sets nodes 0 (nodeBytes t)
+  pub table-laid : table-left ≡ sets table 0 (tableBytes t)
+  pub lines-laid : out-left ≡ sets out 0 (firstLines t)
 
 -- how many lamps have power
 unfoldable pub powered : Answer (ℕ × Option Bounds3) → Answer ℕ

@@ -59,30 +59,14 @@ unsafe extern "C" {
         work_len: usize,
     ) -> u32;
 
-    #[link_name = "floats_min"]
-    pub safe fn min(a: f32, b: f32) -> f32;
-    #[link_name = "floats_max"]
-    pub safe fn max(a: f32, b: f32) -> f32;
+    pub safe fn floats_of_one(which: u32, x: f32) -> f32;
+    pub safe fn trig_of_one(which: u32, x: f32) -> f32;
+    pub safe fn floats_of_two(which: u32, x: f32, y: f32) -> f32;
+    pub safe fn floats_to_whole(which: u32, x: f32) -> u64;
     #[link_name = "floats_clamp"]
     pub safe fn clamp(x: f32, lo: f32, hi: f32) -> f32;
-    #[link_name = "floats_abs"]
-    pub safe fn abs(x: f32) -> f32;
     #[link_name = "floats_is_sign_negative"]
     pub safe fn is_sign_negative(x: f32) -> bool;
-    #[link_name = "floats_floor"]
-    pub safe fn floor(x: f32) -> f32;
-    #[link_name = "floats_ceil"]
-    pub safe fn ceil(x: f32) -> f32;
-    #[link_name = "floats_round"]
-    pub safe fn round(x: f32) -> f32;
-    #[link_name = "floats_to_u16"]
-    pub safe fn to_u16(x: f32) -> u16;
-    #[link_name = "floats_to_u32"]
-    pub safe fn to_u32(x: f32) -> u32;
-    #[link_name = "floats_to_usize"]
-    pub safe fn to_usize(x: f32) -> usize;
-    #[link_name = "floats_sqrt"]
-    pub safe fn sqrt(x: f32) -> f32;
     #[link_name = "floats_sqrt64"]
     pub safe fn sqrt64(x: f64) -> f64;
     #[link_name = "floats_narrow"]
@@ -91,20 +75,10 @@ unsafe extern "C" {
     pub safe fn widen(x: f32) -> f64;
     #[link_name = "words_f32_of_word"]
     pub safe fn f32_of_word(w: u32) -> f32;
-    #[link_name = "words_word_of_f32"]
-    pub safe fn word_of_f32(x: f32) -> u32;
     #[link_name = "words_f64_of_word"]
     pub safe fn f64_of_word(w: u64) -> f64;
     #[link_name = "words_word_of_f64"]
     pub safe fn word_of_f64(x: f64) -> u64;
-    #[link_name = "trig_cos"]
-    pub safe fn cos(x: f32) -> f32;
-    #[link_name = "trig_sin"]
-    pub safe fn sin(x: f32) -> f32;
-    #[link_name = "trig_acos"]
-    pub safe fn acos(x: f32) -> f32;
-    #[link_name = "trig_asin"]
-    pub safe fn asin(x: f32) -> f32;
 
     pub fn words_word_at(bytes: *const u8, len: usize, place: usize) -> u32;
     pub fn words_set_word(bytes: *mut u8, len: usize, place: usize, w: u32);

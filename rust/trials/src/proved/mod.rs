@@ -9,10 +9,34 @@ use crate::inputs::trees::Trays;
 use crate::inputs::walks::{Chance, Drawn};
 use crate::stored::PATTERN;
 
-pub use c::{
-    abs, acos, asin, ceil, clamp, cos, f32_of_word, f64_of_word, floor, is_sign_negative, max, min, narrow, round, sin, sqrt,
-    sqrt64, to_u16, to_u32, to_usize, widen, word_of_f32, word_of_f64,
-};
+pub use c::{clamp, f32_of_word, f64_of_word, is_sign_negative, narrow, sqrt64, widen, word_of_f64};
+
+/// The functions that the library knows by a number (crates/parts_c/specs/LibraryFunctions.antt), behind their names.
+macro_rules! numbered {
+    ($($name:ident = $of:ident($which:literal $(, $x:ident)*) as $kind:ty;)*) => {
+        $(pub fn $name($($x: f32),*) -> $kind {
+            c::$of($which $(, $x)*) as $kind
+        })*
+    };
+}
+
+numbered! {
+    abs = floats_of_one(0, x) as f32;
+    floor = floats_of_one(1, x) as f32;
+    ceil = floats_of_one(2, x) as f32;
+    round = floats_of_one(3, x) as f32;
+    sqrt = floats_of_one(4, x) as f32;
+    cos = trig_of_one(0, x) as f32;
+    sin = trig_of_one(1, x) as f32;
+    acos = trig_of_one(2, x) as f32;
+    asin = trig_of_one(3, x) as f32;
+    min = floats_of_two(0, x, y) as f32;
+    max = floats_of_two(1, x, y) as f32;
+    to_u16 = floats_to_whole(0, x) as u16;
+    to_u32 = floats_to_whole(1, x) as u32;
+    to_usize = floats_to_whole(2, x) as usize;
+    word_of_f32 = floats_to_whole(3, x) as u32;
+}
 
 /// One more than the greatest number of a refusal; 0 stands for an answer given.
 pub const NUMBERS: usize = 14;

@@ -1,30 +1,20 @@
 -- `lamps::lamp_bounds::falloff`: the cosine of the angle, and whether it is too narrow. Assumes nothing.
+use mathlib.Core.Path.{_≡_}
+use mathlib.Core.Bool.{cond}
 use borrow.Author.Needs.{needs}
-use Rattle.lamps.specs.LampBounds.{falloff}
+use Rattle.lamps.specs.LampBounds.{falloff, nearlyOne}
 use Rattle.lamps.proofs.lamp_bounds.falloff.Statement.{statement}
 use Rattle.lamps.proofs.lamp_bounds.falloff.Tie as tie
 
-returns : tie.Need-returns
+told : (c : tie.After-too-narrow) →
+    falloff (c .before .before .before .before .args .cos-theta-o) (c .before .before .before .before .args .cos-falloff-end)
+    ≡ cond (c .too-narrow .result) nearlyOne (c .before .cos .result)
 unfolding falloff
-returns c =
-    rw (
-      ← c .before .before .before .before .acos .ensures,
-      ← c .before .before .before .acos2 .ensures,
-      ← c .before .before .cos .ensures,
-    )
-    (rw (← c .before .too-narrow .ensures, c .if1 .taken))
-
-returns-2 : tie.Need-returns-2
-unfolding falloff
-returns-2 c =
-    rw (
-      ← c .before .before .before .before .acos .ensures,
-      ← c .before .before .before .acos2 .ensures,
-      ← c .before .before .cos .ensures,
-    )
-    (rw (← c .before .too-narrow .ensures, c .if1 .left))
+told c =
+    rw (← c .before .before .before .acos .ensures, ← c .before .before .acos2 .ensures, ← c .before .cos .ensures)
+    (rw (← c .too-narrow .ensures))
 
 pub falloff-spec : {M : Type 1} → statement M
 falloff-spec =
     tie.close (tie.spec (λ c κs. search needs) (λ c κs. search needs) (λ c κs. search needs) (λ c κs. search needs)
-    returns returns-2)
+    (λ c. rw (told (c .before), c .if1 .taken)) (λ c. rw (told (c .before), c .if1 .left)))

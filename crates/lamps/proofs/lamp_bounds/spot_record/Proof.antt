@@ -11,7 +11,7 @@ returns c =
     rw (← c .before .before .before .before .before .before .before .before .before .before .point-box .ensures)
     (rw (← c .before .before .before .before .before .before .before .before .before .check .ensures)
     (rw (c .before .before .before .before .before .before .before .enum-told .given .1)
-    (rw (← c .before .before .before .before .before .before .normalize .ensures, c .before .before .before .before .unit .given .1)
+    (rw (← c .before .before .before .before .before .before .normalize .ensures, c .before .before .before .before .direction .given .1)
     (rw (← c .before .before .falloff .ensures, ← c .before .of-lamp .ensures) (c .checked .ensures)))))
 
 returns-2 : tie.Need-returns-2

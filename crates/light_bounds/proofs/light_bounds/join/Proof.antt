@@ -18,9 +18,9 @@ returns-3 : tie.Need-returns-3
 unfolding join
 returns-3 c =
     c .new .ensures
-    ∙ rw (c .before .before .before .before .before .before .before .before .before .before .if1 .left)
-    (rw (c .before .before .before .before .before .before .before .before .if2 .left)
-    (rw (← c .before .before .before .before .before .before .before .union-direction-cones .ensures)
+    ∙ rw (c .before .before .before .before .before .before .before .before .before .if1 .left)
+    (rw (c .before .before .before .before .before .before .before .if2 .left)
+    (rw (← c .before .before .before .before .before .before .union-direction-cones .ensures)
     (rw (
       ← c .before .before .before .before .before .union .ensures,
       ← c .before .before .min .ensures,
