@@ -161,6 +161,54 @@ fn a_bench_of_none() {
     assert!(page.contains("<td>▸ 54</td>"));
 }
 
+/// Each lamp is shaded by its chance: the fill of its mark is that of its step, on the plan and in the heights.
+#[test]
+fn lamps_are_shaded_by_chance() {
+    let steps = [(0.0, "#ecf1f8"), (0.001, "#b9cee8"), (0.01, "#83abd9"), (0.03, "#4d88c4"), (0.1, "#2264a4"), (0.3, "#0f3f75")];
+    let page = laboratory();
+    let mut shaded = 0;
+    for drawing in between(&page, "class=\"plan\"", "</svg>") {
+        for lamp in between(drawing, "<g data-l=", "</g>") {
+            let Some(chance) = between(lamp, ": chance ", " (").first().map(|chance| chance.parse::<f32>().unwrap()) else {
+                assert!(lamp.contains("stroke-dasharray"), "{lamp}");
+                continue;
+            };
+            let fill = steps.iter().rev().find(|(from, _)| chance >= *from).unwrap().1;
+            assert!(lamp.contains(&format!("fill=\"{fill}\"")), "{lamp}");
+            shaded += 1;
+        }
+    }
+    // each bench has some 36 lamps with a chance, drawn twice
+    assert!(shaded > 20 * 2 * 30, "{shaded}");
+}
+
+/// The tree's way: the shares of the sides taken multiply to the chance of the lamp drawn.
+#[test]
+fn shares_of_the_way_make_the_chance() {
+    let mut numbers = Numbers(3);
+    let lamps: String = (0..100).map(|_| numbers.point(20.0)).map(|[x, y, z]| format!("point {x} {y} {z} 5 1\n")).collect();
+    let page = page(&lamps, "9 9 1 - 0.1\n9 9 1 - 0.5\n3 3 3 - 0.9\n");
+    for section in between(&page, "<section ", "</section>") {
+        let taken = between(section, "<title>", "</title>").into_iter().filter(|title| title.ends_with("; taken"));
+        let share = |title: &str| title.split([' ', ':']).nth(1).and_then(|share| share.parse::<f64>().ok()).unwrap();
+        let product: f64 = taken.map(share).product();
+        let chance: f64 = between(section, "drawn, on the way down</th><td>", "<")[0].parse().unwrap();
+        assert!((product / chance - 1.0).abs() < 1e-5, "{product} is not {chance}");
+    }
+}
+
+/// A panel of two triangles is drawn by its outline: four corners, and no line between the triangles.
+#[test]
+fn panels_by_their_outline() {
+    let page = page(
+        "group 9 1 one | 0 0 3  4 0 3  4 2 3  4  0 0 -1 | 0 0 3  4 2 3  0 2 3  4  0 0 -1\npoint 9 5 2 1 1\n",
+        "5 3 1 0 0 1 0.5\n",
+    );
+    let panel = between(&page, "<g data-l=\"0\">", "</g>")[0];
+    let way = between(panel, " d=\"", "\"")[0];
+    assert_eq!((way.matches('M').count(), way.matches('L').count(), way.matches('Z').count()), (1, 3, 1), "{way}");
+}
+
 // ---- odd rooms and benches
 
 #[test]
