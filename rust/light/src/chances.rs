@@ -1,4 +1,5 @@
-//! All lamps' chances by name at one bench: each fork is weighed once, where asking lamp by lamp weighs it once a lamp below it.
+//! All lamps' chances by name at one bench: each fork is weighed once, where asking lamp by lamp weighs it once a lamp
+//! below it.
 
 use crate::bench::Place;
 use light_tree::{INVALID_INDEX, LightBVHNode, LightTree, Refusal};
@@ -38,8 +39,8 @@ impl<'a> Chances<'a> {
         Ok(sum)
     }
 
-    /// The chance of a leaf's lamp: as `LightTree::pmf` does, it multiplies from the leaf up, ends with 0 at a fork that has no weight,
-    /// and is refused at the first fork that is.
+    /// The chance of a leaf's lamp: as `LightTree::pmf` does, it multiplies from the leaf up, ends with 0 at a fork
+    /// that has no weight, and is refused at the first fork that is.
     fn named(&self, shares: &[Result<Option<[f32; 2]>, Refusal>], leaf: usize) -> Result<f32, Refusal> {
         let (mut chance, mut node) = (1.0, leaf);
         while let Some((fork, side)) = self.above[node] {

@@ -10,8 +10,9 @@ use crate::rows::Outcome;
 use crate::source::{Lines, once, whole};
 use crate::text::{Stop, Wrong, called, counted, decimal};
 use crate::triangle::{other_area, other_normal};
-use light_tree::{Lamp, LightTree};
+use light_tree::{Lamp, LightTree, Triangle};
 use std::collections::HashMap;
+use std::collections::hash_map::Entry::{Occupied, Vacant};
 
 pub const CHOICES: &[Choice] = &[Choice { name: "strict", value: None, text: "exit with 1 for warnings too" }];
 
@@ -86,30 +87,32 @@ fn check_room(name: &str, text: &[u8], findings: &mut Findings) -> Result<(usize
     if count == 0 {
         findings.warn(name, "there is no lamp in this room");
     }
-    Ok((count, if findings.faults == 0 { tree(name, text, findings) } else { None }))
+    Ok((count, if findings.faults == 0 { tree(name, text, findings)? } else { None }))
 }
 
-/// The tree of a room each of whose lamps is accepted.
-fn tree(name: &str, text: &[u8], findings: &mut Findings) -> Option<LightTree> {
-    match Room::read(name, text).and_then(|room| room.tree()) {
-        Ok(tree) => {
-            if tree.lamps() > 0 && tree.powered() == 0 {
-                findings.warn(name, "no lamp has power: intensity, emission and scale are above 0 where a lamp shines");
-            }
-            Some(tree)
+/// The tree of a room each of whose lamps is accepted, where they are together.
+fn tree(name: &str, text: &[u8], findings: &mut Findings) -> Result<Option<LightTree>, Stop> {
+    let tree = match Room::read(name, text).and_then(|room| room.tree()) {
+        Ok(tree) => tree,
+        Err(Stop::Refused(why)) => {
+            findings.fault(&why);
+            return Ok(None);
         }
-        Err(stop) => {
-            findings.fault(&stop.to_string());
-            None
-        }
+        Err(stop) => return Err(stop),
+    };
+    if tree.lamps() > 0 && tree.powered() == 0 {
+        findings.warn(name, "no lamp has power: intensity, emission and scale are above 0 where a lamp shines");
     }
+    Ok(Some(tree))
 }
 
 /// Where a lamp is: its position, or all corners of its triangles. Both zeros are one.
 fn place_of(lamp: &Lamp) -> Vec<u32> {
     let figures = match lamp {
         Lamp::Point { world_position, .. } | Lamp::Spot { world_position, .. } => world_position.to_vec(),
-        Lamp::Group { triangles, .. } => triangles.iter().flat_map(|triangle| triangle.world_positions).flatten().collect(),
+        Lamp::Group { triangles, .. } => {
+            triangles.iter().flat_map(|triangle| triangle.world_positions).flatten().collect()
+        }
         _ => Vec::new(),
     };
     figures.into_iter().map(|figure| (figure + 0.0).to_bits()).collect()
@@ -120,31 +123,44 @@ fn check_lamp(name: &str, entry: &Entry, places: &mut HashMap<Vec<u32>, (usize, 
     if let Some(refusal) = entry.refusal() {
         return findings.fault_at(name, *line, &entry.blame(refusal));
     }
-    let mut warn = |column: usize, why: String| findings.warn_at(name, *line, column, format!("{}: {why}", entry.called()));
-    if let Some((handle, line)) = places.get(&place_of(entry.lamp)) {
-        warn(entry.column(0, 0), format!("it is where lamp {handle} of line {line} is"));
-    } else {
-        places.insert(place_of(entry.lamp), (entry.handle, *line));
-    }
-    match entry.lamp {
-        Lamp::Spot { cos_theta_o, cos_falloff_end, .. } if cos_falloff_end > cos_theta_o => warn(
-            entry.column(0, 8),
-            "COS_FALLOFF_END is above COS_THETA_O, so the light ends before it begins to fall off: are they swapped?".into(),
-        ),
-        Lamp::Group { triangles, .. } => {
-            for (at, triangle) in (1..).zip(triangles) {
-                if let Some(area) = other_area(triangle.world_positions, triangle.area) {
-                    let why = format!("triangle {at}: AREA is {}, its corners make {}", decimal(triangle.area), decimal(area));
-                    warn(entry.column(at, 9), why);
-                }
-                if let Some(normal) = other_normal(triangle.world_positions, triangle.geometric_normal) {
-                    let [given, made] = [triangle.geometric_normal, normal].map(|normal| normal.map(decimal).join(" "));
-                    warn(entry.column(at, 10), format!("triangle {at}: NX NY NZ are {given}, its corners make {made}"));
-                }
-            }
+    let mut doubts = doubts(entry);
+    match places.entry(place_of(entry.lamp)) {
+        Occupied(first) => {
+            let (handle, line) = first.get();
+            doubts.insert(0, Wrong::at(entry.column(0, 0), format!("it is where lamp {handle} of line {line} is")));
         }
-        _ => {}
+        Vacant(place) => drop(place.insert((entry.handle, *line))),
     }
+    for Wrong { column, why } in doubts {
+        findings.warn_at(name, *line, column, format!("{}: {why}", entry.called()));
+    }
+}
+
+/// What is doubtful with a lamp by itself.
+fn doubts(entry: &Entry) -> Vec<Wrong> {
+    match entry.lamp {
+        Lamp::Spot { cos_theta_o, cos_falloff_end, .. } if cos_falloff_end > cos_theta_o => {
+            let ends = "so the light ends before it begins to fall off: are they swapped?";
+            vec![Wrong::at(entry.column(0, 8), format!("COS_FALLOFF_END is above COS_THETA_O, {ends}"))]
+        }
+        Lamp::Group { triangles, .. } => {
+            (1..).zip(triangles).flat_map(|(at, told)| doubts_of(entry, at, told)).collect()
+        }
+        _ => Vec::new(),
+    }
+}
+
+/// Whether a triangle, counted from 1, is not what its corners make.
+fn doubts_of(entry: &Entry, at: usize, triangle: &Triangle) -> impl Iterator<Item = Wrong> {
+    let Triangle { world_positions, area, geometric_normal } = *triangle;
+    let doubt = |word: usize, names: &str, told: String, made: String| {
+        Wrong::at(entry.column(at, word), format!("triangle {at}: {names} {told}, its corners make {made}"))
+    };
+    let normal = |normal: [f32; 3]| normal.map(decimal).join(" ");
+    let other_area = other_area(world_positions, area).map(|made| doubt(9, "AREA is", decimal(area), decimal(made)));
+    let other_normal = other_normal(world_positions, geometric_normal)
+        .map(|made| doubt(10, "NX NY NZ are", normal(geometric_normal), normal(made)));
+    other_area.into_iter().chain(other_normal)
 }
 
 /// How many benches there are.

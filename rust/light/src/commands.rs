@@ -1,4 +1,5 @@
-//! The commands and their options: the one table of which the reading of arguments, the help, the man page and the completions are made.
+//! The commands and their options: the one table of which the reading of arguments, the help, the man page and the
+//! completions are made.
 
 use crate::help;
 use crate::options::Options;

@@ -75,7 +75,8 @@ fn quoted(text: &str) -> String {
 }
 
 fn zsh() -> String {
-    let listed: String = COMMANDS.iter().map(|command| format!("    '{}:{}'\n", command.name, quoted(command.text))).collect();
+    let listed: String =
+        COMMANDS.iter().map(|command| format!("    '{}:{}'\n", command.name, quoted(command.text))).collect();
     let cases: String = COMMANDS.iter().map(zsh_case).collect();
     format!(
         "\
@@ -124,11 +125,16 @@ fn zsh_case(command: &Command) -> String {
 fn fish() -> String {
     let mut lines = String::from("# light completions fish\n");
     for choice in [&HELP, &VERSION] {
-        lines += &format!("complete -c light -n __fish_use_subcommand -l {} -d '{}'\n", choice.name, quoted(choice.text));
+        lines +=
+            &format!("complete -c light -n __fish_use_subcommand -l {} -d '{}'\n", choice.name, quoted(choice.text));
     }
     for command in COMMANDS {
         let seen = format!("'__fish_seen_subcommand_from {}'", command.name);
-        lines += &format!("complete -c light -n __fish_use_subcommand -f -a {} -d '{}'\n", command.name, quoted(command.text));
+        lines += &format!(
+            "complete -c light -n __fish_use_subcommand -f -a {} -d '{}'\n",
+            command.name,
+            quoted(command.text)
+        );
         for choice in command.all_choices() {
             let value = if choice.value.is_some() { " -x" } else { "" };
             lines += &format!("complete -c light -n {seen} -l {}{value} -d '{}'\n", choice.name, quoted(choice.text));

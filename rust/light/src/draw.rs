@@ -6,7 +6,7 @@ use crate::options::Options;
 use crate::output::Output;
 use crate::rows::{Outcome, head, sum_text};
 use crate::sheet::{Row, Sheet, sums};
-use crate::source::{Lines, room};
+use crate::source::{Lines, once, room};
 use crate::text::{Stop, Wrong, quoted};
 
 /// A bench that an argument tells, or whose line it tells.
@@ -19,7 +19,7 @@ struct Seat {
 /// `light draw ROOM BENCH U...`.
 pub fn draw(options: &Options, output: &mut Output) -> Result<(), Stop> {
     let [path, bench] = options.arguments();
-    let Seat { line, name, place } = seat(bench)?;
+    let Seat { line, name, place } = seat(path, bench)?;
     let numbers = numbers(options.behind(2))?;
     let room = room(path)?;
     let tree = room.tree()?;
@@ -48,12 +48,14 @@ fn numbers(texts: &[String]) -> Result<Vec<(&str, f32)>, Stop> {
     texts.iter().map(|text| Ok((text.as_str(), bench::alone(text).map_err(wrong)?))).collect()
 }
 
-fn seat(argument: &str) -> Result<Seat, Stop> {
+/// The bench of an argument, beside a room's.
+fn seat(room: &str, argument: &str) -> Result<Seat, Stop> {
     let place = argument.rsplit_once(':').and_then(|(path, line)| Some((path, line.parse::<usize>().ok()?)));
     let Some((path, number)) = place else {
         let wrong = |Wrong { column, why }| Stop::Refused(format!("BENCH, column {column}: {why}"));
         return bench::place(argument).map(|(place, name)| Seat { line: None, name, place }).map_err(wrong);
     };
+    once(room, path)?;
     let mut lines = Lines::open(path)?;
     while lines.advance()? {
         if lines.number == number {

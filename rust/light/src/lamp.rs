@@ -69,15 +69,19 @@ impl Entry<'_> {
         Wrong::at(column, format!("{}{part}: {}{advice}", self.called(), refused(refusal)))
     }
 
-    /// The triangle at which a group is refused. Triangles are judged one by one, so the first refused front part of them ends with it.
+    /// The triangle at which a group is refused. Triangles are judged one by one, so the first refused front part of
+    /// them ends with it.
     fn refused_triangle(&self, refusal: Refusal) -> Option<usize> {
         let Lamp::Group { triangles, emission_max, scale, two_sided } = self.lamp else { return None };
-        if triangles.is_empty() || refusal == Refusal::OutOfRange || bounds_block(std::slice::from_ref(self.lamp)).is_ok() {
+        // what is out of range is the group's own, and some groups only build refuses
+        let whole = std::slice::from_ref(self.lamp);
+        if triangles.is_empty() || refusal == Refusal::OutOfRange || bounds_block(whole).is_ok() {
             return None;
         }
         let is_refused = |count: usize| {
-            let triangles = triangles[..count].to_vec();
-            bounds_block(&[Lamp::Group { triangles, emission_max: *emission_max, scale: *scale, two_sided: *two_sided }]).is_err()
+            let (triangles, emission_max, scale, two_sided) =
+                (triangles[..count].to_vec(), *emission_max, *scale, *two_sided);
+            bounds_block(&[Lamp::Group { triangles, emission_max, scale, two_sided }]).is_err()
         };
         let (mut good, mut bad) = (0, triangles.len());
         while bad - good > 1 {
@@ -134,7 +138,9 @@ fn fault(refusal: Refusal, names: &[&str], figures: &[f32]) -> Option<(usize, St
         Refusal::NoDirection => {
             let at = place("DX").or(place("NX"))?;
             let told = match &figures[at..at + 3] {
-                figures if figures.iter().all(|figure| figure.is_nan()) => "no numbers, as where corners lie on one line".into(),
+                figures if figures.iter().all(|figure| figure.is_nan()) => {
+                    "no numbers, as where corners lie on one line".into()
+                }
                 figures => figures.iter().copied().map(decimal_or_word).collect::<Vec<_>>().join(" "),
             };
             Some((at, format!("{} are {told}: say which way it shines", names[at..at + 3].join(" "))))
@@ -185,12 +191,15 @@ fn lamp(words: &[Word], end: usize) -> Result<(Lamp, Columns), Wrong> {
             Lamp::Point { world_position: [x, y, z], intensity_max, scale }
         }
         "spot" => {
-            let [x, y, z, dx, dy, dz, intensity_max, scale, cos_theta_o, cos_falloff_end] = numbers(first, first_end, SPOT)?;
+            let [x, y, z, dx, dy, dz, intensity_max, scale, cos_theta_o, cos_falloff_end] =
+                numbers(first, first_end, SPOT)?;
             let (world_position, direction) = ([x, y, z], [dx, dy, dz]);
             Lamp::Spot { world_position, direction, intensity_max, scale, cos_theta_o, cos_falloff_end }
         }
         "group" => group(first, first_end, parts[1..].iter().copied().zip(ends[1..].iter().copied()))?,
-        other => return Err(Wrong::at(kind.column, format!("'{other}' is no kind of lamp, as point, spot and group are"))),
+        other => {
+            return Err(Wrong::at(kind.column, format!("'{other}' is no kind of lamp, as point, spot and group are")));
+        }
     };
     if parts.len() > 1 && kind.text != "group" {
         return Err(Wrong::at(first_end, "only a group has parts"));
@@ -199,7 +208,11 @@ fn lamp(words: &[Word], end: usize) -> Result<(Lamp, Columns), Wrong> {
     Ok((lamp, Columns { kind: kind.column, parts: parts.iter().map(columns).collect(), end }))
 }
 
-fn group<'a, 'b: 'a>(first: &[Word], end: usize, parts: impl Iterator<Item = (&'a [Word<'b>], usize)>) -> Result<Lamp, Wrong> {
+fn group<'a, 'b: 'a>(
+    first: &[Word],
+    end: usize,
+    parts: impl Iterator<Item = (&'a [Word<'b>], usize)>,
+) -> Result<Lamp, Wrong> {
     let [emission, scale, side] = fields(first, end, "EMISSION SCALE one|two")?;
     let [emission_max, scale] = [number(emission)?, number(scale)?];
     let two_sided = match side.text {

@@ -45,7 +45,8 @@ impl Options {
 
     /// The value of an option that is a whole number.
     pub fn number(&self, name: &str) -> Result<Option<usize>, Stop> {
-        let whole = |text: &str| text.parse().map_err(|_| Stop::Failed(format!("--{name}: '{text}' is no whole number")));
+        let whole =
+            |text: &str| text.parse().map_err(|_| Stop::Failed(format!("--{name}: '{text}' is no whole number")));
         self.value(name).map(whole).transpose()
     }
 
@@ -91,7 +92,11 @@ pub fn read(words: &[String]) -> Result<Asked, Stop> {
 }
 
 /// The option that a word is, with its value, which may be the next word.
-fn chosen(command: &Command, word: &str, next: impl FnOnce() -> Option<String>) -> Result<(&'static Choice, String), Stop> {
+fn chosen(
+    command: &Command,
+    word: &str,
+    next: impl FnOnce() -> Option<String>,
+) -> Result<(&'static Choice, String), Stop> {
     let (name, value) = word.split_once('=').map_or((word, None), |(name, value)| (name, Some(value.to_string())));
     let named = |choice: &&Choice| name.strip_prefix("--") == Some(choice.name);
     let Some(choice) = command.all_choices().find(named) else {
@@ -114,7 +119,8 @@ pub fn command(word: &str) -> Result<&'static Command, Stop> {
 }
 
 fn no_command(word: &str) -> Stop {
-    let names = COMMANDS.iter().map(|command| command.name.to_string()).chain([format!("--{}", VERSION.name), "--help".into()]);
+    let names =
+        COMMANDS.iter().map(|command| command.name.to_string()).chain([format!("--{}", VERSION.name), "--help".into()]);
     match word {
         "" => Stop::Failed("light COMMAND ...; `light --help` says more".into()),
         _ => unknown(&format!("light: '{word}' is no command"), word, names),

@@ -17,7 +17,8 @@ pub struct Output {
     /// Whether what waits is kept for the caller, and standard output left alone.
     kept: bool,
     terminal: bool,
-    /// Whether progress is said: standard error is a terminal, and standard output no pipe, as to a pager that shares the terminal.
+    /// Whether progress is said: standard error is a terminal, and standard output no pipe, as to a pager that shares
+    /// the terminal.
     progress: bool,
     said: bool,
     began: Instant,

@@ -56,7 +56,9 @@ impl Report<'_> {
         let (line, name, outcome) = (bench.line, bench.name.as_deref(), Outcome::of(self.tree, bench.place, bench.u));
         let sum = self.chances.as_ref().filter(|_| !outcome.is_refused()).map(|chances| chances.sum(bench.place));
         let row = Row { line: Some(line), name, u: bench.u, outcome, sum };
-        let text = || format!("{line:>7} {}{}{}", outcome.columns(self.room), sum_column(self.room, sum), row.names(self.room));
+        let text = || {
+            format!("{line:>7} {}{}{}", outcome.columns(self.room), sum_column(self.room, sum), row.names(self.room))
+        };
         sheet.row(&called(&format!("bench {line}"), name), &row, text, output);
     }
 }

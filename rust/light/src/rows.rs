@@ -61,11 +61,14 @@ impl Outcome {
 
 /// The columns' names, the first one's told.
 pub fn head(first: &str) -> String {
-    format!("#{first:>6} {:>5} {:>5}  {:<14} {:<14} {:8} {:8} {:>6}", "lamp", "line", "drawn", "named", "bits", "bits", "apart")
+    format!(
+        "#{first:>6} {:>5} {:>5}  {:<14} {:<14} {:8} {:8} {:>6}",
+        "lamp", "line", "drawn", "named", "bits", "bits", "apart"
+    )
 }
 
-/// How many floats one chance is from the other, and their difference by the greater. None where they part wholly: one is NaN or
-/// infinite, or 0 beside one that is not.
+/// How many floats one chance is from the other, and their difference by the greater. None where they part wholly: one
+/// is NaN or infinite, or 0 beside one that is not.
 pub fn apart(a: f32, b: f32) -> Option<(u32, f64)> {
     if !a.is_finite() || !b.is_finite() || (a == 0.0) != (b == 0.0) {
         return None;
@@ -149,9 +152,8 @@ impl Tally {
             let floats = counted(*floats as usize, "float", "floats");
             let others = if self.wholly > 0 { "of the others " } else { "" };
             let relative = rounded(*relative);
-            format!(
-                "{wholly}; {others}the greatest distance is {floats} ({farthest}), the greatest relative difference {relative} ({widest})"
-            )
+            let distance = format!("the greatest distance is {floats} ({farthest})");
+            format!("{wholly}; {others}{distance}, the greatest relative difference {relative} ({widest})")
         } else if self.wholly == 0 {
             "both chances are the same in every row".into()
         } else if self.wholly < self.drawn {

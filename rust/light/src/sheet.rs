@@ -11,8 +11,10 @@ use crate::text::{Stop, counted, quoted};
 
 /// The options of both commands.
 pub const CHOICES: &[Choice] = &[CSV, JSON, NO_SUM, STRICT];
-const NO_SUM: Choice = Choice { name: "no-sum", value: None, text: "leave out the sum of named chances, the slowest figure" };
-const STRICT: Choice = Choice { name: "strict", value: None, text: "exit with 1 where a row is refused, after all are written" };
+const NO_SUM: Choice =
+    Choice { name: "no-sum", value: None, text: "leave out the sum of named chances, the slowest figure" };
+const STRICT: Choice =
+    Choice { name: "strict", value: None, text: "exit with 1 where a row is refused, after all are written" };
 
 /// The fields of a row for programs.
 const FIELDS: [&str; 18] = [
@@ -51,7 +53,8 @@ impl Row<'_> {
     /// What stands behind a row for people: what the bench and the lamp are called, where they are.
     pub fn names(&self, room: &Room) -> String {
         let bench = self.name.map(|name| format!("bench {}", quoted(name)));
-        let lamp = self.outcome.lamp().and_then(|handle| room.name_of(handle)).map(|name| format!("lamp {}", quoted(name)));
+        let lamp =
+            self.outcome.lamp().and_then(|handle| room.name_of(handle)).map(|name| format!("lamp {}", quoted(name)));
         let names: Vec<String> = bench.into_iter().chain(lamp).collect();
         if names.is_empty() { String::new() } else { format!("  {}", names.join(", ")) }
     }

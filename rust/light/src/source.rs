@@ -112,7 +112,9 @@ impl Lines {
 
     pub fn far(&self, benches: usize) -> String {
         match self.size {
-            Some(size) if size > 0 => format!("{}, {} %", counted(benches, "bench", "benches"), 100 * self.had.min(size) / size),
+            Some(size) if size > 0 => {
+                format!("{}, {} %", counted(benches, "bench", "benches"), 100 * self.had.min(size) / size)
+            }
             _ => counted(benches, "bench", "benches"),
         }
     }

@@ -47,45 +47,29 @@ where
     }
 }
 
-impl From<&str> for Value {
-    fn from(text: &str) -> Value {
-        Value::Text(text.into())
-    }
+/// Which value each type is.
+macro_rules! values {
+    ($($from:ty: $value:ident,)*) => {
+        $(impl From<$from> for Value {
+            fn from(value: $from) -> Value {
+                Value::$value(value.into())
+            }
+        })*
+    };
 }
 
-impl From<String> for Value {
-    fn from(text: String) -> Value {
-        Value::Text(text)
-    }
+values! {
+    &str: Text,
+    String: Text,
+    u32: Whole,
+    f32: Single,
+    f64: Double,
+    bool: Truth,
 }
 
 impl From<usize> for Value {
     fn from(whole: usize) -> Value {
         Value::Whole(whole as u64)
-    }
-}
-
-impl From<u32> for Value {
-    fn from(whole: u32) -> Value {
-        Value::Whole(whole.into())
-    }
-}
-
-impl From<f32> for Value {
-    fn from(single: f32) -> Value {
-        Value::Single(single)
-    }
-}
-
-impl From<f64> for Value {
-    fn from(double: f64) -> Value {
-        Value::Double(double)
-    }
-}
-
-impl From<bool> for Value {
-    fn from(truth: bool) -> Value {
-        Value::Truth(truth)
     }
 }
 
@@ -120,7 +104,8 @@ impl Value {
     }
 }
 
-/// A float's shortest decimal, or its name. A minus zero has a point, or programs read it as a whole number, which has no sign.
+/// A float's shortest decimal, or its name. A minus zero has a point, or programs read it as a whole number, which has
+/// no sign.
 fn float<T: Into<f64> + Copy>(figure: T, decimal: impl Fn(T) -> String) -> (String, bool) {
     let wide: f64 = figure.into();
     match (wide.is_nan(), wide.is_infinite(), wide == 0.0 && wide.is_sign_negative()) {
@@ -161,7 +146,8 @@ impl<const N: usize> Table<N> {
         match self.form {
             Form::Csv => output.text(&format!("{}\r\n", values.each_ref().map(Value::csv).join(","))),
             Form::Json => {
-                let members = self.fields.iter().zip(&values).map(|(name, value)| format!("\"{name}\": {}", value.json()));
+                let members =
+                    self.fields.iter().zip(&values).map(|(name, value)| format!("\"{name}\": {}", value.json()));
                 let before = if self.begun { "," } else { "" };
                 output.text(&format!("{before}\n{{{}}}", members.collect::<Vec<_>>().join(", ")));
             }

@@ -161,8 +161,12 @@ pub fn line_of(bytes: &[u8]) -> Result<&str, Wrong> {
 pub fn number(word: Word) -> Result<f32, Wrong> {
     let Word { column, text } = word;
     let hexadecimal = text.strip_prefix("0x").or(text.strip_prefix("0X"));
-    if let Some(digits) = hexadecimal.filter(|digits| digits.len() == 8 && digits.bytes().all(|c| c.is_ascii_hexdigit())) {
-        return u32::from_str_radix(digits, 16).map(f32::from_bits).map_err(|error| Wrong::at(column, error.to_string()));
+    if let Some(digits) =
+        hexadecimal.filter(|digits| digits.len() == 8 && digits.bytes().all(|c| c.is_ascii_hexdigit()))
+    {
+        return u32::from_str_radix(digits, 16)
+            .map(f32::from_bits)
+            .map_err(|error| Wrong::at(column, error.to_string()));
     }
     // Rust reads the names of infinity and NaN too
     let plain = text.bytes().all(|c| c.is_ascii_digit() || b"+-.eE".contains(&c));

@@ -4,9 +4,10 @@ use std::ops::{Mul, Sub};
 
 type Vector = [f32; 3];
 
-/// The area and the normal of a triangle, in f32: the edges b - a and c - a, their cross product, its length as the root of its dot
-/// product with itself, half of it, and the product times the reciprocal of it. The reference has no such function, but these
-/// steps, and each is taken in its order. Corners on one line have area 0 and a normal that is no number.
+/// The area and the normal of a triangle, in f32: the edges b - a and c - a, their cross product, its length as the
+/// root of its dot product with itself, half of it, and the product times the reciprocal of it. The reference has no
+/// such function, but these steps, and each is taken in its order. Corners on one line have area 0 and a normal that
+/// is no number.
 pub fn measured([a, b, c]: [Vector; 3]) -> (f32, Vector) {
     let cross = cross(minus(b, a), minus(c, a));
     let length = dot(cross, cross).sqrt();

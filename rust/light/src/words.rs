@@ -22,7 +22,9 @@ pub fn columns(options: &Options, output: &mut Output) -> Result<(), Stop> {
     let mut count = 0;
     while lines.advance()? {
         if let Some(Bench { place, u, .. }) = lines.bench()? {
-            output.words(&[&place.p[..], &place.n, &[u]].concat().iter().map(|figure| figure.to_bits()).collect::<Vec<_>>())?;
+            output.words(
+                &[&place.p[..], &place.n, &[u]].concat().iter().map(|figure| figure.to_bits()).collect::<Vec<_>>(),
+            )?;
             count += 1;
         }
         output.pause(|| lines.far(count))?;

@@ -71,11 +71,14 @@ fn infinite_and_refused() {
     let pair = |a: &str, b: &str, x: u32| format!("point 0 0 0 {a} 1\npoint {x} 0 0 {b} 1\n");
     let (near, between) = ([0.0, 0.0, 0.001, 0.0, 0.0, 0.0], [1.0, 0.0, 0.0, 0.0, 0.0, 0.0]);
     let mut nans = 0;
-    for (a, b, x) in [("2.387e37", "1", 2), ("2.387e37", "2.387e37", 2), ("1", "2.387e37", 0), ("2.387e37", "2.387e37", 0)] {
+    for (a, b, x) in
+        [("2.387e37", "1", 2), ("2.387e37", "2.387e37", 2), ("1", "2.387e37", 0), ("2.387e37", "2.387e37", 0)]
+    {
         nans += compare(&pair(a, b, x), &[near, between])[2];
     }
     assert!(nans > 0);
-    let room: String = ["0 2", "5 2", "4 1", "5 1", "2 2", "0 0"].iter().map(|place| format!("point {place} 0 1 1\n")).collect();
+    let room: String =
+        ["0 2", "5 2", "4 1", "5 1", "2 2", "0 0"].iter().map(|place| format!("point {place} 0 1 1\n")).collect();
     let centre = [5.0, 1.5, 0.0, 0.0, 0.0, 0.0];
     let kinds = compare(&room, &[centre, [f32::NAN; 6]]);
     assert!(kinds[0] > 0 && kinds[3] > 6, "{kinds:?}");

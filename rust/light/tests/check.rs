@@ -38,7 +38,8 @@ fn nothing_found() {
 /// Every wrong line is told in one run, in its order, the lamps by their places among all.
 #[test]
 fn every_line() {
-    let room = "\u{feff}lamp 1\npoint 1 2 3 1 1\n\n\"x\" point 1 2 3 0,5 1\nspot 1 2 3 0 0 1 1 1 30 20\npoint 1 2 3 1 1\npoint";
+    let room = "\u{feff}lamp 1\npoint 1 2 3 1 1\n\n\"x\" point 1 2 3 0,5 1\n\
+        spot 1 2 3 0 0 1 1 1 30 20\npoint 1 2 3 1 1\npoint";
     let (lines, said) = found(1, &[], room);
     let starts = [
         "line 1, column 1: 'lamp' is no kind of lamp",
@@ -62,7 +63,11 @@ fn what_to_do() {
         ("point 1 2 3 1e30 1e30", 13, "INTENSITY times SCALE is too much: lower one"),
         ("spot 1 2 3 0 0 0 1 1 1 1", 12, "DX DY DZ are 0 0 0: say which way it shines"),
         ("spot 1 2 3 0 0 1 1 1 30 1", 22, "COS_THETA_O is 30: write a cosine, from -1 to 1; 30 degrees is 0.8660254"),
-        ("spot 1 2 3 0 0 1 1 1 1 -45", 24, "COS_FALLOFF_END is -45: write a cosine, from -1 to 1; -45 degrees is 0.70710677"),
+        (
+            "spot 1 2 3 0 0 1 1 1 1 -45",
+            24,
+            "COS_FALLOFF_END is -45: write a cosine, from -1 to 1; -45 degrees is 0.70710677",
+        ),
         ("spot 1 2 3 0 0 1 1 1 200 1", 22, "COS_THETA_O is 200: write a cosine, from -1 to 1"),
         ("group 1 1 one", 14, "a triangle belongs here: | AX AY AZ BX BY BZ CX CY CZ AREA NX NY NZ"),
         (&group("0 1 0 0 0 0 1"), 35, "AREA is 0: write one above 0"),
@@ -103,7 +108,11 @@ fn warnings() {
         &group("3 0.002 0 1"),
         "column 37: warning: lamp 0, a group: triangle 1: NX NY NZ are 0.002 0 1, its corners make 0 0 1",
     );
-    one(0, &group("- 1 0 0"), "column 37: warning: lamp 0, a group: triangle 1: NX NY NZ are 1 0 0, its corners make 0 0 1");
+    one(
+        0,
+        &group("- 1 0 0"),
+        "column 37: warning: lamp 0, a group: triangle 1: NX NY NZ are 1 0 0, its corners make 0 0 1",
+    );
     one(
         0,
         "group 1 1 one | 0 0 0 1 0 0 2 0 0 1 0 0 1",
@@ -173,13 +182,15 @@ fn left_to_the_corners() {
     // -0 + 0 in the cross product
     assert_eq!(good(&["block", "-"], left), good(&["block", "-"], given));
     let corners: [[f32; 3]; 3] = [[0.1, 0.7, 0.3], [1.1, 0.9, -0.4], [0.2, 2.3, 0.6]];
-    let words: Vec<f32> =
-        list(&format!("group 5 1 two | {} - -", corners.as_flattened().iter().map(f32::to_string).collect::<Vec<_>>().join(" ")))
-            .as_chunks()
-            .0
-            .iter()
-            .map(|bytes| f32::from_le_bytes(*bytes))
-            .collect();
+    let words: Vec<f32> = list(&format!(
+        "group 5 1 two | {} - -",
+        corners.as_flattened().iter().map(f32::to_string).collect::<Vec<_>>().join(" ")
+    ))
+    .as_chunks()
+    .0
+    .iter()
+    .map(|bytes| f32::from_le_bytes(*bytes))
+    .collect();
     let [a, b, c] = corners;
     let (e, f) = ([b[0] - a[0], b[1] - a[1], b[2] - a[2]], [c[0] - a[0], c[1] - a[1], c[2] - a[2]]);
     let v = [e[1] * f[2] - e[2] * f[1], e[2] * f[0] - e[0] * f[2], e[0] * f[1] - e[1] * f[0]];

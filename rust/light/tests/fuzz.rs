@@ -1,5 +1,5 @@
-//! Damaged rooms and bench tables through `light check`, `light report` and `light plan`, in one process: none panics, each ends
-//! well or with one line, and check finds a fault exactly where a strict report ends with one.
+//! Damaged rooms and bench tables through `light check`, `light report` and `light plan`, in one process: none panics,
+//! each ends well or with one line, and check finds a fault exactly where a strict report ends with one.
 //!
 //! The short test takes some thousand of them. The long one takes 10^6, or as many as LIGHT_FUZZ says:
 //!
@@ -38,7 +38,8 @@ const ROOMS: &[&str] = &[
     "point 0 0 2 1 1\n",
     "\"by the \"\"window\"\"\" point 0 0 2 1 1\npoint 2 0 2 1 1\n",
     "spot 0 0 2  0 0 -1  9 1  0.9 0.8\nspot 3 0 2  0 0 1  9 1  0.9 0.8 # away\npoint 1 1 2 3 0\n",
-    "\"panel\" group 8 1 two | -0.6 -0.2 2.4  0.6 -0.2 2.4  0.6 0.2 2.4  0.24  0 0 -1 | 0 0 2 1 0 2 0 1 2 - -\npoint 0 0 2 1 1\n",
+    "\"panel\" group 8 1 two | -0.6 -0.2 2.4  0.6 -0.2 2.4  0.6 0.2 2.4  0.24  0 0 -1 | \
+     0 0 2  1 0 2  0 1 2  - -\npoint 0 0 2 1 1\n",
     "point 0 0 0 2.387e37 1\npoint 2 0 0 1 1\n",
     "point 0 2 0 1 1\npoint 5 2 0 1 1\npoint 4 1 0 1 1\npoint 5 1 0 1 1\npoint 2 2 0 1 1\npoint 0 0 0 1 1\n",
 ];
@@ -169,8 +170,8 @@ fn in_memory(name: &str) -> PathBuf {
 }
 
 fn fuzz(name: &str, seed: u64, count: usize) {
-    let examples =
-        ["room.txt", "laboratory.txt", "benches.txt"].map(|file| std::fs::read_to_string(format!("{EXAMPLES}/{file}")).unwrap());
+    let examples = ["room.txt", "laboratory.txt", "benches.txt"]
+        .map(|file| std::fs::read_to_string(format!("{EXAMPLES}/{file}")).unwrap());
     let [room, laboratory, benches] = examples.each_ref().map(String::as_str);
     let files = Files(["room", "benches"].map(|file| in_memory(&format!("{name}-{file}"))));
     let mut random = Random(seed);

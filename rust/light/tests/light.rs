@@ -12,7 +12,11 @@ fn wrong(room: &str, start: &str) {
     for command in [&["block", "-"][..], &["report", "-", "benches.txt"], &["draw", "-", "0 0 0 -", "0.5"]] {
         let output = light(command, room);
         let said = text(&output.stderr);
-        assert_eq!((output.status.code(), output.stdout.len(), said.lines().count()), (Some(1), 0, 1), "{room}: {said}");
+        assert_eq!(
+            (output.status.code(), output.stdout.len(), said.lines().count()),
+            (Some(1), 0, 1),
+            "{room}: {said}"
+        );
         assert!(said.starts_with(&format!("standard input: {start}")), "{room}: {said}");
     }
 }
@@ -64,7 +68,8 @@ fn columns() {
     assert_eq!(words(&"point 0 0 0 1 1\n".repeat(600))[0], 600);
     std::fs::write(&path, "1 0 1 - 0.5\n1 0\n").unwrap();
     assert!(
-        bad(1, &["columns", "-", path.to_str().unwrap()], PAIR).ends_with(": line 2, column 4: 2 figures in place of 3: X Y Z")
+        bad(1, &["columns", "-", path.to_str().unwrap()], PAIR)
+            .ends_with(": line 2, column 4: 2 figures in place of 3: X Y Z")
     );
     std::fs::remove_file(path).unwrap();
     assert_eq!(bad(2, &["columns", "-", "-"], ""), "standard input is either the room or the benches");
@@ -151,7 +156,10 @@ fn none() {
     let report = good(&["draw", "-", "1 0 0 -", "0", "1"], spots);
     let row = "   none     -  -              -              -        -             -";
     assert_eq!(report.lines().nth(1), Some(format!("      0 {}", &row[2..]).as_str()));
-    assert!(report.contains("# 2 draws: 0 drawn, 2 none, 0 refused\n# sum of all named chances: 0.0000000\n"), "{report}");
+    assert!(
+        report.contains("# 2 draws: 0 drawn, 2 none, 0 refused\n# sum of all named chances: 0.0000000\n"),
+        "{report}"
+    );
     assert!(good(&["draw", "-", "1 0 0 -", "0"], "").contains("# 1 draw: 0 drawn, 1 none, 0 refused\n"));
 }
 
@@ -199,12 +207,13 @@ fn tiny_share() {
     let (rows, parted) = rows("point 0 0 0 1 1\npoint 2 0 0 1.2e-7 1\n", "1 0 1 -", &["0.5", "1"]);
     assert_eq!(rows[0], "0.5 0 1 0.9999998 0.9999998 3f7ffffd 3f7ffffd 0");
     assert_eq!(rows[1], "1 1 2 1.7881393e-07 1.1999998e-07 34400000 3400d958 4138664");
-    let expected =
-        "# no row parts wholly; the greatest distance is 4138664 floats (u 1), the greatest relative difference 0.33 (u 1)";
+    let expected = "# no row parts wholly; the greatest distance is 4138664 floats (u 1), \
+        the greatest relative difference 0.33 (u 1)";
     assert_eq!(parted, expected);
 }
 
-/// A bench at the centre of a box of two lamps: some u are refused, others draw, and not every lamp has a chance by name.
+/// A bench at the centre of a box of two lamps: some u are refused, others draw, and not every lamp has a chance by
+/// name.
 #[test]
 fn centre_of_a_box() {
     let places = ["0 2", "5 2", "4 1", "5 1", "2 2", "0 0"];
@@ -247,6 +256,8 @@ fn draw() {
     );
     assert_eq!(bad(1, &["draw", "room.txt", "0 0 0 -", "half"], ""), "U, column 1: 'half' is no number");
     assert!(bad(2, &["draw", "room.txt", "nowhere.txt:1", "0"], "").starts_with("nowhere.txt: "));
+    assert_eq!(bad(2, &["draw", "-", "-:1", "0"], ""), "standard input is either the room or the benches");
+    assert!(good(&["draw", "room.txt", "-:2", "0"], "\n1 0 1 - 0.5").contains("1 drawn"));
 }
 
 #[test]
@@ -285,7 +296,10 @@ fn refused_rooms() {
     let nine = "refused 9: a triangle's area is not a finite number above 0, or a group has no triangle";
     wrong("point 1 2 3 1 1\n\nspot 1 2 3 0 0 0 1 1 0.5 0.4", "line 3, column 12: lamp 1, a spot: refused 7: ");
     let group = format!("group 1 1 one {triangle}{flat}{triangle}\npoint 0 0 0 -1 1");
-    wrong(&group, &format!("line 1, column 65: lamp 0, a group, at its triangle 2: {nine}: AREA is 0: write one above 0"));
+    wrong(
+        &group,
+        &format!("line 1, column 65: lamp 0, a group, at its triangle 2: {nine}: AREA is 0: write one above 0"),
+    );
     wrong("point 0 0 0 1 1\npoint 0 0 0 -1 1", "line 2, column 13: lamp 1, a point: refused 8: ");
     wrong("group 1 1 two", &format!("line 1, column 14: lamp 0, a group: {nine}: a triangle belongs here"));
     wrong("point 0x7fc00000 0 0 1 1", "line 1, column 7: lamp 0, a point: refused 5: ");
@@ -296,10 +310,12 @@ fn refused_rooms() {
     );
     wrong(
         &"point 0 0 0 1 1\n".repeat(4097),
-        "refused 2: over 4,096 lamps (columns: 512), weights or table words, 8,191 nodes, or 2^20 words: this room has 4097 lamps",
+        "refused 2: over 4,096 lamps (columns: 512), weights or table words, 8,191 nodes, or 2^20 words: \
+         this room has 4097 lamps",
     );
 
-    // what only the tree refuses: a group's power that is infinite, by its line; powers that are so together, by the room
+    // what only the tree refuses: a group's power that is infinite, by its line; powers that are so together, by the
+    // room
     let report = |room: &str| bad(1, &["report", "-", "benches.txt"], room);
     let infinite = format!("point 0 0 0 1 1\ngroup 1e38 1 one {}", bright.repeat(2));
     assert!(report(&infinite).starts_with("standard input: line 2, column 7: lamp 1, a group: refused 5: "));
@@ -351,15 +367,26 @@ fn help_and_statuses() {
 /// Benches are answered as they come; and who reads no further is not told off.
 #[test]
 fn streams() {
+    for (option, start) in [("--strict", "{:>7} "), ("--csv", "{},"), ("--json", "{\"bench\": {},")] {
+        stream(option, start);
+    }
+}
+
+/// A row begins so, with the bench's line for `{}`.
+fn stream(option: &str, start: &str) {
     use std::io::{BufRead, BufReader};
     let mut command = Command::new(env!("CARGO_BIN_EXE_light"));
-    command.args(["report", "laboratory.txt", "-"]).current_dir(EXAMPLES);
+    command.args(["report", "laboratory.txt", "-", option]).current_dir(EXAMPLES);
     let mut light = command.stdin(Stdio::piped()).stdout(Stdio::piped()).stderr(Stdio::piped()).spawn().unwrap();
-    let (mut input, mut output) = (light.stdin.take().unwrap(), BufReader::new(light.stdout.take().unwrap()).lines());
+    let (mut input, mut output) = (light.stdin.take().unwrap(), BufReader::new(light.stdout.take().unwrap()));
     for number in 1..4 {
         writeln!(input, "1 2 0.9  0 0 1  0.5").unwrap();
-        let row = output.by_ref().map(Result::unwrap).find(|line| !line.starts_with('#')).unwrap();
-        assert!(row.starts_with(&format!("{number:>7} ")), "{row}");
+        let start = start.replace("{:>7}", &format!("{number:>7}")).replace("{}", &number.to_string());
+        // a row of JSON ends when the next one begins
+        let mut read = Vec::new();
+        while !read.ends_with(start.as_bytes()) {
+            assert_ne!(output.read_until(*start.as_bytes().last().unwrap(), &mut read).unwrap(), 0, "{}", text(&read));
+        }
     }
     drop(output);
     while writeln!(input, "1 2 0.9  0 0 1  0.5").is_ok() {}

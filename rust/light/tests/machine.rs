@@ -4,11 +4,11 @@ mod common;
 
 use common::{bad, good, light, temporary, text};
 use std::io::{BufRead, BufReader, Read, Write};
-use std::process::{ChildStdin, ChildStdout, Command, Stdio};
+use std::process::{Child, ChildStdout, Command, Stdio};
 use std::sync::{LazyLock, Mutex};
 
-/// Reads tables from standard input, each behind a line with its form and its length, strictly. Of each it prints the rows, the
-/// fields between tabulators and a JSON number as the text that it is, behind a line with their length.
+/// Reads tables from standard input, each behind a line with its form and its length, strictly. Of each it prints the
+/// rows, the fields between tabulators and a JSON number as the text that it is, behind a line with their length.
 const READER: &str = r#"
 import csv, io, json, sys
 
@@ -41,15 +41,17 @@ while head := sys.stdin.buffer.readline().split():
 "#;
 
 /// One Python for all tests, which takes long to start.
-static PYTHON: LazyLock<Mutex<(ChildStdin, BufReader<ChildStdout>)>> = LazyLock::new(|| {
+static PYTHON: LazyLock<Mutex<(Child, BufReader<ChildStdout>)>> = LazyLock::new(|| {
     let python = Command::new("python3").args(["-c", READER]).stdin(Stdio::piped()).stdout(Stdio::piped()).spawn();
     let mut python = python.expect("python3 is needed to read the tables");
-    Mutex::new((python.stdin.take().unwrap(), BufReader::new(python.stdout.take().unwrap())))
+    let answers = BufReader::new(python.stdout.take().unwrap());
+    Mutex::new((python, answers))
 });
 
 /// What Python reads of a table: the fields' names and the rows, or `wrong` and why.
 fn answered(form: &str, table: &[u8]) -> Vec<Vec<String>> {
-    let (input, output) = &mut *PYTHON.lock().unwrap();
+    let (python, output) = &mut *PYTHON.lock().unwrap();
+    let input = python.stdin.as_mut().unwrap();
     input.write_all(&[format!("{form} {}\n", table.len()).as_bytes(), table].concat()).unwrap();
     let mut length = String::new();
     output.read_line(&mut length).unwrap();
@@ -147,15 +149,21 @@ fn refused_and_none() {
         assert_eq!((field(&unsummed, 0, "sum_of_named"), field(&unsummed, 0, "drawn")), ("", "0.5"));
         assert_eq!(unsummed[0], rows[0]);
     });
-    let none = both(&["draw", "-", "1 0 0 -", "1"], "spot 0 0 2  0 0 1  9 1  0.9 0.8\nspot 3 0 2  0 0 1  9 1  0.9 0.8\n");
-    assert_eq!(["bench", "status", "lamp", "drawn", "apart"].map(|name| field(&none, 0, name)), ["", "none", "", "", ""]);
+    let none =
+        both(&["draw", "-", "1 0 0 -", "1"], "spot 0 0 2  0 0 1  9 1  0.9 0.8\nspot 3 0 2  0 0 1  9 1  0.9 0.8\n");
+    assert_eq!(
+        ["bench", "status", "lamp", "drawn", "apart"].map(|name| field(&none, 0, name)),
+        ["", "none", "", "", ""]
+    );
 }
 
 /// No number of JSON is NaN or infinite: these are strings there, and the same text in both forms.
 #[test]
 fn not_finite() {
-    let rows =
-        both(&["draw", "-", "0 0 0x3a83126f -", "0.5", "0x7fc00000", "0xff800000"], "point 0 0 0 2.387e37 1\npoint 2 0 0 1 1\n");
+    let rows = both(
+        &["draw", "-", "0 0 0x3a83126f -", "0.5", "0x7fc00000", "0xff800000"],
+        "point 0 0 0 2.387e37 1\npoint 2 0 0 1 1\n",
+    );
     let names = ["drawn", "named", "drawn_bits", "apart", "parts_wholly", "sum_of_named"];
     assert_eq!(names.map(|name| field(&rows, 0, name)), ["NaN", "0", "0x7fc00000", "", "true", "NaN"]);
     assert_eq!([1, 2].map(|row| field(&rows, row, "u")), ["NaN", "-Infinity"]);
@@ -206,7 +214,10 @@ fn strict() {
 
 #[test]
 fn one_form() {
-    assert_eq!(bad(2, &["report", "--csv", "--json", "room.txt", "benches.txt"], ""), "light report: either --csv or --json");
+    assert_eq!(
+        bad(2, &["report", "--csv", "--json", "room.txt", "benches.txt"], ""),
+        "light report: either --csv or --json"
+    );
     assert_eq!(bad(2, &["block", "--csv", "--json", "room.txt"], ""), "light block: either --csv or --json");
 }
 

@@ -4,7 +4,8 @@ mod common;
 
 use common::{bad, good, temporary};
 
-/// A name with a quote, a comment's mark and a part's mark; one of a letter behind a blank and before a tabulator; none.
+/// A name with a quote, a comment's mark and a part's mark; one of a letter behind a blank and before a tabulator;
+/// none.
 const NAMED: &str = r###"
 "by the ""#"" window | 1" point 0 0 0 1 1 # left
   "a"	point 2 0 0 1 1
@@ -23,11 +24,16 @@ fn in_a_block() {
 #[test]
 fn in_a_report() {
     let path = temporary("named");
-    std::fs::write(&path, "2 0 1 - 0\n\"ü\" 2 0 1 - 0.5\n\"vice\" 2 0 1 - 1\n2 0 1 - 1\n\"far\" 2 0 1 - 2\n2 0 1 - 2\n").unwrap();
+    std::fs::write(
+        &path,
+        "2 0 1 - 0\n\"ü\" 2 0 1 - 0.5\n\"vice\" 2 0 1 - 1\n2 0 1 - 1\n\"far\" 2 0 1 - 2\n2 0 1 - 2\n",
+    )
+    .unwrap();
     let report = good(&["report", "-", path.to_str().unwrap()], NAMED);
     std::fs::remove_file(path).unwrap();
     // what stands behind the last figure or sentence
-    let behind = |line: &str| line.find("  lamp").or(line.find("  bench")).map_or(String::new(), |at| line[at..].into());
+    let behind =
+        |line: &str| line.find("  lamp").or(line.find("  bench")).map_or(String::new(), |at| line[at..].into());
     let ends: Vec<String> = report.lines().skip(2).take(6).map(behind).collect();
     let [first, second] = [format!("  lamp {FIRST}"), r#"  bench "ü", lamp "a""#.to_string()];
     assert_eq!(ends, [&first, &second, r#"  bench "vice""#, "", r#"  bench "far""#, ""], "{report}");
@@ -36,13 +42,19 @@ fn in_a_report() {
 #[test]
 fn in_draws() {
     let drawn = good(&["draw", "-", "\"vice\" 2 0 1 -", "0"], NAMED);
-    assert!(drawn.starts_with("# bench \"vice\"\n#     u ") && drawn.contains(&format!("0  lamp {FIRST}\n")), "{drawn}");
+    assert!(
+        drawn.starts_with("# bench \"vice\"\n#     u ") && drawn.contains(&format!("0  lamp {FIRST}\n")),
+        "{drawn}"
+    );
 }
 
 #[test]
 fn in_refusals() {
     let said = bad(1, &["block", "-"], "\"on the wall\" point 0 0 0 -1 1");
-    assert!(said.starts_with("standard input: line 1, column 27: lamp 0 \"on the wall\", a point: refused 8: "), "{said}");
+    assert!(
+        said.starts_with("standard input: line 1, column 27: lamp 0 \"on the wall\", a point: refused 8: "),
+        "{said}"
+    );
     // of a lamp at the centre of a box that is the bench's place
     let places = ["0 2", "5 2", "4 1", "5 1", "2 2", "0 0"];
     let room: String = places.iter().map(|place| format!("\"at {place}\" point {place} 0 1 1\n")).collect();

@@ -27,12 +27,18 @@ fn wrong_options() {
             &["report", "--cvs", "a", "b"][..],
             "light report: --cvs is no option of it; the nearest is --csv; `light --help` says more",
         ),
-        (&["block", "--strict", "a"], "light block: --strict is no option of it; the nearest is --csv; `light --help` says more"),
+        (
+            &["block", "--strict", "a"],
+            "light block: --strict is no option of it; the nearest is --csv; `light --help` says more",
+        ),
         (
             &["plan", "--bnech=3", "a", "b"],
             "light plan: --bnech is no option of it; the nearest is --bench; `light --help` says more",
         ),
-        (&["report", "-x", "a", "b"], "light report: -x is no option of it; the nearest is --csv; `light --help` says more"),
+        (
+            &["report", "-x", "a", "b"],
+            "light report: -x is no option of it; the nearest is --csv; `light --help` says more",
+        ),
         (&["report", "--csv=1", "a", "b"], "light report: --csv has no value"),
         (&["plan", "a", "b", "--bench"], "light plan: --bench wants a value, --bench LINE"),
         (&["plan", "room.txt", "benches.txt", "--bench", "x"], "--bench: 'x' is no whole number"),
@@ -63,7 +69,10 @@ fn help_and_version() {
         assert_eq!(good(&[command.name, "nowhere.txt", "--help"], ""), help);
         assert!(help.starts_with(&format!("{}\n\n", command.usage())), "{help}");
         assert!(help.lines().all(|line| line.chars().count() <= 100 && line.trim_end() == line), "{help}");
-        assert!(all.contains(&format!("    {}", &command.usage()["light ".len()..])) && all.contains(command.text), "{all}");
+        assert!(
+            all.contains(&format!("    {}", &command.usage()["light ".len()..])) && all.contains(command.text),
+            "{all}"
+        );
         for choice in command.all_choices() {
             assert!(help.contains(&format!("    {}", choice.usage())) && help.contains(choice.text), "{help}");
         }
@@ -83,13 +92,16 @@ fn manual_page() {
     // no line of the text is read as roff's own
     let own = [".TH ", ".SH ", ".SS ", ".B ", ".br", ".nf", ".fi"];
     let dotted = page.lines().filter(|line| line.starts_with(['.', '\'']));
-    assert!(dotted.clone().count() > 0 && dotted.clone().all(|line| own.iter().any(|own| line.starts_with(own))), "{page}");
+    assert!(
+        dotted.clone().count() > 0 && dotted.clone().all(|line| own.iter().any(|own| line.starts_with(own))),
+        "{page}"
+    );
 }
 
 /// What bash completes.
 fn completed(words: &[&str]) -> String {
-    let script =
-        "source <(\"$0\" completions bash); COMP_WORDS=(\"$@\"); COMP_CWORD=$(($# - 1)); _light; echo \"${COMPREPLY[*]}\"";
+    let script = "source <(\"$0\" completions bash); COMP_WORDS=(\"$@\"); COMP_CWORD=$(($# - 1)); _light; \
+        echo \"${COMPREPLY[*]}\"";
     let mut bash = Command::new("bash");
     bash.args(["-c", script, env!("CARGO_BIN_EXE_light"), "light"]).args(words).current_dir(EXAMPLES);
     let output = bash.output().unwrap();
