@@ -27,7 +27,7 @@ pub enum Form {
 }
 
 /// Above so many triangles a panel is drawn by the box around it.
-const MANY_TRIANGLES: usize = 256;
+const MANY_TRIANGLES: usize = 64;
 
 pub fn marks(lamps: &[Lamp]) -> Vec<Mark> {
     (0..).zip(lamps).map(|(handle, lamp)| mark(handle, lamp)).collect()

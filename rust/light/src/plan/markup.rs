@@ -152,12 +152,14 @@ impl Svg {
         self.text += "</g>";
     }
 
-    /// The drawing, so wide and high from a corner on, with what is said of it to those who do not see it.
+    /// The drawing, so wide and high from a corner on, with what is said of it to those who do not see it. One with links
+    /// is a group of them, others are pictures.
     pub fn drawing(self, class: &str, view: Box2, label: &str) -> String {
+        let role = if self.text.contains("<a ") { "group" } else { "img" };
         let [x, y, w, h] = [view.x, view.y, view.w, view.h].map(px);
         let label = escaped(label);
         format!(
-            "<svg xmlns=\"http://www.w3.org/2000/svg\" class=\"{class}\" viewBox=\"{x} {y} {w} {h}\" role=\"img\" \
+            "<svg xmlns=\"http://www.w3.org/2000/svg\" class=\"{class}\" viewBox=\"{x} {y} {w} {h}\" role=\"{role}\" \
              aria-label=\"{label}\">{}</svg>",
             self.text
         )
