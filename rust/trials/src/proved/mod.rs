@@ -10,8 +10,8 @@ use crate::inputs::walks::{Chance, Drawn};
 use crate::stored::PATTERN;
 
 pub use c::{
-    abs, acos, asin, ceil, clamp, cos, f32_of_word, f64_of_word, floor, is_sign_negative, max, min, narrow, round, sin, sqrt,
-    sqrt64, to_u16, to_u32, to_usize, widen, word_of_f32, word_of_f64,
+    abs, acos, asin, ceil, clamp, cos, f32_of_word, f64_of_word, floor, is_sign_negative, max, min, narrow, round, sin,
+    sqrt, sqrt64, to_u16, to_u32, to_usize, widen, word_of_f32, word_of_f64,
 };
 
 /// One more than the greatest number of a refusal; 0 stands for an answer given.
@@ -114,8 +114,9 @@ pub fn sampler_sample(nodes: &[u8], query: &Query, u: f32) -> Drawn {
 /// The chance of a lamp by its handle, over a tree's nodes and table as bytes.
 pub fn sampler_pmf(nodes: &[u8], table: &[u8], query: &Query, handle: u32) -> Chance {
     let [px, py, pz, nx, ny, nz] = query.map(f32::from_bits);
-    let answer =
-        unsafe { c::light_pmf(nodes.as_ptr(), nodes.len(), table.as_ptr(), table.len(), px, py, pz, nx, ny, nz, handle) };
+    let answer = unsafe {
+        c::light_pmf(nodes.as_ptr(), nodes.len(), table.as_ptr(), table.len(), px, py, pz, nx, ny, nz, handle)
+    };
     match answer >> 32 {
         0 => Ok(answer as u32),
         1 => Err(answer as u32),
