@@ -1,10 +1,12 @@
-// What tools/browser asks of a page: how wide each bar and its runs are, which words overlap or stick out, what lights up.
+// What tools/browser asks of a page: how wide bars and runs are, which words overlap or stick out, what lights up.
 const box = (e) => e.getBoundingClientRect();
 const words = (svg) => [...svg.querySelectorAll('text')].map((e) => [e.textContent, box(e)]);
-const apart = (a, b) => a.right - 1.5 <= b.left || b.right - 1.5 <= a.left || a.bottom - 4 <= b.top || b.bottom - 4 <= a.top;
+const beside = (a, b) => a.right - 1.5 <= b.left || b.right - 1.5 <= a.left;
+const apart = (a, b) => beside(a, b) || a.bottom - 4 <= b.top || b.bottom - 4 <= a.top;
 const pairs = (all) => all.flatMap(([name, a], at) =>
     all.slice(at + 1).filter(([, b]) => !apart(a, b)).map(([other]) => name + ' on ' + other));
-const sticksOut = (a, b) => a.left < b.left - 3 || a.right > b.right + 3 || a.top < b.top - 3 || a.bottom > b.bottom + 3;
+const sticksOut = (a, b) =>
+    a.left < b.left - 3 || a.right > b.right + 3 || a.top < b.top - 3 || a.bottom > b.bottom + 3;
 const outside = (svg) => words(svg).filter(([, a]) => sticksOut(a, box(svg))).map(([name]) => name);
 const bench = (section) => {
     const svgs = [...section.querySelectorAll('svg')];

@@ -10,8 +10,8 @@ use std::time::{Duration, Instant};
 
 // ---- well-formed
 
-/// What is wrong with a page as XML, if anything: tags that do not close, attributes without quotes or given twice, unknown
-/// entities, characters that XML cannot hold. A page has neither comments nor instructions.
+/// What is wrong with a page as XML, if anything: tags that do not close, attributes without quotes or given twice,
+/// unknown entities, characters that XML cannot hold. A page has neither comments nor instructions.
 fn fault(page: &str) -> Option<String> {
     let Some(mut rest) = page.strip_prefix("<!DOCTYPE html>\n") else { return Some("no doctype".into()) };
     let mut open: Vec<&str> = Vec::new();
@@ -41,7 +41,8 @@ fn fault(page: &str) -> Option<String> {
 
 fn wrong_text(text: &str) -> Option<String> {
     let entities = ["&amp;", "&lt;", "&gt;", "&quot;", "&#39;"];
-    let unknown = text.match_indices('&').find(|(at, _)| !entities.iter().any(|entity| text[*at..].starts_with(entity)));
+    let is_known = |at: usize| entities.iter().any(|entity| text[at..].starts_with(entity));
+    let unknown = text.match_indices('&').find(|(at, _)| !is_known(*at));
     let control = text.chars().find(|c| c.is_control() && *c != '\n');
     unknown.map(|(at, _)| text[at..].chars().take(20).collect()).or(control.map(String::from))
 }
@@ -54,7 +55,8 @@ fn are_attributes(text: &str) -> bool {
         let Some((name, behind)) = rest.split_once("=\"") else { return false };
         let Some((value, behind)) = behind.split_once('"') else { return false };
         let is_name = !name.is_empty() && name.bytes().all(|c| c.is_ascii_alphanumeric() || c == b'-');
-        if !is_name || names.contains(&name) || wrong_text(value).is_some() || (!behind.is_empty() && !behind.starts_with(' ')) {
+        let is_apart = behind.is_empty() || behind.starts_with(' ');
+        if !is_name || names.contains(&name) || wrong_text(value).is_some() || !is_apart {
             return false;
         }
         names.push(name);
@@ -121,10 +123,10 @@ fn columns_are_the_reports() {
         report.lines().filter(|line| !line.starts_with('#')).map(|line| line.split_whitespace().collect()).collect();
     assert_eq!((rows.len(), page.matches("<section ").count()), (20, 20));
     for row in rows {
-        let [line, lamp, lamp_line, drawn, named, drawn_bits, named_bits, apart, ..] = row[..] else { panic!("{row:?}") };
+        let [line, lamp, at, drawn, named, drawn_bits, named_bits, apart, ..] = row[..] else { panic!("{row:?}") };
         let section = section(&page, line);
         assert!(section.contains(&format!("Looks at <b>lamp {lamp}</b>, a ")), "bench {line}");
-        assert!(section.contains(&format!(" in line {lamp_line}, with chance <b>")), "bench {line}");
+        assert!(section.contains(&format!(" in line {at}, with chance <b>")), "bench {line}");
         for (figure, bits) in [(drawn, drawn_bits), (named, named_bits)] {
             assert!(section.contains(&format!("<td>{figure}</td><td class=\"m\">{bits}</td>")), "bench {line}");
         }
@@ -161,12 +163,63 @@ fn a_bench_of_none() {
     assert!(page.contains("<td>▸ 54</td>"));
 }
 
+/// Each lamp is shaded by its chance: the fill of its mark is that of its step, on the plan and in the heights.
+#[test]
+fn lamps_are_shaded_by_chance() {
+    let fills = ["#ecf1f8", "#b9cee8", "#83abd9", "#4d88c4", "#2264a4", "#0f3f75"];
+    let steps = [0.0, 0.001, 0.01, 0.03, 0.1, 0.3];
+    let page = laboratory();
+    let mut shaded = 0;
+    for drawing in between(&page, "class=\"plan\"", "</svg>") {
+        for lamp in between(drawing, "<g data-l=", "</g>") {
+            let chance = between(lamp, ": chance ", " (").first().and_then(|chance| chance.parse::<f32>().ok());
+            let Some(chance) = chance else {
+                assert!(lamp.contains("stroke-dasharray"), "{lamp}");
+                continue;
+            };
+            let step = steps.iter().rposition(|from| chance >= *from).unwrap();
+            assert!(lamp.contains(&format!("fill=\"{}\"", fills[step])), "{lamp}");
+            shaded += 1;
+        }
+    }
+    // each bench has some 36 lamps with a chance, drawn twice
+    assert!(shaded > 20 * 2 * 30, "{shaded}");
+}
+
+/// The tree's way: the shares of the sides taken multiply to the chance of the lamp drawn.
+#[test]
+fn shares_of_the_way_make_the_chance() {
+    let mut numbers = Numbers(3);
+    let points = (0..100).map(|_| numbers.point(20.0));
+    let lamps: String = points.map(|[x, y, z]| format!("point {x} {y} {z} 5 1\n")).collect();
+    let page = page(&lamps, "9 9 1 - 0.1\n9 9 1 - 0.5\n3 3 3 - 0.9\n");
+    for section in between(&page, "<section ", "</section>") {
+        let taken = between(section, "<title>", "</title>").into_iter().filter(|title| title.ends_with("; taken"));
+        let share = |title: &str| title.split([' ', ':']).nth(1).and_then(|share| share.parse::<f64>().ok()).unwrap();
+        let product: f64 = taken.map(share).product();
+        let chance: f64 = between(section, "drawn, on the way down</th><td>", "<")[0].parse().unwrap();
+        assert!((product / chance - 1.0).abs() < 1e-5, "{product} is not {chance}");
+    }
+}
+
+/// A panel of two triangles is drawn by its outline: four corners, and no line between the triangles.
+#[test]
+fn panels_by_their_outline() {
+    let page = page(
+        "group 9 1 one | 0 0 3  4 0 3  4 2 3  4  0 0 -1 | 0 0 3  4 2 3  0 2 3  4  0 0 -1\npoint 9 5 2 1 1\n",
+        "5 3 1 0 0 1 0.5\n",
+    );
+    let panel = between(&page, "<g data-l=\"0\">", "</g>")[0];
+    let way = between(panel, " d=\"", "\"")[0];
+    assert_eq!((way.matches('M').count(), way.matches('L').count(), way.matches('Z').count()), (1, 3, 1), "{way}");
+}
+
 // ---- odd rooms and benches
 
 #[test]
 fn names_are_escaped() {
-    let page =
-        page("\"<b>&amp;'\"\"\" point 1 2 3 4 5\n\"]]>\" spot 3 2 3 0 0 -1 9 1 0.9 0.8\n", "\"</h2><script>\" 1 1 1 0 0 1 0.5");
+    let lamps = "\"<b>&amp;'\"\"\" point 1 2 3 4 5\n\"]]>\" spot 3 2 3 0 0 -1 9 1 0.9 0.8\n";
+    let page = page(lamps, "\"</h2><script>\" 1 1 1 0 0 1 0.5");
     assert!(page.contains("lamp 0 “&lt;b&gt;&amp;amp;&#39;&quot;”") && !page.contains("<b>&amp;amp;"));
     assert!(page.contains("“&lt;/h2&gt;&lt;script&gt;”") && page.matches("<script>").count() == 1);
 }
@@ -176,7 +229,8 @@ fn names_are_escaped() {
 fn needs_no_network() {
     let page = laboratory();
     let addresses = between(&page, "http", "\"");
-    assert!(addresses.iter().all(|rest| ["://www.w3.org/2000/svg", "://www.w3.org/1999/xhtml"].contains(rest)), "{addresses:?}");
+    let kinds = ["://www.w3.org/2000/svg", "://www.w3.org/1999/xhtml"];
+    assert!(addresses.iter().all(|rest| kinds.contains(rest)), "{addresses:?}");
     assert!(!page.contains(" src=") && !page.contains("@import") && !page.contains("<link"));
 }
 
@@ -184,7 +238,8 @@ fn needs_no_network() {
 fn rooms_without_light() {
     let benches = "1 1 1 0 0 1 0.5\n";
     let empty = page("# nothing\n", benches);
-    assert!(empty.contains("0 lamps, none with power") && empty.contains("Looks at no lamp: none in this room has power."));
+    assert!(empty.contains("0 lamps, none with power"));
+    assert!(empty.contains("Looks at no lamp: none in this room has power."));
     let dark = page("point 1 2 3 4 0\npoint 2 2 3 4 0\n", benches);
     assert!(dark.contains("Of 2 lamps: 2 without power.") && dark.contains("100 %"));
     let one = page("point 1 2 3 4 1\n", benches);
@@ -221,14 +276,15 @@ fn parts_of_u_that_are_refused() {
     let page = page(&format!("{near}point 100 0 1 9e4 1\npoint 101 0 1 9e4 1\n"), "0 0 1 - 0.999\n0 0 1 - 0\n");
     let sections = between(&page, "<section ", "</section>");
     let refused = |section: &&str| section.contains("Not answered, refused 7: ");
-    let shown = |section: &&str| section.contains(" of all u are refused, since a branch there cannot be weighed");
+    let shown = |section: &&str| section.contains(" of all u are refused, since a branch cannot be weighed");
     assert_eq!(sections.iter().filter(|section| refused(section)).count(), 1);
     assert_eq!(sections.iter().filter(|section| shown(section)).count(), 1);
 }
 
 #[test]
 fn wrong_calls() {
-    assert_eq!(bad(1, &["plan", "laboratory.txt", "benches.txt", "--bench", "2"], ""), "benches.txt: line 2: there is no bench");
+    let absent = bad(1, &["plan", "laboratory.txt", "benches.txt", "--bench", "2"], "");
+    assert_eq!(absent, "benches.txt: line 2: there is no bench");
     assert_eq!(bad(1, &["plan", "-", "benches.txt"], "pint"), bad(1, &["report", "-", "benches.txt"], "pint"));
     assert_eq!(bad(1, &["plan", "laboratory.txt", "-"], "1 1"), bad(1, &["report", "laboratory.txt", "-"], "1 1"));
     bad(2, &["plan", "-", "-"], "");

@@ -12,7 +12,8 @@ fn bulb(world_position: [f32; 3], scale: f32) -> Lamp {
 fn panel([x, y, z]: [f32; 3], [width, depth]: [f32; 2]) -> Lamp {
     let corner = |i: f32, j: f32| [x + i * width / 2.0, y + j * depth / 2.0, z];
     let [a, b, c, d] = [corner(-1.0, -1.0), corner(1.0, -1.0), corner(1.0, 1.0), corner(-1.0, 1.0)];
-    let half = |world_positions| Triangle { world_positions, area: width * depth / 2.0, geometric_normal: [0.0, 0.0, -1.0] };
+    let half =
+        |world_positions| Triangle { world_positions, area: width * depth / 2.0, geometric_normal: [0.0, 0.0, -1.0] };
     Lamp::Group { triangles: vec![half([a, b, c]), half([a, c, d])], emission_max: 8.0, scale: 1.0, two_sided: false }
 }
 

@@ -135,7 +135,13 @@ pub(crate) fn write_spot(list: &mut Vec<u32>, handle: u32, position: [f32; 3], d
     extend(list, &figures);
 }
 
-pub(crate) fn write_group(list: &mut Vec<u32>, handle: u32, figures: [f32; 2], two_sided: bool, triangles: &[Triangle]) {
+pub(crate) fn write_group(
+    list: &mut Vec<u32>,
+    handle: u32,
+    figures: [f32; 2],
+    two_sided: bool,
+    triangles: &[Triangle],
+) {
     list.push(head(GROUP.0, handle));
     extend(list, &figures);
     list.extend([two_sided.into(), u32::try_from(triangles.len()).unwrap_or(u32::MAX)]);

@@ -35,8 +35,8 @@ use crate::{AliasTable, Block, LightTree};
 use std::ops::Deref;
 
 pub use crate::{
-    Bounds3, EXHAUSTIVE_BOUNDS_WORDS, INVALID_INDEX, LIGHT_BVH_HEADER_WORDS, LIGHT_BVH_NODE_WORDS, LightBVHNode, LightBounds,
-    PackedLightBVH, PowerAliasBin, Refusal, Triangle as AreaTriangleInput,
+    Bounds3, EXHAUSTIVE_BOUNDS_WORDS, INVALID_INDEX, LIGHT_BVH_HEADER_WORDS, LIGHT_BVH_NODE_WORDS, LightBVHNode,
+    LightBounds, PackedLightBVH, PowerAliasBin, Refusal, Triangle as AreaTriangleInput,
 };
 
 /// The greatest handle or place that can be packed.
@@ -113,7 +113,15 @@ impl LightBoundInput {
             LightBoundInput::Point { handle, world_position, intensity_max, scale } => {
                 write_point(list, *handle, *world_position, [*intensity_max, *scale])
             }
-            LightBoundInput::Spot { handle, world_position, direction, intensity_max, scale, cos_theta_o, cos_falloff_end } => {
+            LightBoundInput::Spot {
+                handle,
+                world_position,
+                direction,
+                intensity_max,
+                scale,
+                cos_theta_o,
+                cos_falloff_end,
+            } => {
                 let figures = [*intensity_max, *scale, *cos_theta_o, *cos_falloff_end];
                 write_spot(list, *handle, *world_position, *direction, figures)
             }
@@ -239,7 +247,12 @@ pub fn build_light_bvh<Light>(lights: &[Light], light_bounds: &[LightBounds]) ->
 /// assert_eq!(bvh_light_sampler_sample(&bvh, [0.0; 3], [0.0; 3], 0.5)?, None);
 /// # Ok::<(), Refusal>(())
 /// ```
-pub fn bvh_light_sampler_sample(bvh: &LightBVH, p: [f32; 3], n: [f32; 3], u: f32) -> Result<Option<(u32, f32)>, Refusal> {
+pub fn bvh_light_sampler_sample(
+    bvh: &LightBVH,
+    p: [f32; 3],
+    n: [f32; 3],
+    u: f32,
+) -> Result<Option<(u32, f32)>, Refusal> {
     bvh.tree.sample(p, n, u)
 }
 

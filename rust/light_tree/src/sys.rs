@@ -31,7 +31,17 @@ unsafe extern "C" {
         answer: *mut u32,
         answer_len: usize,
     ) -> u32;
-    fn light_sample(nodes: *const u8, nodes_len: usize, px: f32, py: f32, pz: f32, nx: f32, ny: f32, nz: f32, u: f32) -> u64;
+    fn light_sample(
+        nodes: *const u8,
+        nodes_len: usize,
+        px: f32,
+        py: f32,
+        pz: f32,
+        nx: f32,
+        ny: f32,
+        nz: f32,
+        u: f32,
+    ) -> u64;
     fn light_pmf(
         nodes: *const u8,
         nodes_len: usize,
@@ -150,7 +160,12 @@ pub(crate) fn pmf(nodes: &[u32], table: &[u32], p: [f32; 3], n: [f32; 3], handle
 }
 
 /// Nodes to packed rows of eight words, the header first: how many words, or none where there is no tree.
-pub(crate) fn pack(nodes: &[u32], k: usize, all: Option<Bounds3>, out: &mut [[u32; 8]]) -> Result<Option<usize>, Refusal> {
+pub(crate) fn pack(
+    nodes: &[u32],
+    k: usize,
+    all: Option<Bounds3>,
+    out: &mut [[u32; 8]],
+) -> Result<Option<usize>, Refusal> {
     let nodes = bytes(nodes);
     let present = all.is_some().into();
     let Bounds3 { min: [a, b, c], max: [d, e, f] } = all.unwrap_or(Bounds3 { min: [0.0; 3], max: [0.0; 3] });
@@ -165,7 +180,11 @@ pub(crate) fn pack(nodes: &[u32], k: usize, all: Option<Bounds3>, out: &mut [[u3
 }
 
 /// Weights to bins. Work is lent as bins, of three words each.
-pub(crate) fn alias_table(weights: &[f32], bins: &mut [PowerAliasBin], work: &mut [PowerAliasBin]) -> Result<(), Refusal> {
+pub(crate) fn alias_table(
+    weights: &[f32],
+    bins: &mut [PowerAliasBin],
+    work: &mut [PowerAliasBin],
+) -> Result<(), Refusal> {
     let (bins, bins_len) = (bins.as_mut_ptr().cast(), 3 * bins.len());
     let (work, work_len) = (work.as_mut_ptr().cast(), 3 * work.len());
     // SAFETY: as said above; `PowerAliasBin` is `repr(C)`, two floats and a word.

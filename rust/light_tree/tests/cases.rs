@@ -33,7 +33,10 @@ fn pair_case() {
 
     let packed = tree.pack().unwrap().unwrap();
     assert_eq!(packed.header_words, [0, 0, 0, 0, 0x4000_0000, 0, 0, 0]);
-    assert_eq!(packed.node_words[2], [0x0000_ffff, 0xffff_0000, 0, 0x8000_8000, 0x3f80_0000, 0x1fff_8000, 0x8000_0001, 0]);
+    assert_eq!(
+        packed.node_words[2],
+        [0x0000_ffff, 0xffff_0000, 0, 0x8000_8000, 0x3f80_0000, 0x1fff_8000, 0x8000_0001, 0]
+    );
     assert_eq!(packed.handle_to_leaf, [1, 2]);
 }
 
@@ -49,13 +52,15 @@ fn pair_exchanged() {
 #[test]
 fn three_lamps_at_one_point() {
     let tree = LightTree::build(&[bulb([1.0; 3], 1.0); 3]).unwrap();
-    let leaves: Vec<usize> = tree.nodes().enumerate().filter(|(_, node)| node.is_leaf()).map(|(place, _)| place).collect();
+    let leaves: Vec<usize> =
+        tree.nodes().enumerate().filter(|(_, node)| node.is_leaf()).map(|(place, _)| place).collect();
     assert_eq!(leaves, [1, 3, 4]);
     assert_eq!(tree.handle_to_leaf(), [1, 3, 4]);
     assert_eq!(tree.bounded_handles().collect::<Vec<_>>(), [0, 1, 2]);
     let forks: Vec<_> = tree.nodes().map(|node| (node.right_child(), node.parent(), node.light_handle())).collect();
     let none = INVALID_INDEX;
-    let expected = [(Some(2), none, None), (None, 0, Some(0)), (Some(4), 0, None), (None, 2, Some(1)), (None, 2, Some(2))];
+    let expected =
+        [(Some(2), none, None), (None, 0, Some(0)), (Some(4), 0, None), (None, 2, Some(1)), (None, 2, Some(2))];
     assert_eq!(forks, expected);
 }
 
@@ -126,7 +131,8 @@ fn limits() {
     assert_eq!(bounds_block(&vec![point(-1.0); MAX_LAMPS + 1]), Err(Refusal::Crowded));
     assert_eq!(lamp_list(&vec![point(1.0); MAX_LAMPS + 1]), Err(Refusal::Crowded));
     let triangle = Triangle { world_positions: [[0.0; 3]; 3], area: 1.0, geometric_normal: [0.0, 0.0, 1.0] };
-    let group = |count| Lamp::Group { triangles: vec![triangle; count], emission_max: 1.0, scale: 1.0, two_sided: true };
+    let group =
+        |count| Lamp::Group { triangles: vec![triangle; count], emission_max: 1.0, scale: 1.0, two_sided: true };
     // one word, and five and thirteen a triangle: 80,659 are the most that fit 2^20
     assert!(bounds_block(&[group(80_659)]).is_ok());
     assert_eq!(bounds_block(&[group(80_660)]), Err(Refusal::Crowded));
@@ -180,15 +186,21 @@ fn checks() {
         assert_eq!(LightTree::build(&[good, wrong]), Err(refusal));
     }
     // bounds that pass, but whose powers together do not
-    assert_eq!(LightTree::build(&[bulb([0.0; 3], HUGE), bulb([1.0; 3], HUGE), bulb([2.0; 3], HUGE)]), Err(Refusal::LostUnion));
+    assert_eq!(
+        LightTree::build(&[bulb([0.0; 3], HUGE), bulb([1.0; 3], HUGE), bulb([2.0; 3], HUGE)]),
+        Err(Refusal::LostUnion)
+    );
 }
 
 /// A group's triangles are joined one by one: two whose powers add up to infinity pass, and build refuses their
 /// bounds; a third cannot be joined to these.
 #[test]
 fn triangles() {
-    let half =
-        Triangle { world_positions: [[0.0; 3], [1.0, 0.0, 0.0], [0.0, 1.0, 0.0]], area: 1.0, geometric_normal: [0.0, 0.0, 1.0] };
+    let half = Triangle {
+        world_positions: [[0.0; 3], [1.0, 0.0, 0.0], [0.0, 1.0, 0.0]],
+        area: 1.0,
+        geometric_normal: [0.0, 0.0, 1.0],
+    };
     let group = |count| Lamp::Group { triangles: vec![half; count], emission_max: 1e38, scale: 1.0, two_sided: false };
     let phi = |count| bounds_block(&[group(count)]).map(|block| block.records().next().unwrap().phi.to_bits());
     assert_eq!([1, 2].map(phi), [Ok(0x7f6c_58e0), Ok(0x7f80_0000)]);

@@ -17,7 +17,10 @@ fn refused(weights: &[f32], rooms: [usize; 2], number: u32) {
     assert_eq!(answer, Err(number), "{} weights, rooms {rooms:?}", weights.len());
     for (words, per_weight) in lent.iter().zip([3, 4]) {
         let zeros = if number == 8 { per_weight * weights.len() } else { 0 };
-        assert!(words.iter().enumerate().all(|(i, word)| *word == if i < zeros { 0 } else { PATTERN }), "{number}: {words:08x?}");
+        assert!(
+            words.iter().enumerate().all(|(i, word)| *word == if i < zeros { 0 } else { PATTERN }),
+            "{number}: {words:08x?}"
+        );
     }
 }
 

@@ -34,8 +34,9 @@ impl Tree {
 
     fn line(&self, query: &Query, u: u32) -> String {
         let shown = sampler_sample(&self.nodes, query, f32::from_bits(u)).and_then(|drawn| {
-            let named =
-                |(handle, chance)| sampler_pmf(&self.nodes, &self.table, query, handle).map(|by_name| (handle, chance, by_name));
+            let named = |(handle, chance)| {
+                sampler_pmf(&self.nodes, &self.table, query, handle).map(|by_name| (handle, chance, by_name))
+            };
             drawn.map(named).transpose()
         });
         match shown {
@@ -153,7 +154,8 @@ fn pieces() {
     let mut random = Random::new(6);
     let (room, block) = office(&mut random, 40);
     let groups = office_groups(&mut random, &room, 2100);
-    let input = [bytes(&block), groups.iter().flat_map(|(query, u)| bytes(&[&query[..], &[*u]].concat())).collect()].concat();
+    let input =
+        [bytes(&block), groups.iter().flat_map(|(query, u)| bytes(&[&query[..], &[*u]].concat())).collect()].concat();
     let whole = programs::answer("columns", &input);
     assert_eq!(whole.iter().filter(|byte| **byte == b'\n').count(), 2101);
     for pieces in [&[1, 2, 4093][..], &[3, 57_343], &[2245, 1], &[2247, 57_344]] {
@@ -166,7 +168,8 @@ fn pieces() {
 fn no_output_and_no_input() {
     let (room, block) = office(&mut Random::new(7), 16);
     let groups = office_groups(&mut Random::new(8), &room, 5000);
-    let input = [bytes(&block), groups.iter().flat_map(|(query, u)| bytes(&[&query[..], &[*u]].concat())).collect()].concat();
+    let input =
+        [bytes(&block), groups.iter().flat_map(|(query, u)| bytes(&[&query[..], &[*u]].concat())).collect()].concat();
     for input in [&input[..], &bytes(&[513]), &[]] {
         assert_eq!(programs::complaint("columns", input), "columns: standard output could not be written whole\n");
     }
@@ -203,7 +206,9 @@ fn columns_apart() {
 #[test]
 fn offices() {
     let mut random = Random::new(4);
-    for (lamps, count) in [(64, 100_000), (512, 20_000), (512, CHUNK), (7, 2 * CHUNK), (130, CHUNK - 1), (3, CHUNK + 1), (1, 1)] {
+    for (lamps, count) in
+        [(64, 100_000), (512, 20_000), (512, CHUNK), (7, 2 * CHUNK), (130, CHUNK - 1), (3, CHUNK + 1), (1, 1)]
+    {
         let (room, block) = office(&mut random, lamps);
         let lines = agrees(&block, &office_groups(&mut random, &room, count));
         assert_eq!(lines.lines().count(), count);

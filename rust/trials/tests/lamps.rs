@@ -20,7 +20,10 @@ fn refused(list: &[u32], room: usize, number: u32) {
     let (answer, block) = built(list, room);
     assert_eq!(answer, Err(number), "{:08x?}, room {room}", &list[..list.len().min(40)]);
     let zeros = if number < 5 { 0 } else { 1 + BLOCK_RECORD * list[0] as usize };
-    assert!(block.iter().enumerate().all(|(i, word)| *word == if i < zeros { 0 } else { PATTERN }), "{number}: {block:08x?}");
+    assert!(
+        block.iter().enumerate().all(|(i, word)| *word == if i < zeros { 0 } else { PATTERN }),
+        "{number}: {block:08x?}"
+    );
 }
 
 fn words(figures: &[f32]) -> Vec<u32> {
@@ -102,7 +105,8 @@ fn order_of_checks() {
         changes.iter().for_each(|(at, word)| lamp[*at] = *word);
         lamp
     };
-    let lamp_refused = |lamp: &[u32], changes: &[(usize, u32)], number| refused(&list_of([with(lamp, changes)]), 16, number);
+    let lamp_refused =
+        |lamp: &[u32], changes: &[(usize, u32)], number| refused(&list_of([with(lamp, changes)]), 16, number);
     let (corners, area, normal) = ([(5, nan), (8, nan), (11, nan)], (14, 0), (17, 0));
     let overflow = [(1, 3e38f32.to_bits()), (2, 3e38f32.to_bits())];
     lamp_refused(&spot, &[(7, nan), (1, nan)], 8);
@@ -125,7 +129,8 @@ fn order_of_checks() {
 /// Powers that overflow, in a lamp (5) and in a union (10), and powers that vanish.
 #[test]
 fn powers() {
-    let point = |intensity: f32, scale: f32| list_of([[vec![1 << 30], words(&[1.0, 2.0, 3.0, intensity, scale])].concat()]);
+    let point =
+        |intensity: f32, scale: f32| list_of([[vec![1 << 30], words(&[1.0, 2.0, 3.0, intensity, scale])].concat()]);
     refused(&point(0.0, 3e38), 16, 5);
     refused(&point(f32::NAN, 1.0), 16, 8);
     let phi = |list: &[u32]| built(list, 15).1[11];

@@ -67,7 +67,11 @@ fn list_of(lamps: &[Lamp]) -> Vec<u32> {
             }
             Lamp::Spot { world_position, direction, intensity_max, scale, cos_theta_o, cos_falloff_end } => {
                 list.push(0x8000_0000 | handle);
-                list.extend(words(&[world_position, direction, &[*intensity_max, *scale, *cos_theta_o, *cos_falloff_end]]));
+                list.extend(words(&[
+                    world_position,
+                    direction,
+                    &[*intensity_max, *scale, *cos_theta_o, *cos_falloff_end],
+                ]));
             }
             Lamp::Group { triangles, emission_max, scale, two_sided } => {
                 list.push(0xc000_0000 | handle);
@@ -89,7 +93,15 @@ fn input_of((handle, lamp): (u32, &Lamp)) -> LightBoundInput {
             LightBoundInput::Point { handle, world_position, intensity_max, scale }
         }
         Lamp::Spot { world_position, direction, intensity_max, scale, cos_theta_o, cos_falloff_end } => {
-            LightBoundInput::Spot { handle, world_position, direction, intensity_max, scale, cos_theta_o, cos_falloff_end }
+            LightBoundInput::Spot {
+                handle,
+                world_position,
+                direction,
+                intensity_max,
+                scale,
+                cos_theta_o,
+                cos_falloff_end,
+            }
         }
         Lamp::Group { triangles, emission_max, scale, two_sided } => {
             LightBoundInput::AreaGroup { handle, triangles, emission_max, scale, two_sided }

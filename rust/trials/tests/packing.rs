@@ -68,15 +68,25 @@ fn marked_cases() {
     assert_eq!(words(&out)[..8], [0, 0, 0, 0, 0x4000_0000, 0, 0, 0]);
     // 0.5 in 0 to 1: 32767 down, 32768 up; min = max gives 0
     let half = 0.5f32.to_bits();
-    let [lows, middle, highs, ..] = pair.changed(&[(1, 3, half), (1, 6, half)]).in_box([0.0; 3], [1.0, 0.0, -0.0]).packed()[1];
+    let [lows, middle, highs, ..] =
+        pair.changed(&[(1, 3, half), (1, 6, half)]).in_box([0.0; 3], [1.0, 0.0, -0.0]).packed()[1];
     assert_eq!([lows, middle, highs], [32767, 32768 << 16, 0]);
     // cosines -1, 0, 1: 0, 16383, 32767
     for (cosine, quantized) in [(-1f32, 0), (0.0, 16383), (-0.0, 16383), (1.0, 32767)] {
         for side in [0, 1] {
-            let cones =
-                [(1, 13, cosine.to_bits()), (1, 14, 0), (2, 13, (-1f32).to_bits()), (2, 14, cosine.to_bits()), (2, 15, side)];
+            let cones = [
+                (1, 13, cosine.to_bits()),
+                (1, 14, 0),
+                (2, 13, (-1f32).to_bits()),
+                (2, 14, cosine.to_bits()),
+                (2, 15, side),
+            ];
             let packed = pair.changed(&cones).packed();
-            assert_eq!([packed[1][5], packed[2][5]], [quantized | 16383 << 15, quantized << 15 | side << 30], "{cosine}");
+            assert_eq!(
+                [packed[1][5], packed[2][5]],
+                [quantized | 16383 << 15, quantized << 15 | side << 30],
+                "{cosine}"
+            );
         }
     }
     // direction (0, 0, -1), and others: folded by each one's own sign, -0 too
@@ -113,7 +123,10 @@ fn box_by_value() {
         assert_eq!(packed(0, corners, k, &nodes), (Err(12), vec![0; room]));
         for present in [0, 1] {
             assert_eq!(packed(present, corners, k, &nodes[1..]), (Err(1), vec![0xa5; room]));
-            assert_eq!(packed(present, corners, k, &vec![0; NODE_BYTES * (MOST_NODES + 1)]), (Err(2), vec![0xa5; room]));
+            assert_eq!(
+                packed(present, corners, k, &vec![0; NODE_BYTES * (MOST_NODES + 1)]),
+                (Err(2), vec![0xa5; room])
+            );
         }
     }
     // each corner by its own place
@@ -121,7 +134,10 @@ fn box_by_value() {
         let mut corners = all;
         corners[place] = if place < 3 { -1f32 } else { 7.0 }.to_bits();
         let (answer, out) = packed(1, corners, k, &nodes);
-        assert_eq!((answer, words(&out)[..8].to_vec()), (Ok(Some(32)), [&corners[..3], &[0], &corners[3..], &[0]].concat()));
+        assert_eq!(
+            (answer, words(&out)[..8].to_vec()),
+            (Ok(Some(32)), [&corners[..3], &[0], &corners[3..], &[0]].concat())
+        );
     }
 }
 
@@ -202,7 +218,9 @@ fn box_and_k() {
     answers(&Case { all: None, ..case.clone() }, Err(12));
     let broken = tree.changed(&[(0, 0, 0), (1, 15, 9)]);
     let (low, nan) = ([0.0; 3], f32::NAN);
-    for (max, number) in [([nan, -1.0, 0.0], 5), ([1.0, f32::INFINITY, -1.0], 5), ([1.0, 1.0, -1e-45], 6), ([1.0; 3], 12)] {
+    for (max, number) in
+        [([nan, -1.0, 0.0], 5), ([1.0, f32::INFINITY, -1.0], 5), ([1.0, 1.0, -1e-45], 6), ([1.0; 3], 12)]
+    {
         answers(&broken.in_box(low, max).case(), Err(number));
     }
     for max in [f32::NEG_INFINITY, f32::INFINITY, nan] {

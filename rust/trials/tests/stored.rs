@@ -10,7 +10,13 @@ fn replay<A: Answer>(again: fn(&A) -> A) {
     let stored: Vec<A> = stored().unwrap();
     let differ = changed(&stored, again);
     println!("{}: {} answers replayed, {} differ", A::LIST.part, stored.len(), differ.len());
-    assert!(stored.len() == A::LIST.count && differ.is_empty(), "{} of {}: {:x?}", differ.len(), A::LIST.count, differ.first());
+    assert!(
+        stored.len() == A::LIST.count && differ.is_empty(),
+        "{} of {}: {:x?}",
+        differ.len(),
+        A::LIST.count,
+        differ.first()
+    );
 }
 
 /// The words of the first case, its kind and its count with them.
@@ -39,7 +45,9 @@ fn misfits<A: Answer>(lengths: &[usize]) {
     assert_eq!(read::<A>(&[]).map(|none| none.len()), Ok(0));
     refused::<A>(&case[..1], 0, "case 1, which begins at byte 0: the list ends");
     refused::<A>(&case[..case.len() - 1], 3, "the list ends 3 bytes into a word");
-    (1..4).for_each(|stray| refused::<A>(&case, stray, &format!("case 2, which begins at byte {}: the list", 4 * case.len())));
+    (1..4).for_each(|stray| {
+        refused::<A>(&case, stray, &format!("case 2, which begins at byte {}: the list", 4 * case.len()))
+    });
     [0, first - 1, last + 1, u32::MAX].into_iter().for_each(|kind| refused::<A>(&with(0, kind), 0, "kind"));
     for count in [0, words - 1, words + 1, u32::MAX] {
         refused::<A>(&with(1, count), 4, &format!("{count} words, but a case of {} has {}", A::LIST.part, words));
@@ -65,7 +73,8 @@ fn words_without_use() {
 /// differs and no other.
 fn found_out<A: Answer>(places: &[usize]) {
     let (bytes, [first, last], size) = (std::fs::read(A::LIST.path()).unwrap(), A::LIST.kinds, A::LIST.case_bytes());
-    let of_kind = |kind: u32| bytes.chunks(size).position(|case| case[..4] == kind.to_le_bytes()).expect("a case of each kind");
+    let of_kind =
+        |kind: u32| bytes.chunks(size).position(|case| case[..4] == kind.to_le_bytes()).expect("a case of each kind");
     let cases: Vec<usize> = (first..=last).map(of_kind).chain([A::LIST.count - 1]).collect();
     for (case, place) in cases.into_iter().flat_map(|case| places.iter().map(move |place| (case, place))) {
         let mut wrong = bytes.clone();

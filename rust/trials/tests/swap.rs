@@ -58,7 +58,12 @@ mod util {
 
 /// What a renderer does, in its own words: bounds, tree, draws, chances, packed words.
 #[cfg(reference)]
-fn render(inputs: &[gpu::flat::LightBoundInput], p: [f32; 3], n: [f32; 3], u: f32) -> Result<bool, util::error::PbrtError> {
+fn render(
+    inputs: &[gpu::flat::LightBoundInput],
+    p: [f32; 3],
+    n: [f32; 3],
+    u: f32,
+) -> Result<bool, util::error::PbrtError> {
     use gpu::flat::{Light, build_light_bounds, build_light_bvh, bvh_light_sampler_pmf, bvh_light_sampler_sample};
     use gpu::webgpu::{light_bvh, light_sampler};
 
@@ -77,7 +82,8 @@ fn render(inputs: &[gpu::flat::LightBoundInput], p: [f32; 3], n: [f32; 3], u: f3
     }
     assert_eq!(light_sampler::pack_exhaustive_bounds(&bounds)?, gpu::flat::pack_exhaustive_bounds(&bounds)?);
     let powers: Vec<f32> = bounds.iter().map(|bounds| bounds.phi).collect();
-    let (theirs, ours) = (light_sampler::build_power_alias_table(&powers)?, gpu::flat::build_power_alias_table(&powers)?);
+    let (theirs, ours) =
+        (light_sampler::build_power_alias_table(&powers)?, gpu::flat::build_power_alias_table(&powers)?);
     let bins = theirs.iter().zip(&ours).filter(|(a, b)| (a.q, a.p, a.alias) == (b.q, b.p, b.alias));
     assert_eq!((theirs.len(), bins.count()), (ours.len(), ours.len()));
     Ok(theirs.is_empty())

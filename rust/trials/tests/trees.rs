@@ -53,7 +53,10 @@ fn refused(light_count: u32, block: &[u32], rooms: [usize; 4], number: u32) {
     assert_eq!(answer, number, "{:08x?}, rooms {rooms:?}", &block[..block.len().min(40)]);
     let zeros = if number < 5 { [0; 4] } else { reserves(light_count as usize) };
     for (words, zeros) in trays.iter().zip(zeros) {
-        assert!(words.iter().enumerate().all(|(i, word)| *word == if i < zeros { 0 } else { PATTERN }), "{number}: {words:08x?}");
+        assert!(
+            words.iter().enumerate().all(|(i, word)| *word == if i < zeros { 0 } else { PATTERN }),
+            "{number}: {words:08x?}"
+        );
     }
 }
 
@@ -238,7 +241,9 @@ fn answers() {
     });
     for (block, number) in huge.into_iter().chain(bad) {
         let [nodes, table, work, _] = reserves(block[0] as usize);
-        (0..=8).for_each(|room| refused(block[0], &block, [nodes, table, work, room], if room < ANSWER { 3 } else { number }));
+        (0..=8).for_each(|room| {
+            refused(block[0], &block, [nodes, table, work, room], if room < ANSWER { 3 } else { number })
+        });
     }
 }
 
@@ -301,7 +306,10 @@ fn rooms() {
         for _ in 0..if lamps == 0 { 0 } else { 100 } {
             let query = room.query(&mut random);
             let drawn = sample(&tree, &query, random.within(1.0).abs()).unwrap();
-            assert!(drawn.is_none_or(|(handle, _)| pmf(&tree, &query, handle).is_ok_and(|chance| chance > 0)), "{drawn:?}");
+            assert!(
+                drawn.is_none_or(|(handle, _)| pmf(&tree, &query, handle).is_ok_and(|chance| chance > 0)),
+                "{drawn:?}"
+            );
         }
     }
 }

@@ -49,7 +49,10 @@ fn shapes() {
         let fork = sound.children(place).is_some();
         for (word, bit) in (0..3).flat_map(|word| (0..32).map(move |bit| (word, bit))) {
             // a leaf's right child is not read
-            assert!(flawed(&|words| words.nodes[place][word] ^= 1 << bit) || word == 1 && !fork, "{place} {word} {bit}");
+            assert!(
+                flawed(&|words| words.nodes[place][word] ^= 1 << bit) || word == 1 && !fork,
+                "{place} {word} {bit}"
+            );
         }
         for (word, end) in node.iter().enumerate().take(9).skip(3) {
             let inward = f32::from_bits(*end) + if word < 6 { 0.5 } else { -0.5 };
@@ -117,7 +120,9 @@ fn pair() {
     for (u, lamp) in [(0.25f32, 0), (0.75, 1), (1.0, 1), (0.0, 0), (-0.0, 0), (0.5, 1)] {
         drawn(&pair, &query, u.to_bits(), Ok(Some((lamp, HALF))));
     }
-    [(0, HALF), (1, HALF), (2, 0), (u32::MAX, 0)].into_iter().for_each(|(lamp, chance)| named(&pair, &query, lamp, Ok(chance)));
+    [(0, HALF), (1, HALF), (2, 0), (u32::MAX, 0)]
+        .into_iter()
+        .for_each(|(lamp, chance)| named(&pair, &query, lamp, Ok(chance)));
     for u in [0x3f80_0001, NAN, 0xffc0_0001, 0x7f80_0001, 0x8000_0001, 0xbf80_0000, 0x7f80_0000, 0xff80_0000] {
         drawn(&pair, &query, u, Err(11));
         drawn(&Tree { nodes: vec![], table: vec![] }, &query, u, Err(11));
@@ -262,7 +267,9 @@ fn judged() {
         words.table[0] = word;
         words.tree()
     };
-    for (word, chance) in [(3, Err(12)), (u32::MAX - 1, Err(12)), (0, Ok(0x3f80_0000)), (2, Ok(HALF)), (u32::MAX, Ok(0))] {
+    for (word, chance) in
+        [(3, Err(12)), (u32::MAX - 1, Err(12)), (0, Ok(0x3f80_0000)), (2, Ok(HALF)), (u32::MAX, Ok(0))]
+    {
         named(&table(word), &query, 0, chance);
     }
 }

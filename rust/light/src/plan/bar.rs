@@ -178,7 +178,8 @@ fn scale(svg: &mut Svg) {
         svg.words([if tenth == 10 { WIDE } else { x }, top + 21.0], anchor, "class=\"t\"", &words);
     }
     svg.path(&marks, &look("none", SOFT, 1.0));
-    svg.rect(Box2 { x: 0.0, y: TOP, w: WIDE, h: HIGH }, &format!("{} pointer-events=\"none\"", look("none", LINE, 0.8)));
+    let edge = format!("{} pointer-events=\"none\"", look("none", LINE, 0.8));
+    svg.rect(Box2 { x: 0.0, y: TOP, w: WIDE, h: HIGH }, &edge);
 }
 
 /// The drawing in words.
@@ -192,8 +193,8 @@ fn told(scene: &Scene, seen: &Seen, view: &View) -> String {
     let forks = run.map_or(0, |run| view.runs.way(run.place).len() - 1);
     let forks = many(forks, "fork", "forks");
     format!(
-        "The numbers u from 0 to 1, cut into the runs of {lamps} in the order of the leaves; u = {} lies {lies}. Under it \
-         the tree: the draw passes {forks}.",
+        "The numbers u from 0 to 1, cut into the runs of {lamps} in the order of the leaves; u = {} lies {lies}. \
+         Under it the tree: the draw passes {forks}.",
         figure(seen.bench.u)
     )
 }

@@ -190,7 +190,8 @@ impl Bar<'_> {
             let title = format!("{name} {}: {holds}{}", figure(part), if side == taken { "; taken" } else { "" });
             side_rect(svg, cells[side], side == taken, &title);
             let part = share(part);
-            cell_words(svg, cells[side], None, "t", INK, &[format!("{name} {part}: {holds}"), format!("{part}: {holds}"), holds]);
+            let words = [format!("{name} {part}: {holds}"), format!("{part}: {holds}"), holds];
+            cell_words(svg, cells[side], None, "t", INK, &words);
         }
     }
 }

@@ -48,9 +48,8 @@ impl Extent {
         let floor = round_up((x / 6.0).max(y / 6.0));
         let up = round_up(z / 3.0);
         // the floor reaches to half a step, since it is drawn to the scale of its longer side
-        let [x, y, z] =
-            [(0, floor, floor / 2.0), (1, floor, floor / 2.0), (2, up, up)].map(|(axis, step, to)| side(ends[axis], step, to));
-        Extent { sides: [x, y, z] }
+        let [x, y, z] = ends;
+        Extent { sides: [side(x, floor, floor / 2.0), side(y, floor, floor / 2.0), side(z, up, up)] }
     }
 }
 
@@ -72,7 +71,8 @@ fn round_up(x: f64) -> f64 {
         return 1.0;
     }
     let power = 10f64.powf(x.log10().floor());
-    [1.0, 2.0, 5.0].into_iter().map(|times| times * power).find(|round| *round >= x * (1.0 - 1e-9)).unwrap_or(10.0 * power)
+    let rounds = [1.0, 2.0, 5.0, 10.0].map(|times| times * power);
+    rounds.into_iter().find(|round| *round >= x * (1.0 - 1e-9)).unwrap_or(10.0 * power)
 }
 
 /// What stands at a line of the grid, by the step to the next.

@@ -107,7 +107,8 @@ fn title(svg: &mut Svg, sheet: &Sheet, words: &str) {
 /// How long a step of the grid is, in units of the file, which does not name its unit.
 fn ruler(svg: &mut Svg, sheet: &Sheet, step: f64) {
     let (long, frame) = (step * sheet.scale[0], sheet.inner.grown(MARGIN));
-    let words = if step == 1.0 { "1 unit of the file".into() } else { format!("{} units of the file", tick(step, step)) };
+    let units = if step == 1.0 { "1 unit".into() } else { format!("{} units", tick(step, step)) };
+    let words = format!("{units} of the file");
     let from = frame.right() - MARGIN - long;
     // a narrow plan has no room for it beside its title
     if from - width(&words, 12.0) - 6.0 < frame.x + 110.0 {
@@ -152,7 +153,8 @@ fn normal_of(seen: &Seen, stage: &Stage) -> Option<Heading> {
 
 /// Longer where the head of the normal's arrow would lie on a lamp.
 fn arrow_length(stage: &Stage, from: [f64; 2], along: [f64; 2]) -> f64 {
-    let head = |long: f64| Box2::around([from[0] + (long - 4.0) * along[0], from[1] + (long - 4.0) * along[1]], 9.0, 9.0);
+    let at = |long: f64| [from[0] + long * along[0], from[1] + long * along[1]];
+    let head = |long: f64| Box2::around(at(long - 4.0), 9.0, 9.0);
     let is_clear = |long: &f64| !stage.lamps().any(|lamp| lamp.shape.bounds().shared(&head(*long)) > 0.0);
     [24.0, 32.0, 40.0, 48.0].into_iter().find(is_clear).unwrap_or(24.0)
 }
@@ -162,7 +164,7 @@ fn bench_mark(svg: &mut Svg, at: [f64; 2], normal: Option<Heading>) -> Box2 {
     diamond(svg, at, 7.0);
     match normal {
         Some(Heading::Towards) => svg.circle(at, 2.1, "fill=\"#ffffff\""),
-        Some(Heading::Away) => svg.path(&cross(at[0], at[1], 2.1), &look("none", "#ffffff", 1.3)),
+        Some(Heading::Away) => svg.path(&cross(at, 2.1), &look("none", "#ffffff", 1.3)),
         _ => {}
     }
     Box2::around(at, 14.0, 14.0)
@@ -170,7 +172,8 @@ fn bench_mark(svg: &mut Svg, at: [f64; 2], normal: Option<Heading>) -> Box2 {
 
 /// An arrow in the bench's colour, from its foot to its tip.
 pub fn arrow(svg: &mut Svg, from: [f64; 2], along: [f64; 2], long: f64) -> [[f64; 2]; 2] {
-    let to = |long: f64, side: f64| [from[0] + long * along[0] - side * along[1], from[1] + long * along[1] + side * along[0]];
+    let [x, y] = along;
+    let to = |long: f64, side: f64| [from[0] + long * x - side * y, from[1] + long * y + side * x];
     svg.line([from, to(long - 7.0, 0.0)], &look("none", ACCENT, 2.2));
     let [tip, left, right] = [to(long, 0.0), to(long - 9.0, 4.5), to(long - 9.0, -4.5)];
     svg.path(&closed(&[vec![tip, left, right]]), &format!("fill=\"{ACCENT}\""));
@@ -192,7 +195,10 @@ fn labels(svg: &mut Svg, stage: &Stage, ring: Option<Box2>, bench: Option<Box2>,
     }
     let others = stage.view.greatest().into_iter().filter(|handle| Some(*handle) != stage.drawn);
     // a chance that is not a number is labelled too
-    let is_labelled = |handle: &u32| Some(stage.view.chance(*handle)).is_some_and(|chance| chance >= FROM || chance.is_nan());
+    let is_labelled = |handle: &u32| {
+        let chance = stage.view.chance(*handle);
+        chance >= FROM || chance.is_nan()
+    };
     for handle in others.take_while(is_labelled) {
         handle_label(svg, stage, handle, None, taken);
     }
@@ -203,22 +209,24 @@ fn handle_label(svg: &mut Svg, stage: &Stage, handle: u32, ring: Option<Box2>, t
     let Some(lamp) = stage.lamp(handle) else { return };
     let (words, ink, bounds) = (handle.to_string(), shade(stage.view.chance(handle)).ink, lamp.shape.bounds());
     let label = Label { words: &words, size: if ring.is_some() { 12.0 } else { 11.5 }, ink, bold: ring.is_some() };
-    let small = stage.lamps().map(|lamp| &lamp.shape).filter(|shape| shape.is_disc()).map(Shape::bounds);
-    if !lamp.shape.fills_its_box() || !taken.set_inside(svg, bounds, small, &label) {
+    let discs = stage.lamps().map(|lamp| &lamp.shape).filter(|shape| shape.is_disc());
+    let small: Vec<Box2> = discs.map(Shape::bounds).collect();
+    if !lamp.shape.fills_its_box() || !taken.set_inside(svg, bounds, &small, &label) {
         taken.set_beside(svg, ring.unwrap_or(bounds), &Label { ink: INK, ..label });
     }
 }
 
 /// The drawing in words.
 fn told(scene: &Scene, seen: &Seen, view: &View) -> String {
-    let drawn =
-        seen.outcome.lamp().map_or("no lamp is drawn".into(), |handle| format!("the lamp drawn is {}", scene.called(handle)));
-    let greatest: Vec<String> = view
-        .greatest()
-        .iter()
-        .take(3)
-        .map(|handle| format!("{} {}", scene.called(*handle), percent_of(view.chance(*handle))))
-        .collect();
-    let greatest = if greatest.is_empty() { String::new() } else { format!("; the greatest chances: {}", greatest.join(", ")) };
+    let drawn = match seen.outcome.lamp() {
+        Some(handle) => format!("the lamp drawn is {}", scene.called(handle)),
+        None => "no lamp is drawn".into(),
+    };
+    let lamp = |handle: &u32| format!("{} {}", scene.called(*handle), percent_of(view.chance(*handle)));
+    let greatest: Vec<String> = view.greatest().iter().take(3).map(lamp).collect();
+    let greatest = match greatest.is_empty() {
+        true => String::new(),
+        false => format!("; the greatest chances: {}", greatest.join(", ")),
+    };
     format!("Floor plan and heights: the bench at {}; {drawn}{greatest}.", triple(seen.bench.place.p))
 }

@@ -22,16 +22,24 @@ pub fn index(scene: &Scene, sights: &[Seen]) -> String {
     }
     let has_names = sights.iter().any(|seen| seen.bench.name.is_some());
     let rows: String = sights.iter().map(|seen| row(scene, seen, has_names)).collect();
-    let name = if has_names { "<th scope=\"col\" class=\"l\">name</th>" } else { "" };
     format!(
-        "<nav id=\"index\" aria-labelledby=\"ix\"><h2 id=\"ix\">Benches</h2><div class=\"scroll\"><table class=\"idx\"><thead><tr>\
-         <th scope=\"col\">bench</th>{name}<th scope=\"col\" class=\"l\">point</th><th scope=\"col\" class=\"l\">normal</th>\
-         <th scope=\"col\">u</th><th scope=\"col\">lamp</th><th scope=\"col\" class=\"l\">kind</th><th scope=\"col\">line</th><td></td>\
-         <th scope=\"col\">chance</th><th scope=\"col\">apart</th><th scope=\"col\">none</th></tr></thead><tbody>{rows}</tbody></table>\
-         <p class=\"small\">apart: floats between the two chances; none: the part of all u that draws no lamp.</p></div>\
-         <figure>{}<figcaption>Where the benches stand, by their lines.</figcaption></figure></nav>",
+        "<nav id=\"index\" aria-labelledby=\"ix\"><h2 id=\"ix\">Benches</h2><div class=\"scroll\"><table class=\"idx\">\
+         <thead><tr>{}</tr></thead><tbody>{rows}</tbody></table><p class=\"small\">apart: floats between the two \
+         chances; none: the part of all u that draws no lamp.</p></div><figure>{}\
+         <figcaption>Where the benches stand, by their lines.</figcaption></figure></nav>",
+        columns(has_names),
         map(scene, sights)
     )
+}
+
+/// The heads of the columns; that of the colours has no name.
+fn columns(has_names: bool) -> String {
+    let left = |name: &str| format!("<th scope=\"col\" class=\"l\">{name}</th>");
+    let right = |name: &str| format!("<th scope=\"col\">{name}</th>");
+    let name = if has_names { left("name") } else { String::new() };
+    let answer = right("lamp") + &left("kind") + &right("line") + "<td></td>";
+    let bench = right("bench") + &name + &left("point") + &left("normal") + &right("u");
+    bench + &answer + &right("chance") + &right("apart") + &right("none")
 }
 
 fn row(scene: &Scene, seen: &Seen, has_names: bool) -> String {
@@ -65,8 +73,8 @@ fn answer_cells(scene: &Scene, seen: &Seen) -> String {
                 _ => "wholly".into(),
             };
             format!(
-                "<td>{handle}</td><td class=\"l\">{}</td><td>{}</td><td class=\"sw\"><i style=\"background:{}\"></i></td>\
-                 <td>{}</td><td>{apart}</td><td>{none}</td>",
+                "<td>{handle}</td><td class=\"l\">{}</td><td>{}</td>\
+                 <td class=\"sw\"><i style=\"background:{}\"></i></td><td>{}</td><td>{apart}</td><td>{none}</td>",
                 scene.kind(handle),
                 scene.room.line(handle),
                 shade(drawn).fill,
@@ -74,9 +82,8 @@ fn answer_cells(scene: &Scene, seen: &Seen) -> String {
             )
         }
         Outcome::Nothing => {
-            format!(
-                "<td>none</td><td></td><td></td><td class=\"sw\"><i class=\"hatch\"></i></td><td></td><td></td><td>{none}</td>"
-            )
+            let hatch = "<td class=\"sw\"><i class=\"hatch\"></i></td>";
+            format!("<td>none</td><td></td><td></td>{hatch}<td></td><td></td><td>{none}</td>")
         }
         Outcome::Refused(refusal) => {
             let number = refusal.number();
@@ -111,7 +118,8 @@ fn map(scene: &Scene, sights: &[Seen]) -> String {
         taken.set_beside(&mut svg, Box2::around(*at, 10.0, 10.0), &label);
     }
     let view = Box2 { x: 0.0, y: 0.0, w: frame.right() + 2.0, h: frame.bottom() + 2.0 };
-    svg.drawing("map", Box2 { w: view.w.max(MAP[0] + 16.0), ..view }, "Where the benches stand in the plan, by their lines")
+    let view = Box2 { w: view.w.max(MAP[0] + 16.0), ..view };
+    svg.drawing("map", view, "Where the benches stand in the plan, by their lines")
 }
 
 /// Panels as areas, all others as dots.

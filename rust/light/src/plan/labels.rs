@@ -39,8 +39,8 @@ impl Taken {
             && !self.lines.iter().any(|line| place.meets(*line))
     }
 
-    /// Sets a label above, below, right or left of what it names: at the first place that is free, else nowhere; a bold one at the
-    /// first within the walls, over what is there.
+    /// Sets a label above, below, right or left of what it names: at the first place that is free, else nowhere; a bold
+    /// one at the first within the walls, over what is there.
     pub fn set_beside(&mut self, svg: &mut Svg, named: Box2, label: &Label) {
         let (wide, high) = (width(label.words, label.size), label.size);
         let [x, y] = named.center();
@@ -58,12 +58,12 @@ impl Taken {
     }
 
     /// Sets a label inside what it names, where it fits and neither a small lamp nor another label is; whether it did.
-    pub fn set_inside(&mut self, svg: &mut Svg, named: Box2, mut small: impl Iterator<Item = Box2>, label: &Label) -> bool {
+    pub fn set_inside(&mut self, svg: &mut Svg, named: Box2, small: &[Box2], label: &Label) -> bool {
         let place = Box2::around(named.center(), width(label.words, label.size), label.size);
         let fits = place.w + 8.0 <= named.w && place.h + 1.0 <= named.h;
         let hit = |taken: &Box2| taken.shared(&place) > 0.0;
-        let is_taken =
-            small.any(|lamp| hit(&lamp)) || self.labels.iter().any(hit) || self.lines.iter().any(|line| place.meets(*line));
+        let is_hit = small.iter().chain(&self.labels).any(hit);
+        let is_taken = is_hit || self.lines.iter().any(|line| place.meets(*line));
         if fits && !is_taken {
             label.put(svg, named.center(), false);
             self.labels.push(place);
@@ -82,8 +82,8 @@ impl Label<'_> {
     }
 }
 
-/// Where words of a row stand: centred, or on the wider side of the line at u where they would touch it; nowhere if they
-/// do not fit.
+/// Where words of a row stand: centred, or on the wider side of the line at u where they would touch it; nowhere if
+/// they do not fit.
 pub fn clear_of(cell: Box2, wide: f64, line: Option<f64>) -> Option<f64> {
     let fits = |from: f64, to: f64| (to - from >= wide + 8.0).then_some(from.midpoint(to));
     let center = fits(cell.x, cell.right())?;

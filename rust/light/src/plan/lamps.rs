@@ -1,7 +1,7 @@
 //! The lamps on the plan and in the heights, each shaded by its chance.
 
 use crate::plan::extent::Sheet;
-use crate::plan::marks::Form;
+use crate::plan::marks::{Form, Point3};
 use crate::plan::markup::{Box2, Svg, px};
 use crate::plan::scene::Scene;
 use crate::plan::seen::View;
@@ -41,8 +41,8 @@ pub struct Style {
 
 impl Style {
     pub fn plan(many: bool) -> Style {
-        let sizes =
-            if many { Sizes { point: 3.0, spot: 3.5, across: 3.0 } } else { Sizes { point: 5.0, spot: 6.5, across: 5.0 } };
+        let [point, spot, across] = if many { [3.0, 3.5, 3.0] } else { [5.0, 6.5, 5.0] };
+        let sizes = Sizes { point, spot, across };
         Style { sizes, wedge: if many { 9.0 } else { 18.0 }, towards: 1.0, apart: !many }
     }
 
@@ -98,8 +98,8 @@ impl<'a> Stage<'a> {
 
     /// Draws the lamps, the greatest chances last and small ones over large ones.
     pub fn draw(&self, svg: &mut Svg) {
-        let dots: String =
-            self.scene.marks.iter().filter(|mark| self.is_dot(mark.handle)).map(|mark| dot(self.sheet.at(mark.at))).collect();
+        let faint = self.scene.marks.iter().filter(|mark| self.is_dot(mark.handle));
+        let dots: String = faint.map(|mark| dot(self.sheet.at(mark.at))).collect();
         if !dots.is_empty() {
             svg.path(&dots, &dots_look("#b4bccb", 2.4));
         }
@@ -133,8 +133,9 @@ impl<'a> Stage<'a> {
 
     /// A point's or spot's disc, edged white against what lies under it, with the way that a spot shines.
     fn draw_disc(&self, svg: &mut Svg, handle: u32, center: [f64; 2], radius: f64, how: &Look) {
+        let heading = |axis: Point3| heading(self.sheet, axis, self.style.towards);
         let spot = match self.scene.marks.get(handle as usize).map(|mark| &mark.form) {
-            Some(Form::Spot { axis, half_angle }) => Some((heading(self.sheet, *axis, self.style.towards), *half_angle)),
+            Some(Form::Spot { axis, half_angle }) => Some((heading(*axis), *half_angle)),
             _ => None,
         };
         if let Some((Heading::Along(along), half_angle)) = spot {
@@ -144,7 +145,7 @@ impl<'a> Stage<'a> {
         svg.circle(center, radius + 1.5, "fill=\"#ffffff\"");
         svg.circle(center, radius, &how.shape);
         match spot {
-            Some((Heading::Away, _)) => svg.path(&cross(center[0], center[1], 0.32 * radius), &look("none", how.ink, 1.1)),
+            Some((Heading::Away, _)) => svg.path(&cross(center, 0.32 * radius), &look("none", how.ink, 1.1)),
             Some((Heading::Towards, _)) => svg.circle(center, 0.25 * radius, &format!("fill=\"{}\"", how.ink)),
             _ => {}
         }
@@ -161,7 +162,7 @@ pub fn dots_look(ink: &str, wide: f64) -> String {
 }
 
 /// ×.
-pub fn cross(x: f64, y: f64, arm: f64) -> String {
+pub fn cross([x, y]: [f64; 2], arm: f64) -> String {
     let ([x, y], long) = ([x - arm, y - arm].map(px), px(2.0 * arm));
     format!("M{x} {y}l{long} {long}m0-{long}l-{long} {long}")
 }

@@ -35,7 +35,7 @@ fn lamps(svg: &mut Svg, [a, b, c, d]: [f64; 4], y: f64) {
     svg.circle([a + 6.5, y], 5.0, &plain);
     words(svg, a + 18.0, y, "point");
     svg.circle([b + 6.5, y], 6.5, &plain);
-    svg.path(&cross(b + 6.5, y, 2.1), &look("none", INK, 1.1));
+    svg.path(&cross([b + 6.5, y], 2.1), &look("none", INK, 1.1));
     words(svg, b + 18.0, y, "spot, shines down");
     svg.circle([c + 6.5, y], 6.5, &plain);
     svg.circle([c + 6.5, y], 1.6, &format!("fill=\"{INK}\""));
@@ -69,6 +69,6 @@ fn bench(svg: &mut Svg, [a, b, c, _]: [f64; 4], y: f64) {
     svg.circle([b + 7.0, y], 2.1, "fill=\"#ffffff\"");
     words(svg, b + 18.0, y, "normal towards you");
     diamond(svg, [c + 7.0, y], 7.0);
-    svg.path(&cross(c + 7.0, y, 2.1), &look("none", "#ffffff", 1.3));
+    svg.path(&cross([c + 7.0, y], 2.1), &look("none", "#ffffff", 1.3));
     words(svg, c + 18.0, y, "normal away from you");
 }

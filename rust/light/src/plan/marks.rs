@@ -1,6 +1,6 @@
 //! The lamps of a room as they are drawn: where they hang, their outlines, which way they shine.
 
-use light_tree::Lamp;
+use light_tree::{Lamp, Triangle};
 use std::collections::HashMap;
 
 pub type Point3 = [f64; 3];
@@ -27,7 +27,7 @@ pub enum Form {
 }
 
 /// Above so many triangles a panel is drawn by the box around it.
-const MANY_TRIANGLES: usize = 256;
+const MANY_TRIANGLES: usize = 64;
 
 pub fn marks(lamps: &[Lamp]) -> Vec<Mark> {
     (0..).zip(lamps).map(|(handle, lamp)| mark(handle, lamp)).collect()
@@ -40,7 +40,8 @@ fn mark(handle: u32, lamp: &Lamp) -> Mark {
             Mark { handle, at: wide(*world_position), form: Form::Spot { axis: unit(wide(*direction)), half_angle } }
         }
         Lamp::Group { triangles, .. } => {
-            let triangles: Vec<[Point3; 3]> = triangles.iter().map(|triangle| triangle.world_positions.map(wide)).collect();
+            let corners_of = |triangle: &Triangle| triangle.world_positions.map(wide);
+            let triangles: Vec<[Point3; 3]> = triangles.iter().map(corners_of).collect();
             let (low, high) = corners(triangles.as_flattened());
             let at = [0, 1, 2].map(|axis| low[axis].midpoint(high[axis]));
             let outline = if triangles.len() > MANY_TRIANGLES { box_ways(low, high) } else { outline(&triangles) };
@@ -81,7 +82,8 @@ fn unit(p: Point3) -> Point3 {
 }
 
 fn corners(points: &[Point3]) -> (Point3, Point3) {
-    let bound = |by: fn(f64, f64) -> f64| [0, 1, 2].map(|axis| points.iter().map(|point| point[axis]).reduce(by).unwrap_or(0.0));
+    let along = |axis: usize, by: fn(f64, f64) -> f64| points.iter().map(|point| point[axis]).reduce(by).unwrap_or(0.0);
+    let bound = |by: fn(f64, f64) -> f64| [0, 1, 2].map(|axis| along(axis, by));
     (bound(f64::min), bound(f64::max))
 }
 

@@ -2,7 +2,8 @@
 
 use std::fmt::Write;
 
-/// Text for an element or an attribute. What XML cannot hold, such as a control character of a file's name, becomes a mark.
+/// Text for an element or an attribute. What XML cannot hold, such as a control character in a file's name, becomes a
+/// mark.
 pub fn escaped(text: &str) -> String {
     let mut safe = String::with_capacity(text.len());
     for c in text.chars() {
@@ -139,7 +140,8 @@ impl Svg {
             Anchor::Middle => " text-anchor=\"middle\"",
             Anchor::End => " text-anchor=\"end\"",
         };
-        let _ = write!(self.text, "<text x=\"{}\" y=\"{}\"{anchor} {look}>{}</text>", px(at[0]), px(at[1]), escaped(words));
+        let ([x, y], words) = (at.map(px), escaped(words));
+        let _ = write!(self.text, "<text x=\"{x}\" y=\"{y}\"{anchor} {look}>{words}</text>");
     }
 
     /// Elements that belong together, named when the mouse is over them; those of a lamp light up with its others.
@@ -150,12 +152,15 @@ impl Svg {
         self.text += "</g>";
     }
 
-    /// The drawing, so wide and high from a corner on, with what is said of it to those who do not see it.
+    /// The drawing, so wide and high from a corner on, with what is said of it to those who do not see it. One with links
+    /// is a group of them, others are pictures.
     pub fn drawing(self, class: &str, view: Box2, label: &str) -> String {
+        let role = if self.text.contains("<a ") { "group" } else { "img" };
         let [x, y, w, h] = [view.x, view.y, view.w, view.h].map(px);
         let label = escaped(label);
         format!(
-            "<svg xmlns=\"http://www.w3.org/2000/svg\" class=\"{class}\" viewBox=\"{x} {y} {w} {h}\" role=\"img\" aria-label=\"{label}\">{}</svg>",
+            "<svg xmlns=\"http://www.w3.org/2000/svg\" class=\"{class}\" viewBox=\"{x} {y} {w} {h}\" role=\"{role}\" \
+             aria-label=\"{label}\">{}</svg>",
             self.text
         )
     }

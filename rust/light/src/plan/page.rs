@@ -14,11 +14,14 @@ use crate::rows::Outcome;
 const STYLE: &str = include_str!("style.css");
 /// Lights up the lamp under the mouse wherever else it is drawn; the page is read without it.
 const HOVER: &str = include_str!("hover.js");
-const HATCH: &str = "<svg xmlns=\"http://www.w3.org/2000/svg\" width=\"0\" height=\"0\" class=\"defs\" aria-hidden=\"true\"><defs>\
+const HATCH: &str = "<svg xmlns=\"http://www.w3.org/2000/svg\" width=\"0\" height=\"0\" class=\"defs\" \
+    aria-hidden=\"true\"><defs>\
     <pattern id=\"hatch\" width=\"7\" height=\"7\" patternUnits=\"userSpaceOnUse\" patternTransform=\"rotate(45)\">\
-    <rect width=\"7\" height=\"7\" fill=\"#fff\"/><path d=\"M0 0V7\" stroke=\"#9b9b97\" stroke-width=\"2.4\"/></pattern></defs></svg>";
-const BAR_TOLD: &str = "The bar: each lamp’s run of u, in the order of the tree’s leaves, with handle and chance. The tree: a fork spans \
-    the runs of its lamps and says the share of its left side; the line at u passes through the forks that this draw takes.";
+    <rect width=\"7\" height=\"7\" fill=\"#fff\"/><path d=\"M0 0V7\" stroke=\"#9b9b97\" stroke-width=\"2.4\"/>\
+    </pattern></defs></svg>";
+const BAR_TOLD: &str = "The bar: each lamp’s run of u, in the order of the tree’s leaves, with handle and chance. \
+    The tree: a fork spans the runs of its lamps and says the share of its left side; the line at u passes through \
+    the forks that this draw takes.";
 
 const NO_TREE: &str = "No lamp has power, so there is no tree, and every u draws none.";
 
@@ -29,8 +32,8 @@ pub fn head(scene: &Scene, table: &str, sights: &[Seen], has_index: bool) -> Str
     format!(
         "<!DOCTYPE html>\n<html xmlns=\"http://www.w3.org/1999/xhtml\" lang=\"en\"><head><meta charset=\"utf-8\"/>\
          <meta name=\"viewport\" content=\"width=device-width,initial-scale=1\"/><title>Light plan of {room}</title>\n\
-         <style>\n{STYLE}</style></head><body><main>{HATCH}<h1>Light plan</h1>\n<p class=\"lead\">{}</p>\n<p class=\"lead\">{}</p>\n\
-         <p class=\"lead\">{}</p>\n{index}\n",
+         <style>\n{STYLE}</style></head><body><main>{HATCH}<h1>Light plan</h1>\n<p class=\"lead\">{}</p>\n\
+         <p class=\"lead\">{}</p>\n<p class=\"lead\">{}</p>\n{index}\n",
         counted(scene, &room, table, sights),
         may_differ(sights),
         proved(sights)
@@ -66,10 +69,11 @@ fn may_differ(sights: &[Seen]) -> String {
         Gap::Wholly => "wholly".into(),
     };
     format!(
-        "<b>May the two columns of the report differ?</b> Yes, in their last digits: both multiply the same shares, one from the root \
-         down, the other from the lamp up, and round each product. On this page they part {} for the lamps drawn, and {} for any lamp \
-         that some u draws; a float is the finest step that a figure takes. They part by more where a right branch has a tiny share, \
-         wholly only where a total of weights is infinite or a share is too small for a float.",
+        "<b>May the two columns of the report differ?</b> Yes, in their last digits: both multiply the same shares, \
+         one from the root down, the other from the lamp up, and round each product. On this page they part {} for \
+         the lamps drawn, and {} for any lamp that some u draws; a float is the finest step that a figure takes. They \
+         part by more where a right branch has a tiny share, wholly only where a total of weights is infinite or a \
+         share is too small for a float.",
         told(drawn),
         told(all)
     )
@@ -84,10 +88,11 @@ fn proved(sights: &[Seen]) -> String {
     let runs: usize = sights.iter().filter_map(|seen| seen.view.as_ref()).map(|view| view.runs.runs.len()).sum();
     let ends = many(2 * runs, "end", "ends");
     format!(
-        "<b>How sure are the runs of u?</b> Proved, for every room and bench: the u that draw a lamp are all those from a first to a \
-         last, and the lamps follow each other in the order of the tree’s leaves (<i>unbroken</i> and <i>leaf-order</i> in \
-         crates/light_runs/specs/Demand3.antt). Looked for here: where each run begins and ends, by halving stretches of u whose ends \
-         draw unlike; all {ends} on this page were drawn again from the tree, and each drew what is shown."
+        "<b>How sure are the runs of u?</b> Proved, for every room and bench: the u that draw a lamp are all those \
+         from a first to a last, and the lamps follow each other in the order of the tree’s leaves (<i>unbroken</i> \
+         and <i>leaf-order</i> in crates/light_runs/specs/Demand3.antt). Looked for here: where each run begins and \
+         ends, by halving stretches of u whose ends draw unlike; all {ends} on this page were drawn again from the \
+         tree, and each drew what is shown."
     )
 }
 
@@ -168,7 +173,7 @@ fn short(u: f32) -> String {
 fn none_told(view: &View) -> String {
     let refused = match view.refused() {
         0.0 => String::new(),
-        part => format!(" {} of all u are refused, since a branch there cannot be weighed for this bench.", percent(part)),
+        part => format!(" {} of all u are refused, since a branch cannot be weighed for this bench.", percent(part)),
     };
     match view.none() {
         0.0 if refused.is_empty() => "Every u draws a lamp.".into(),

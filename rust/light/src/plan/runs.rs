@@ -1,7 +1,9 @@
-//! The runs of u: for one bench every u from 0 to 1 ends at one place of the tree, and the u that end there are one stretch.
+//! The runs of u: for one bench every u from 0 to 1 ends at one place of the tree, and those that end there are one
+//! stretch.
 //!
-//! Proved is that a lamp's run is unbroken and that the runs follow each other in the order of the leaves (`unbroken` and `leaf-order`
-//! of crates/light_runs/specs/Demand3.antt). Where a run begins is looked for here: only a stretch whose ends draw unlike is halved.
+//! Proved is that a lamp's run is unbroken and that the runs follow each other in the order of the leaves (`unbroken`
+//! and `leaf-order` of crates/light_runs/specs/Demand3.antt). Where a run begins is looked for here: only a stretch
+//! whose ends draw unlike is halved.
 
 use crate::bench::Place;
 use light_tree::{LightTree, Refusal, sample_nodes};

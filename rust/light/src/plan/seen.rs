@@ -36,6 +36,10 @@ pub struct View {
 }
 
 impl Gap {
+    pub fn floats(self) -> Option<u32> {
+        if let Gap::Floats(floats) = self { Some(floats) } else { None }
+    }
+
     pub fn of(drawn: f32, named: f32) -> Gap {
         apart(drawn, named).map_or(Gap::Wholly, |(floats, _)| Gap::Floats(floats))
     }
@@ -88,7 +92,7 @@ impl View {
 
     /// The lamps that some u draws, by falling chance; a chance that is not a number comes first.
     pub fn greatest(&self) -> Vec<u32> {
-        let mut handles: Vec<u32> = (0..).zip(&self.met).filter(|(_, met)| met.is_some()).map(|(handle, _)| handle).collect();
+        let mut handles: Vec<u32> = (0..).zip(&self.met).filter_map(|(handle, met)| met.map(|_| handle)).collect();
         let height = |handle: u32| Some(self.chance(handle)).filter(|chance| !chance.is_nan()).unwrap_or(f32::INFINITY);
         handles.sort_by(|a, b| height(*b).total_cmp(&height(*a)));
         handles

@@ -1,4 +1,4 @@
-//! The colours: one scale of chances, and one colour for the bench and its draw alone, which always comes with a form too.
+//! The colours: one scale of chances, and one colour for the bench and its draw alone, which always has a form too.
 
 use crate::plan::markup::px;
 

@@ -145,15 +145,16 @@ pub fn wedge(center: [f64; 2], along: [f64; 2], half_angle: f64, radius: f64) ->
     format!("M{x} {y}L{a} {b}A{radius} {radius} 0 {large} 1 {c} {d}Z")
 }
 
-/// How far each mark moves so that those over each other are told apart: by their heights, up to four steps to the right and up.
+/// How far each mark moves so that those over each other are told apart: by their heights, up to four steps to the
+/// right and up.
 pub fn shifts(marks: &[Mark], shapes: &[Shape]) -> Vec<[f64; 2]> {
     let mut order: Vec<usize> = (0..marks.len()).collect();
     order.sort_by(|a, b| marks[*a].at[2].total_cmp(&marks[*b].at[2]));
     let bounds: Vec<Box2> = shapes.iter().map(Shape::bounds).collect();
     let mut levels = vec![0u8; marks.len()];
     for (at, mark) in order.iter().enumerate() {
-        let below = order[..at].iter().filter(|other| covers(&bounds[*mark], &bounds[**other])).map(|other| levels[*other] + 1);
-        levels[*mark] = below.max().unwrap_or(0).min(4);
+        let below = order[..at].iter().filter(|other| covers(&bounds[*mark], &bounds[**other]));
+        levels[*mark] = below.map(|other| levels[*other] + 1).max().unwrap_or(0).min(4);
     }
     let step = |shape: &Shape| if shape.is_disc() { 9.0 } else { 5.0 };
     levels.iter().zip(shapes).map(|(level, shape)| f64::from(*level) * step(shape)).map(|by| [by, -by]).collect()

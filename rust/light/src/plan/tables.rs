@@ -23,12 +23,14 @@ pub fn gap_words(gap: Gap) -> String {
 pub fn two(seen: &Seen, view: &View) -> String {
     let Outcome::Lamp { handle, drawn, named } = seen.outcome else { return String::new() };
     let row = |head: &str, chance: f32| {
-        format!("<tr><th scope=\"row\">{head}</th><td>{}</td><td class=\"m\">{:08x}</td></tr>", figure(chance), chance.to_bits())
+        let (decimals, bits) = (figure(chance), chance.to_bits());
+        format!("<tr><th scope=\"row\">{head}</th><td>{decimals}</td><td class=\"m\">{bits:08x}</td></tr>")
     };
     let rows = row("drawn, on the way down", drawn) + &row("named, on the way up", named);
     format!(
-        "<h3>The two chances of lamp {handle}</h3><table class=\"two\"><thead><tr><td></td><th scope=\"col\">decimals</th>\
-         <th scope=\"col\">bits</th></tr></thead><tbody>{rows}</tbody></table><p class=\"gap\">{}{}</p>",
+        "<h3>The two chances of lamp {handle}</h3><table class=\"two\"><thead><tr><td></td>\
+         <th scope=\"col\">decimals</th><th scope=\"col\">bits</th></tr></thead><tbody>{rows}</tbody></table>\
+         <p class=\"gap\">{}{}</p>",
         parted(drawn, named),
         others_part(view)
     )
@@ -44,8 +46,8 @@ fn parted(drawn: f32, named: f32) -> String {
             format!("<b>{}</b>, a gap of {}.", gap_words(gap), power(apart))
         }
         Gap::Wholly => {
-            "<b>Wholly apart</b>: one is not a number or infinite, or 0 beside one that is not; a total of weights is infinite \
-                        here, or a share too small for a float."
+            "<b>Wholly apart</b>: one is not a number or infinite, or 0 beside one that is not; a total of weights is \
+             infinite here, or a share too small for a float."
                 .into()
         }
     }
@@ -63,7 +65,7 @@ fn others_part(view: &View) -> String {
     let lamps = view.gaps().count();
     let apart = view.gaps().filter(|gap| *gap != Gap::Floats(0)).count();
     let wholly = view.gaps().filter(|gap| *gap == Gap::Wholly).count();
-    let floats = view.gaps().filter_map(|gap| if let Gap::Floats(floats) = gap { Some(floats) } else { None }).max().unwrap_or(0);
+    let floats = view.gaps().filter_map(Gap::floats).max().unwrap_or(0);
     if lamps < 2 {
         return String::new();
     }
@@ -72,7 +74,8 @@ fn others_part(view: &View) -> String {
     match (apart, wholly) {
         (0, _) => format!("{of}, each has two chances that are the same."),
         (_, 0) => {
-            format!("{of}, {differ} have two chances that differ, by at most {}.", many(floats as usize, "float", "floats"))
+            let most = many(floats as usize, "float", "floats");
+            format!("{of}, {differ} have two chances that differ, by at most {most}.")
         }
         _ => format!("{of}, {differ} have two chances that differ, {parted} of them wholly."),
     }
@@ -114,8 +117,10 @@ fn row(scene: &Scene, view: &View, handle: u32, met: Met, class: &str) -> String
     let [from, to] = view.runs.span(met.run);
     let line = if scene.has_names { String::new() } else { format!("<td>{}</td>", scene.room.line(handle)) };
     let mark = if class.contains("here") { "▸ " } else { "" };
-    let chance =
-        if met.drawn.is_nan() { format!("<span class=\"m\">{:08x}</span>", met.drawn.to_bits()) } else { percent_of(met.drawn) };
+    let chance = match met.drawn.is_nan() {
+        true => format!("<span class=\"m\">{:08x}</span>", met.drawn.to_bits()),
+        false => percent_of(met.drawn),
+    };
     format!(
         "<tr data-l=\"{handle}\" class=\"{}\"><td><i style=\"background:{}\"></i></td><td>{mark}{handle}</td>\
          <td class=\"l name\" title=\"{}\">{}</td>{line}<td>{}</td><td>{chance}</td><td>{from:.4}–{to:.4}</td></tr>",
@@ -133,10 +138,8 @@ fn left_over(scene: &Scene, view: &View, all: &[u32], shown: &[u32]) -> String {
     let rest: f64 = others.clone().map(|handle| f64::from(view.chance(*handle))).sum();
     let columns = if scene.has_names { 3 } else { 4 };
     let row = |swatch: &str, words: &str, part: f64| {
-        format!(
-            "<tr class=\"sum\"><td>{swatch}</td><td colspan=\"{columns}\" class=\"l\">{words}</td><td>{}</td><td></td></tr>",
-            percent(part)
-        )
+        let words = format!("<td colspan=\"{columns}\" class=\"l\">{words}</td>");
+        format!("<tr class=\"sum\"><td>{swatch}</td>{words}<td>{}</td><td></td></tr>", percent(part))
     };
     let mut rows = String::new();
     if others.clone().next().is_some() {
@@ -155,8 +158,8 @@ fn left_over(scene: &Scene, view: &View, all: &[u32], shown: &[u32]) -> String {
 fn counted_lamps(scene: &Scene, view: &View) -> String {
     let (lamps, powered, met) = (scene.tree.lamps(), scene.tree.powered(), view.met.iter().flatten().count());
     let parts = [(powered.saturating_sub(met), "drawn by no u"), (lamps - powered, "without power")];
-    let parts: Vec<String> =
-        parts.iter().filter(|(count, _)| *count > 0).map(|(count, what)| format!("{} {what}", thousands(*count))).collect();
+    let told = |(count, what): &(usize, &str)| format!("{} {what}", thousands(*count));
+    let parts: Vec<String> = parts.iter().filter(|(count, _)| *count > 0).map(told).collect();
     let all = many(lamps, "lamp", "lamps");
     match (lamps, parts.is_empty()) {
         (0, _) => "The room has no lamp.".into(),

@@ -100,7 +100,9 @@ pub fn rows() {
     let wide_words = wide.map(f64::to_bits);
     let bytes: Vec<u8> = words.iter().flat_map(|word| word.to_le_bytes()).collect();
 
-    println!("Every function is called, on both sides, and never inlined. {INPUTS} inputs; medians of {SAMPLES} samples.");
+    println!(
+        "Every function is called, on both sides, and never inlined. {INPUTS} inputs; medians of {SAMPLES} samples."
+    );
     println!("The call alone is most of a short row: f32_of_word does nothing else.");
     println!("x: positive floats of every exponent; mixed: of either sign; million: between -10^6 and 10^6.");
     println!("function | proved ns | Rust ns | ratio");
@@ -123,7 +125,9 @@ pub fn rows() {
     row!("sqrt x, in a chain", |side| fold(|i, last| side::sqrt(f32::from_bits(words[i] ^ (last >> 31) as u32))
         .to_bits()
         .into()));
-    row!("sqrt64 x, in a chain", |side| fold(|i, last| side::sqrt64(f64::from_bits(wide_words[i] ^ last >> 63)).to_bits()));
+    row!("sqrt64 x, in a chain", |side| fold(
+        |i, last| side::sqrt64(f64::from_bits(wide_words[i] ^ last >> 63)).to_bits()
+    ));
     row!("narrow x", |side| calls(|i| side::narrow(wide[i]).to_bits().into()));
     row!("widen x", |side| calls(|i| side::widen(x[i]).to_bits()));
     row!("f32_of_word x", |side| calls(|i| side::f32_of_word(words[i]).to_bits().into()));

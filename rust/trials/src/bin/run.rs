@@ -100,5 +100,9 @@ const PARTS: &[Part] = &[
 
 fn main() -> std::process::ExitCode {
     progress::tell();
-    parts::main("run", "the proved functions against what they are held to, over as many inputs as are asked for", PARTS)
+    parts::main(
+        "run",
+        "the proved functions against what they are held to, over as many inputs as are asked for",
+        PARTS,
+    )
 }

@@ -53,7 +53,9 @@ impl Random {
             _ => self.below(9),
         };
         let records: Vec<Record> = (0..count)
-            .map(|_| std::array::from_fn(|i| if i == BLOCK_RECORD - 2 { self.below(2) as u32 } else { self.bits() as u32 }))
+            .map(|_| {
+                std::array::from_fn(|i| if i == BLOCK_RECORD - 2 { self.below(2) as u32 } else { self.bits() as u32 })
+            })
             .collect();
         let mut block = block_of(&records);
         let times = self.of(&[0, 0, 0, 1, 1, 2]);

@@ -80,7 +80,8 @@ pub fn few(width: Width) -> Vec<u64> {
     if width == Width::F64 {
         // f32's limits and their middles: half the smallest, where subnormals end, a carry into the next
         // exponent, overflow
-        let singles = [0, 1, 0x3f_ffff, 0x7f_fffe, 0x7f_ffff, 0x80_0000, 0x3f7f_ffff, 0x3f80_0000, 0x7f7f_fffe, 0x7f7f_ffff];
+        let singles =
+            [0, 1, 0x3f_ffff, 0x7f_fffe, 0x7f_ffff, 0x80_0000, 0x3f7f_ffff, 0x3f80_0000, 0x7f7f_fffe, 0x7f7f_ffff];
         words.extend(singles.into_iter().map(middle).flat_map(around));
         words.extend(around(width.word(f32::MAX.into())));
     }

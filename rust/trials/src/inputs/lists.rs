@@ -146,7 +146,9 @@ impl Random {
             // some triangles without power, others with
             1 => {
                 powers = [1e-38, 1.0];
-                triangles.iter_mut().for_each(|triangle| triangle[9] = self.of(&[1e-20f32, 1e-8, 1.0, 100.0]).to_bits());
+                triangles
+                    .iter_mut()
+                    .for_each(|triangle| triangle[9] = self.of(&[1e-20f32, 1e-8, 1.0, 100.0]).to_bits());
             }
             // a NaN in one, two or, not always, three of the vertices on an axis
             2 => {
@@ -212,7 +214,9 @@ impl Random {
         let not_finite = self.of(&UNFIT);
         let what = if kind == Kind::Group && triangles == 0 { 0 } else { self.below(5) };
         match what {
-            0 => lamp[power + self.below(2) as usize] = self.of(&[not_finite, (-1f32).to_bits(), (-SMALLEST).to_bits()]),
+            0 => {
+                lamp[power + self.below(2) as usize] = self.of(&[not_finite, (-1f32).to_bits(), (-SMALLEST).to_bits()])
+            }
             1 => {
                 let axis = self.below(3) as usize;
                 let corners = if kind == Kind::Group { 3 } else { 1 };
@@ -223,7 +227,9 @@ impl Random {
                 lamp[direction..direction + 3].fill(self.of(&[small, not_finite]));
             }
             3 if kind == Kind::Group => lamp[triangle + 9] = self.of(&[not_finite, 0, 1 << 31, (-1f32).to_bits()]),
-            3 if kind == Kind::Spot => lamp[9 + self.below(2) as usize] = self.of(&[not_finite, ABOVE_1.to_bits(), 0xc000_0000]),
+            3 if kind == Kind::Spot => {
+                lamp[9 + self.below(2) as usize] = self.of(&[not_finite, ABOVE_1.to_bits(), 0xc000_0000])
+            }
             4 if kind == Kind::Group => {
                 lamp.truncate(5);
                 lamp[4] = 0;
@@ -266,7 +272,8 @@ impl Random {
 
     /// A layout made wrong, or at least not surely right, at a head, a side, a triangle count, word 0 or the end.
     fn ragged(&mut self, list: &mut Vec<u32>, lamps: &[Vec<u32>]) {
-        let starts: Vec<usize> = lamps.iter().scan(1, |at, lamp| Some(std::mem::replace(at, *at + lamp.len()))).collect();
+        let starts: Vec<usize> =
+            lamps.iter().scan(1, |at, lamp| Some(std::mem::replace(at, *at + lamp.len()))).collect();
         let bit = 1 << self.below(32);
         let groups: Vec<usize> = (0..starts.len()).filter(|place| list[starts[*place]] >> 30 == 3).collect();
         match self.below(10) {
@@ -285,7 +292,8 @@ impl Random {
                 let place = self.of(&groups);
                 let at = starts[place];
                 let [count, rest] = [list[at + 4], (list.len() - at - 5) as u32];
-                list[at + 4] = self.of(&[count + 1, count.wrapping_sub(1), count ^ bit, u32::MAX, u32::MAX / 13, rest / 13]);
+                list[at + 4] =
+                    self.of(&[count + 1, count.wrapping_sub(1), count ^ bit, u32::MAX, u32::MAX / 13, rest / 13]);
                 if self.chance(3) {
                     list[0] = place as u32 + 1;
                     list[at + 4] = wrapping_count(rest);

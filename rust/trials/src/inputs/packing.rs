@@ -179,7 +179,10 @@ impl Random {
                 node[3..].copy_from_slice(&record);
             }
             3 => set(&mut node[9..12], [self.of(&[1.5e19, 1.9e19, 1e20, 3e38]), self.within(1e19), self.within(1.0)]),
-            4 => (node[0], node[1]) = (INTERIOR | node[0] & PAYLOAD, self.of(&[0x8000_0000, 0x8000_0001, NONE - 1, NONE])),
+            4 => {
+                (node[0], node[1]) =
+                    (INTERIOR | node[0] & PAYLOAD, self.of(&[0x8000_0000, 0x8000_0001, NONE - 1, NONE]))
+            }
             5 => node[2] = self.of(&[count as u32, count as u32 + 1, NONE - 1, 0x8000_0000, PAYLOAD]),
             _ => node[0] = INTERIOR | self.of(&[0, 1, 2, count as u32, PAYLOAD]),
         }
@@ -288,7 +291,9 @@ impl Random {
                 });
             }
             NotFinite => corners[word] = self.of(&UNFIT),
-            Inverted => (corners[axis], corners[3 + axis]) = (2f32.to_bits(), self.of(&[1f32, -3.0, -f32::MAX]).to_bits()),
+            Inverted => {
+                (corners[axis], corners[3 + axis]) = (2f32.to_bits(), self.of(&[1f32, -3.0, -f32::MAX]).to_bits())
+            }
             _ => corners = std::array::from_fn(|_| self.bits() as u32),
         }
         Some(corners)
@@ -319,8 +324,9 @@ impl Random {
         }
         let times = self.of(&[0, 0, 0, 0, 1, 1, 2]);
         for _ in 0..times {
-            let change =
-                self.of(&[NoBox, EndOfBox, EndOfBox, FlatBox, FlatBox, Narrow, Narrow, Endless, NotFinite, Inverted, AnyBox]);
+            let change = self.of(&[
+                NoBox, EndOfBox, EndOfBox, FlatBox, FlatBox, Narrow, Narrow, Endless, NotFinite, Inverted, AnyBox,
+            ]);
             all = self.other_box(all, change);
             changes.push(change);
         }

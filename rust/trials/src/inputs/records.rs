@@ -195,7 +195,16 @@ impl Random {
         };
         let normal = match self.below(8) {
             0 => [0.0; 3],
-            1 => self.of(&[[-0.0; 3], [1e-30; 3], [2e-23; 3], [1e-22; 3], [0.0, 0.0, SMALLEST], [1e19; 3], [2e19; 3], [3e38; 3]]),
+            1 => self.of(&[
+                [-0.0; 3],
+                [1e-30; 3],
+                [2e-23; 3],
+                [1e-22; 3],
+                [0.0, 0.0, SMALLEST],
+                [1e19; 3],
+                [2e19; 3],
+                [3e38; 3],
+            ]),
             2 => self.direction(),
             3 => self.vector(100.0),
             _ => self.unit(),

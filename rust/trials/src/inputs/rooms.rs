@@ -61,8 +61,12 @@ impl Room {
 
 /// The direction away from the wall that a square of the ceiling lies at.
 fn from_wall([column, row]: [usize; 2], [columns, rows]: [usize; 2]) -> Option<[f32; 2]> {
-    let walls =
-        [(column == 0, [1.0, 0.0]), (column + 1 == columns, [-1.0, 0.0]), (row == 0, [0.0, 1.0]), (row + 1 == rows, [0.0, -1.0])];
+    let walls = [
+        (column == 0, [1.0, 0.0]),
+        (column + 1 == columns, [-1.0, 0.0]),
+        (row == 0, [0.0, 1.0]),
+        (row + 1 == rows, [0.0, -1.0]),
+    ];
     walls.into_iter().find_map(|(here, inward)| here.then_some(inward))
 }
 

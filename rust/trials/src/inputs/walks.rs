@@ -221,11 +221,26 @@ impl Random {
         let (count, place) = (words.nodes.len() as u32, place as u32);
         let inside = self.below(count.into()) as u32;
         let parent = words.nodes[place as usize][2];
-        self.of(&[0, inside, inside, place, place + 1, place + 2, parent, count - 1, count, count + 1, NONE, NONE - 1, PAYLOAD])
+        self.of(&[
+            0,
+            inside,
+            inside,
+            place,
+            place + 1,
+            place + 2,
+            parent,
+            count - 1,
+            count,
+            count + 1,
+            NONE,
+            NONE - 1,
+            PAYLOAD,
+        ])
     }
 
     fn fork(&mut self, words: &Words) -> Option<usize> {
-        let forks: Vec<usize> = (0..words.nodes.len().min(40)).filter(|place| words.children(*place).is_some()).collect();
+        let forks: Vec<usize> =
+            (0..words.nodes.len().min(40)).filter(|place| words.children(*place).is_some()).collect();
         (!forks.is_empty()).then(|| self.of(&forks))
     }
 
@@ -288,9 +303,12 @@ impl Random {
         let limit = NODE_BYTES * MOST_NODES;
         match damage {
             FullNodes => tree.nodes.resize(limit, 0),
-            TooManyNodes => tree.nodes.resize(limit + self.of(&[NODE_BYTES, NODE_BYTES, NODE_BYTES + part, 9 * NODE_BYTES]), 0),
+            TooManyNodes => {
+                tree.nodes.resize(limit + self.of(&[NODE_BYTES, NODE_BYTES, NODE_BYTES + part, 9 * NODE_BYTES]), 0)
+            }
             PartNode => {
-                let whole = self.of(&[tree.nodes.len(), tree.nodes.len().saturating_sub(NODE_BYTES), tree.nodes.len(), limit]);
+                let whole =
+                    self.of(&[tree.nodes.len(), tree.nodes.len().saturating_sub(NODE_BYTES), tree.nodes.len(), limit]);
                 tree.nodes.resize(whole.min(limit) + part, 0);
             }
             FullTable => tree.table.resize(4 * MOST_LAMPS, 0xff),

@@ -8,8 +8,8 @@ use crate::inputs::trees::{INTERIOR, LEAF, NODE, PAYLOAD};
 use crate::inputs::walks::{MOST_U, NONE};
 use crate::oracle::reference::native::light_bvh::LightBVH;
 use crate::oracle::reference::{
-    Branch, CHILDLESS_PARENT, NOT_OWNED, PAST_LEAF, PAST_LEFT, PAST_PARENT, PAST_RIGHT, PbrtError, SPENT_CHANCE, SPENT_DRAW,
-    UNKNOWN_NODE, UNKNOWN_PARENT, mark, native_node,
+    Branch, CHILDLESS_PARENT, NOT_OWNED, PAST_LEAF, PAST_LEFT, PAST_PARENT, PAST_RIGHT, PbrtError, SPENT_CHANCE,
+    SPENT_DRAW, UNKNOWN_NODE, UNKNOWN_PARENT, mark, native_node,
 };
 use crate::oracle::standins;
 

@@ -65,7 +65,10 @@ pub const BVH_LOST: &[Pair] = &[
     ("end: usize,\n) -> Option<LightBounds> {", "end: usize,\n) -> Result<Option<LightBounds>, PbrtError> {"),
     ("    }\n    result\n}", "    }\n    Ok(result)\n}"),
     ("union_bucket_range(&buckets, 0, bucket)", "union_bucket_range(&buckets, 0, bucket)?"),
-    ("union_bucket_range(&buckets, bucket + 1, N_BUCKETS - 1)", "union_bucket_range(&buckets, bucket + 1, N_BUCKETS - 1)?"),
+    (
+        "union_bucket_range(&buckets, bucket + 1, N_BUCKETS - 1)",
+        "union_bucket_range(&buckets, bucket + 1, N_BUCKETS - 1)?",
+    ),
     ("light_bounds: &[LightBounds]) -> Split {", "light_bounds: &[LightBounds]) -> Result<Split, PbrtError> {"),
     (
         "best.unwrap_or(Split {\n        dimension: 0,\n        bucket: N_BUCKETS / 2 - 1,\n    })",
@@ -152,7 +155,10 @@ pub const MARKS: &[Pair] = &[
     ("return Ok(self);", "{ super::mark(super::Branch::SecondPowerless); return Ok(self); }"),
     ("return (a, cos_a);", "{ super::mark(super::Branch::FirstHolds); return (a, cos_a); }"),
     ("return (b, cos_b);", "{ super::mark(super::Branch::SecondHolds); return (b, cos_b); }"),
-    ("if theta_o >= std::f32::consts::PI {", "if theta_o >= std::f32::consts::PI { super::mark(super::Branch::AllDirections);"),
+    (
+        "if theta_o >= std::f32::consts::PI {",
+        "if theta_o >= std::f32::consts::PI { super::mark(super::Branch::AllDirections);",
+    ),
     ("if dot(axis, axis) == 0.0 {", "if dot(axis, axis) == 0.0 { super::mark(super::Branch::NoAxis);"),
     (
         "normalize(axis).unwrap_or([0.0, 0.0, 1.0])",
@@ -174,8 +180,14 @@ pub const MARKS: &[Pair] = &[
 
 pub const BVH_MARKS: &[Pair] = &[
     ("if bounds.phi > 0.0 {", "if bounds.phi == 0.0 { super::mark(super::Branch::Powerless); } if bounds.phi > 0.0 {"),
-    ("if !bvh.bounded_handles.is_empty() {", "if bvh.bounded_handles.is_empty() { super::mark(super::Branch::NoTree); } else {"),
-    ("if handles.len() == 1 {", "if handles.len() == 1 { if parent == INVALID_INDEX { super::mark(super::Branch::LoneLeaf); }"),
+    (
+        "if !bvh.bounded_handles.is_empty() {",
+        "if bvh.bounded_handles.is_empty() { super::mark(super::Branch::NoTree); } else {",
+    ),
+    (
+        "if handles.len() == 1 {",
+        "if handles.len() == 1 { if parent == INVALID_INDEX { super::mark(super::Branch::LoneLeaf); }",
+    ),
     (
         ".union(bvh.nodes[right_child as usize].bounds()).map_err(super::lost)",
         ".union(bvh.nodes[right_child as usize].bounds())

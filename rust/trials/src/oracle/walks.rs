@@ -12,7 +12,9 @@ use crate::inputs::trees::NODE;
 use crate::inputs::walks::{Chance, Drawn, MOST_NODES, NODE_BYTES, Tree, words};
 use crate::oracle::loops::{Link, Walk, ascend, descend};
 use crate::oracle::reference::oracle::light_bounds::LightBounds;
-use crate::oracle::reference::oracle::light_bvh::{LightBVH, LightBVHNode, bvh_light_sampler_pmf, bvh_light_sampler_sample};
+use crate::oracle::reference::oracle::light_bvh::{
+    LightBVH, LightBVHNode, bvh_light_sampler_pmf, bvh_light_sampler_sample,
+};
 use crate::oracle::reference::{
     CROWDED, PbrtError, RAGGED, UNKNOWN_SIDE, native, native_of_node, number, of_node, oracle_of_words,
 };
@@ -38,8 +40,12 @@ impl Decoded {
         let decoded: Option<Vec<LightBVHNode>> = nodes.iter().map(of_node).collect();
         let trees = decoded.map(|decoded| {
             let nodes = nodes.iter().map(|node| native_of_node(node).unwrap()).collect();
-            let own =
-                native::light_bvh::LightBVH { all_bounds: None, nodes, handle_to_leaf: table.clone(), bounded_handles: vec![] };
+            let own = native::light_bvh::LightBVH {
+                all_bounds: None,
+                nodes,
+                handle_to_leaf: table.clone(),
+                bounded_handles: vec![],
+            };
             (LightBVH { all_bounds: None, nodes: decoded, handle_to_leaf: table.clone(), bounded_handles: vec![] }, own)
         });
         let bounds = nodes.iter().map(|[_, _, _, record @ ..]| oracle_of_words(record).ok()).collect();
@@ -107,7 +113,10 @@ impl Decoded {
     /// What the reference answers with Rust's own library functions, where it can.
     pub fn own_sample(&self, query: &Query, u: f32) -> Option<Drawn> {
         let ((_, tree), [p, n]) = (self.trees.as_ref()?, vectors(query));
-        Some(self.check(false).and_then(|()| stored(native::light_bvh::bvh_light_sampler_sample(tree, p, n, u)).map_err(number)))
+        Some(
+            self.check(false)
+                .and_then(|()| stored(native::light_bvh::bvh_light_sampler_sample(tree, p, n, u)).map_err(number)),
+        )
     }
 
     pub fn own_pmf(&self, query: &Query, handle: u32) -> Option<Chance> {

@@ -22,7 +22,17 @@ unsafe extern "C" {
         answer: *mut u32,
         answer_len: usize,
     ) -> u32;
-    pub fn light_sample(nodes: *const u8, nodes_len: usize, px: f32, py: f32, pz: f32, nx: f32, ny: f32, nz: f32, u: f32) -> u64;
+    pub fn light_sample(
+        nodes: *const u8,
+        nodes_len: usize,
+        px: f32,
+        py: f32,
+        pz: f32,
+        nx: f32,
+        ny: f32,
+        nz: f32,
+        u: f32,
+    ) -> u64;
     pub fn light_pmf(
         nodes: *const u8,
         nodes_len: usize,
@@ -88,7 +98,8 @@ unsafe extern "C" {
     pub fn words_bytes_of_words(words: *const u32, len: usize, bytes: *mut u8, bytes_len: usize) -> u32;
 
     pub fn bounds_validate(record: *const u32, len: usize) -> u32;
-    pub fn bounds_union(a: *const u32, a_len: usize, b: *const u32, b_len: usize, out: *mut u32, out_len: usize) -> u32;
+    pub fn bounds_union(a: *const u32, a_len: usize, b: *const u32, b_len: usize, out: *mut u32, out_len: usize)
+    -> u32;
     pub fn bounds_importance(record: *const u32, len: usize, query: *const u32, query_len: usize) -> u64;
 
     pub fn lamps_check_block(block: *const u32, len: usize) -> u32;

@@ -138,8 +138,9 @@ pub fn sampler_sample(nodes: &[u8], query: &Query, u: f32) -> Drawn {
 /// The chance of a lamp by its handle, over a tree's nodes and table as bytes.
 pub fn sampler_pmf(nodes: &[u8], table: &[u8], query: &Query, handle: u32) -> Chance {
     let [px, py, pz, nx, ny, nz] = query.map(f32::from_bits);
-    let answer =
-        unsafe { c::light_pmf(nodes.as_ptr(), nodes.len(), table.as_ptr(), table.len(), px, py, pz, nx, ny, nz, handle) };
+    let answer = unsafe {
+        c::light_pmf(nodes.as_ptr(), nodes.len(), table.as_ptr(), table.len(), px, py, pz, nx, ny, nz, handle)
+    };
     match answer >> 32 {
         0 => Ok(answer as u32),
         1 => Err(answer as u32),

@@ -12,7 +12,13 @@ pub fn blocks(seed: u64, cases: u64) -> [u64; NUMBERS] {
     for _ in turns("blocks", cases) {
         let block = random.block();
         let expected = check_block(&block);
-        assert_eq!(proved::lamps_check_block(&block), expected, "{} words: {:08x?}", block.len(), &block[..block.len().min(60)]);
+        assert_eq!(
+            proved::lamps_check_block(&block),
+            expected,
+            "{} words: {:08x?}",
+            block.len(),
+            &block[..block.len().min(60)]
+        );
         counts[expected.err().unwrap_or(0) as usize] += 1;
     }
     counts

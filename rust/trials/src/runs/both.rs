@@ -41,18 +41,16 @@ fn held<T: Clone + PartialEq, A: PartialEq + Debug, const N: usize>(
 
 /// A `Build`.
 pub fn build_light_bvh(light_count: u32, block: &[u32], trays: Trays) -> Result<(), u32> {
-    alike!(trays, |trays: Trays| proved::tree_build_light_bvh(light_count, block, trays), |trays| reference::build_light_bvh(
-        light_count,
-        block,
-        trays
-    ))
+    alike!(trays, |trays: Trays| proved::tree_build_light_bvh(light_count, block, trays), |trays| {
+        reference::build_light_bvh(light_count, block, trays)
+    })
 }
 
 /// A `Pack`.
 pub fn pack_light_bvh(nodes: &[u8], k: usize, all: Option<Corners>, out: &mut [u8]) -> Packed {
-    alike!([out], |[out]: [&mut [u8]; 1]| proved::packed_pack_light_bvh(nodes, k, all, out), |[out]| packing::pack_light_bvh(
-        nodes, k, all, out
-    ))
+    alike!([out], |[out]: [&mut [u8]; 1]| proved::packed_pack_light_bvh(nodes, k, all, out), |[out]| {
+        packing::pack_light_bvh(nodes, k, all, out)
+    })
 }
 
 /// The records of a lamp list.

@@ -16,7 +16,9 @@ pub fn validates(seed: u64, cases: u64) -> Tally {
         let record = random.record();
         let (expected, branches) = marked(|| reference::validate(&record));
         let got = proved::bounds_validate(&record);
-        tally.case(&expected, branches, &[], got == expected, || format!("validate({record:08x?}): {got:?}, not {expected:?}"));
+        tally.case(&expected, branches, &[], got == expected, || {
+            format!("validate({record:08x?}): {got:?}, not {expected:?}")
+        });
     }
     tally
 }

@@ -59,12 +59,30 @@ pub struct Search {
 
 impl std::fmt::Display for Search {
     fn fmt(&self, out: &mut std::fmt::Formatter) -> std::fmt::Result {
-        let Search { trees, refused, lone, infinite_roots, draws, none, draws_refused, mixed, lamps, nan_chances, found } = self;
+        let Search {
+            trees,
+            refused,
+            lone,
+            infinite_roots,
+            draws,
+            none,
+            draws_refused,
+            mixed,
+            lamps,
+            nan_chances,
+            found,
+        } = self;
         writeln!(out, "{trees} trees ({refused} blocks refused), {} violations", found.len())?;
         writeln!(out, "    trees of one node: {lone}; roots of infinite power: {infinite_roots}")?;
-        writeln!(out, "    draws: {draws}, of which none: {none}, refused: {draws_refused}, chance NaN: {nan_chances}")?;
+        writeln!(
+            out,
+            "    draws: {draws}, of which none: {none}, refused: {draws_refused}, chance NaN: {nan_chances}"
+        )?;
         writeln!(out, "    lamps drawn and followed up: {lamps}; queries that only some u are refused for: {mixed}")?;
-        found.iter().take(4).try_for_each(|(tree, violation, shown)| writeln!(out, "    tree {tree}: {violation:?}: {shown}"))
+        found
+            .iter()
+            .take(4)
+            .try_for_each(|(tree, violation, shown)| writeln!(out, "    tree {tree}: {violation:?}: {shown}"))
     }
 }
 
@@ -166,7 +184,8 @@ fn broken_order(drawn: &[(f32, Drawn)], table: &[u32]) -> Option<(Violation, usi
     if let Some(i) = (1..drawn.len()).find(equal) {
         return Some((Violation::Run, i - 1, i));
     }
-    let lamps: Vec<(usize, u32)> = drawn.iter().enumerate().filter_map(|(i, (_, drawn))| Some((i, lamp(drawn)?))).collect();
+    let lamps: Vec<(usize, u32)> =
+        drawn.iter().enumerate().filter_map(|(i, (_, drawn))| Some((i, lamp(drawn)?))).collect();
     lamps.windows(2).find_map(|pair| {
         let [(i, first), (j, second)] = [pair[0], pair[1]];
         match place(first).cmp(&place(second)) {
@@ -216,7 +235,9 @@ fn followed(
     if named.is_err() {
         return Some(Violation::Unnamed);
     }
-    let Some(leaf) = words.table.get(handle as usize).filter(|leaf| **leaf != NONE) else { return Some(Violation::DrawnNodes) };
+    let Some(leaf) = words.table.get(handle as usize).filter(|leaf| **leaf != NONE) else {
+        return Some(Violation::DrawnNodes);
+    };
     let way = way_up(words, *leaf);
     let (mut beside_it, mut spoilt) = (nodes.to_vec(), nodes.to_vec());
     for place in (0..words.nodes.len()).filter(|place| !way.contains(place)) {
@@ -255,7 +276,8 @@ impl Search {
         self.draws_refused += refused;
         self.mixed += u64::from(refused > 0 && count(|drawn| lamp(drawn).is_some()) > 0);
         let shown = |at: &[usize]| {
-            let draws: Vec<_> = at.iter().map(|i| format!("u {:08x} gives {:x?}", drawn[*i].0.to_bits(), drawn[*i].1)).collect();
+            let draws: Vec<_> =
+                at.iter().map(|i| format!("u {:08x} gives {:x?}", drawn[*i].0.to_bits(), drawn[*i].1)).collect();
             format!("{draws:?}, query {query:08x?}, nodes {:08x?}, table {:x?}", words.nodes, words.table)
         };
         if let Some((violation, i, j)) = broken_order(&drawn, &words.table) {
@@ -264,7 +286,9 @@ impl Search {
         // each lamp once
         let mut last = None;
         for (i, (u, given)) in drawn.iter().enumerate() {
-            let Some((handle, chance)) = given.ok().flatten().filter(|(handle, _)| last != Some(*handle)) else { continue };
+            let Some((handle, chance)) = given.ok().flatten().filter(|(handle, _)| last != Some(*handle)) else {
+                continue;
+            };
             last = Some(handle);
             self.lamps += 1;
             self.nan_chances += u64::from(chance == 0x7fc0_0000);
@@ -346,9 +370,14 @@ impl Slip {
         for _ in 0..words.nodes.len() {
             let head = words.nodes[place][0];
             let Some([left, right]) = words.children(place) else {
-                return if head & !PAYLOAD == LEAF { Ok(Some((head & PAYLOAD, standins::word(chance)))) } else { Err(12) };
+                return if head & !PAYLOAD == LEAF {
+                    Ok(Some((head & PAYLOAD, standins::word(chance))))
+                } else {
+                    Err(12)
+                };
             };
-            let [first, second] = if self == Slip::RightFirst && place % 3 == 0 { [right, left] } else { [left, right] };
+            let [first, second] =
+                if self == Slip::RightFirst && place % 3 == 0 { [right, left] } else { [left, right] };
             let [x, y] = [weigh(first)?, weigh(second)?];
             let total = x + y;
             if total <= 0.0 {

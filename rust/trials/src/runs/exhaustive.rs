@@ -47,7 +47,8 @@ impl Count {
     fn share(f: &Function, thread: u64) -> Count {
         let every_word = f.arguments == 1 && f.width == Width::F32;
         let cases = if every_word { (1 << 32) / THREADS } else { RANDOM / THREADS };
-        let (mut count, mut random, mut progress) = (Count::default(), Random::new(thread), Progress::new(f.name, cases));
+        let (mut count, mut random, mut progress) =
+            (Count::default(), Random::new(thread), Progress::new(f.name, cases));
         for start in (0..cases).step_by(STRETCH as usize) {
             let stretch = start..cases.min(start + STRETCH);
             if every_word {
@@ -80,12 +81,15 @@ impl Count {
 
 /// `exhaustive [FUNCTION…]`: all where none is named.
 pub fn by_hand(names: &[String]) -> Ended {
-    let named = |name: &String| FUNCTIONS.iter().find(|f| f.name == name).ok_or_else(|| format!("there is no function {name}"));
+    let named =
+        |name: &String| FUNCTIONS.iter().find(|f| f.name == name).ok_or_else(|| format!("there is no function {name}"));
     let chosen: Vec<&Function> = match names.is_empty() {
         true => FUNCTIONS.iter().collect(),
         false => names.iter().map(named).collect::<Result<_, String>>()?,
     };
-    println!("function: cases, differences from the stand-in | cases that Rust's own answers, differences from it | seconds");
+    println!(
+        "function: cases, differences from the stand-in | cases that Rust's own answers, differences from it | seconds"
+    );
     Ok(chosen.into_iter().map(shown).filter(|good| !good).count() == 0)
 }
 
@@ -99,7 +103,10 @@ fn shown(f: &'static Function) -> bool {
     match sum(|c| c.unlike_zeros) {
         0 => println!(),
         zeros => {
-            println!(" | apart: {zeros} pairs of unlike zeros, where Rust leaves it open; {} differ", sum(|c| c.from_own_there));
+            println!(
+                " | apart: {zeros} pairs of unlike zeros, where Rust leaves it open; {} differ",
+                sum(|c| c.from_own_there)
+            );
             [[0, 1 << 31, 0], [1 << 31, 0, 0]].iter().for_each(|case| println!("    {}", f.show(case)));
         }
     }

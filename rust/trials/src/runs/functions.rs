@@ -117,7 +117,11 @@ impl Function {
         let arguments: Vec<String> = case[..self.arguments].iter().map(|&w| digits(w)).collect();
         let own = (self.own)(case).map_or("none".into(), |w| format!("{w:08x}"));
         let (proved, standin) = ((self.proved)(case), (self.standin)(case));
-        format!("{}({}): proved {proved:08x}, stand-in {standin:08x}, Rust's own {own}", self.name, arguments.join(", "))
+        format!(
+            "{}({}): proved {proved:08x}, stand-in {standin:08x}, Rust's own {own}",
+            self.name,
+            arguments.join(", ")
+        )
     }
 
     /// Holds the proved function against the stand-in: every special case, then random ones.

@@ -27,7 +27,8 @@ pub fn lists(seed: u64, cases: u64) -> Tally {
         let of = |kind: Kind| lamps.as_ref().is_ok_and(|lamps| lamps.iter().any(|lamp| lamp.kind == kind));
         let given = expected.is_ok();
         let records = if given { whole.slice()[1..reserve].to_vec() } else { vec![] };
-        let figure = |at: usize, word: u32| records.chunks_exact(BLOCK_RECORD).any(|record| record[at] & 0x7fff_ffff == word);
+        let figure =
+            |at: usize, word: u32| records.chunks_exact(BLOCK_RECORD).any(|record| record[at] & 0x7fff_ffff == word);
         let is_nan = |word: &u32| f32::from_bits(*word).is_nan();
         let nan_corner = || {
             let groups = lamps.iter().flatten().filter(|lamp| lamp.kind == Kind::Group);

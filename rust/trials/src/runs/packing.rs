@@ -123,10 +123,14 @@ impl Judged {
         let (by_length, by_tree) = (!self.lengths.is_empty(), self.disagree);
         let other = |reason: Reason| first.iter().any(|next| next.number() != reason.number());
         let node = |met: fn(&Reason) -> bool| {
-            !by_length && !by_tree && self.of_box.is_none() && first.first().is_some_and(|reason| met(reason) && other(*reason))
+            !by_length
+                && !by_tree
+                && self.of_box.is_none()
+                && first.first().is_some_and(|reason| met(reason) && other(*reason))
         };
         let last = self.nodes.iter().rev().find(|reasons| !reasons.is_empty());
-        let across = first.first().zip(last.and_then(|last| last.first())).is_some_and(|(a, b)| a.number() != b.number());
+        let across =
+            first.first().zip(last.and_then(|last| last.first())).is_some_and(|(a, b)| a.number() != b.number());
         vec![
             ("order: 2 before another", lengths(CROWDED)),
             ("order: 1 before another", lengths(RAGGED)),
@@ -143,7 +147,10 @@ impl Judged {
             ("order: the record's before another of its node", node(|reason| matches!(reason, Record(_)))),
             ("order: the length's before another of its node", node(|reason| *reason == Length)),
             ("order: 13 before 12 of its node", node(|reason| *reason == Payload)),
-            ("order: an earlier node's before a later one's", !by_length && !by_tree && self.of_box.is_none() && across),
+            (
+                "order: an earlier node's before a later one's",
+                !by_length && !by_tree && self.of_box.is_none() && across,
+            ),
         ]
     }
 }
@@ -311,10 +318,17 @@ pub fn each_word(seed: u64, trees: u64) -> Tally {
             for wrong in wrong_words(place, sound.nodes.len()) {
                 let mut words = sound.clone();
                 words.nodes[place][word] = wrong;
-                packing(&mut tally, &mut random, &Case { nodes: words.tree().nodes, ..case.clone() }, &[Change::OfWords]);
+                packing(
+                    &mut tally,
+                    &mut random,
+                    &Case { nodes: words.tree().nodes, ..case.clone() },
+                    &[Change::OfWords],
+                );
             }
         }
-        for (word, wrong) in (0..6).flat_map(|word| wrong_words(0, 1).into_iter().chain(UNFIT).map(move |wrong| (word, wrong))) {
+        for (word, wrong) in
+            (0..6).flat_map(|word| wrong_words(0, 1).into_iter().chain(UNFIT).map(move |wrong| (word, wrong)))
+        {
             let mut all = case.all.unwrap();
             all[word] = wrong;
             packing(&mut tally, &mut random, &Case { all: Some(all), ..case.clone() }, &[Change::EndOfBox]);

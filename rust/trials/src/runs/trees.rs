@@ -43,7 +43,9 @@ fn flaw(case: &Case, before: &Trays, after: &Trays, given: Result<(), u32>) -> O
         Ok(()) if answer[0] == 0 && answer.iter().any(|word| *word != 0) => Some("a box without lamps"),
         Ok(()) => tree_flaw(&case.block, &built(answer), nodes, table),
         Err(_) if [nodes, table, answer].concat().iter().any(|word| *word != 0) => Some("a refusal left words"),
-        Err(number) if number != first_refusal(&case.block).unwrap_or(LOST_UNION) => Some("another refusal comes first"),
+        Err(number) if number != first_refusal(&case.block).unwrap_or(LOST_UNION) => {
+            Some("another refusal comes first")
+        }
         Err(_) => None,
     }
 }
@@ -96,7 +98,8 @@ fn node_flaw(
         let good = right == INVALID_INDEX && table.get(low) == Some(&(place as u32)) && record == records[low];
         return (!good).then_some("a leaf is not its lamp's");
     }
-    if kind != INTERIOR || low != place + 1 || ends.get(low) != Some(&(right as usize)) || right as usize >= nodes.len() {
+    if kind != INTERIOR || low != place + 1 || ends.get(low) != Some(&(right as usize)) || right as usize >= nodes.len()
+    {
         return Some("the right half does not lie behind the left");
     }
     ends[place] = ends[right as usize];
@@ -111,7 +114,8 @@ fn node_flaw(
 /// The least and the greatest on each axis, the first of equal ones.
 fn box_around<'a>(records: impl Iterator<Item = &'a &'a Record>) -> Option<[u32; 6]> {
     let value = f32::from_bits;
-    let passes = |i: usize, word: u32, other: u32| if i < 3 { value(other) < value(word) } else { value(other) > value(word) };
+    let passes =
+        |i: usize, word: u32, other: u32| if i < 3 { value(other) < value(word) } else { value(other) > value(word) };
     let boxes = records.map(|record| std::array::from_fn(|i| record[i]));
     boxes.reduce(|a, b: [u32; 6]| std::array::from_fn(|i| if passes(i, a[i], b[i]) { b[i] } else { a[i] }))
 }
@@ -201,7 +205,9 @@ fn ways(case: &Case, after: &Trays, answer: Result<(), u32>, branches: Branches)
     ways.extend((1..).zip(SHORT.iter()).map(|(which, label)| (label.as_str(), answer == Err(3) && short == which)));
     let fits = |length: usize| if length < ANSWER { Err(3) } else { Ok(()) };
     ways.extend(
-        (0..).zip(LENGTHS.iter()).map(|(length, label)| (label.as_str(), case.rooms[3] == length && answer == fits(length))),
+        (0..)
+            .zip(LENGTHS.iter())
+            .map(|(length, label)| (label.as_str(), case.rooms[3] == length && answer == fits(length))),
     );
     ways
 }
@@ -226,7 +232,9 @@ fn run(seed: u64, cases: u64) -> Tally {
         let same = flaw.is_none() && proved == answer && ours == after;
         let mut more = ways(&case, &after, answer, branches);
         more.push((OWN, own_answer != answer || own != after));
-        tally.case(&answer, branches, &more, same, || format!("build_light_bvh({case:08x?}): {answer:?}, {proved:?}, {flaw:?}"));
+        tally.case(&answer, branches, &more, same, || {
+            format!("build_light_bvh({case:08x?}): {answer:?}, {proved:?}, {flaw:?}")
+        });
     }
     tally
 }

@@ -44,7 +44,13 @@ impl Plot<'_> {
         Plot::of(random, room, sound, damages, &tree)
     }
 
-    fn of<'a>(random: &mut Random, room: Option<&'a Room>, sound: Words, damages: Vec<Damage>, tree: &Tree) -> Plot<'a> {
+    fn of<'a>(
+        random: &mut Random,
+        room: Option<&'a Room>,
+        sound: Words,
+        damages: Vec<Damage>,
+        tree: &Tree,
+    ) -> Plot<'a> {
         let [nodes, table] = [&tree.nodes, &tree.table].map(|bytes| Lent::of(random, bytes, PATTERN as u8));
         Plot { room, sound, damages, nodes, table, decoded: Decoded::new(tree) }
     }
@@ -65,7 +71,11 @@ impl Plot<'_> {
         let nodes: Vec<_> = words(self.nodes.words()).chunks(NODE).take(16).map(<[u32]>::to_vec).collect();
         let table = words(self.table.words());
         let [nodes_len, table_len] = [&self.nodes, &self.table].map(|bytes| bytes.words().len());
-        format!("{:?}, {nodes_len} bytes {nodes:08x?}, {table_len} bytes {:x?}", self.damages, &table[..table.len().min(24)])
+        format!(
+            "{:?}, {nodes_len} bytes {nodes:08x?}, {table_len} bytes {:x?}",
+            self.damages,
+            &table[..table.len().min(24)]
+        )
     }
 
     fn draw(&self, tally: &mut Tally, query: &Query, u: f32) {
@@ -95,7 +105,8 @@ impl Plot<'_> {
             (BY_COPY, !by_length && !self.decoded.by_reference()),
             (OWN, self.decoded.own_sample(query, u).is_some_and(|own| own != expected)),
         ]);
-        let shown = || format!("draw({query:08x?}, {:08x}) of {}: {got:08x?}, not {expected:08x?}", u.to_bits(), self.shown());
+        let shown =
+            || format!("draw({query:08x?}, {:08x}) of {}: {got:08x?}, not {expected:08x?}", u.to_bits(), self.shown());
         tally.case(&expected, branches, &more, got == expected, shown);
     }
 
@@ -132,7 +143,12 @@ const BY_REFERENCE: &str = "oracle: the reference itself";
 const BY_COPY: &str = "oracle: the copy of its loop, some word decodes to no node of the Rust";
 
 /// Walks over trees, some walks a tree, until there are so many.
-fn run(what: &'static str, seed: u64, cases: u64, mut walk: impl FnMut(&mut Random, &Plot, &mut Tally) + Send) -> Tally {
+fn run(
+    what: &'static str,
+    seed: u64,
+    cases: u64,
+    mut walk: impl FnMut(&mut Random, &Plot, &mut Tally) + Send,
+) -> Tally {
     on_deep_stack(|| {
         let mut random = Random::new(seed);
         let rooms = rooms(&mut random);

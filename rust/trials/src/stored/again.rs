@@ -30,7 +30,8 @@ const SHOWN: usize = 6;
 /// The words of a case that changed.
 fn difference(was: &Case, is: &Case) -> String {
     let words = (0..).zip(was.words.iter().zip(&is.words)).filter(|(_, (was, is))| was != is);
-    let mut shown: Vec<String> = words.map(|(place, (was, is))| format!("word {place} {was:08x} -> {is:08x}")).collect();
+    let mut shown: Vec<String> =
+        words.map(|(place, (was, is))| format!("word {place} {was:08x} -> {is:08x}")).collect();
     let more = shown.len().saturating_sub(SHOWN);
     shown.truncate(SHOWN);
     shown.extend((more > 0).then(|| format!("{more} more")));
@@ -62,7 +63,9 @@ fn drawn<A: Answer>(cases: Vec<A>) -> Ended {
 
 /// The lists of these names.
 fn chosen(names: &[&String]) -> Result<Vec<&'static Named>, String> {
-    let named = |name: &&String| LISTS.iter().find(|list| list.part == **name).ok_or_else(|| format!("there is no list {name}"));
+    let named = |name: &&String| {
+        LISTS.iter().find(|list| list.part == **name).ok_or_else(|| format!("there is no list {name}"))
+    };
     names.iter().map(named).collect()
 }
 

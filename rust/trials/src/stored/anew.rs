@@ -40,7 +40,8 @@ pub fn bounds() -> Vec<bounds::Stored> {
     let (mut random, none) = (Random::new(3), [0; 13]);
     let mut stored = Vec::new();
     let mut add = |kind, a, b| stored.push(bounds::Stored::new(kind, a, b, &bounds::ORACLE));
-    let words = [0, 1 << 31, 0x3f80_0000, 0xbf80_0000, 0x3f00_0000, 0xbf00_0000, 0x3fc9_0fdb, 0x4100_0000, 0x7f80_0000, !0];
+    let words =
+        [0, 1 << 31, 0x3f80_0000, 0xbf80_0000, 0x3f00_0000, 0xbf00_0000, 0x3fc9_0fdb, 0x4100_0000, 0x7f80_0000, !0];
     for kind in 201..=204 {
         words.into_iter().for_each(|word| add(kind, padded(&[word]), none));
         (0..190).for_each(|_| add(kind, padded(&[random.angle()]), none));

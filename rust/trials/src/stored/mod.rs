@@ -86,7 +86,8 @@ pub fn read<A: Answer>(bytes: &[u8]) -> Result<Vec<A>, String> {
     let (mut answers, mut left) = (Vec::new(), bytes);
     while !left.is_empty() {
         let answer = next(&mut left);
-        let at = || format!("case {}, which begins at byte {}", answers.len() + 1, answers.len() * A::LIST.case_bytes());
+        let at =
+            || format!("case {}, which begins at byte {}", answers.len() + 1, answers.len() * A::LIST.case_bytes());
         answers.push(answer.map_err(|why| format!("{}: {why}", at()))?);
     }
     Ok(answers)
@@ -112,7 +113,8 @@ fn next<A: Answer>(left: &mut &[u8]) -> Result<A, String> {
 
 /// Takes the first word of the bytes.
 fn take(left: &mut &[u8]) -> Result<u32, String> {
-    let (word, rest) = left.split_first_chunk().ok_or_else(|| format!("the list ends {} bytes into a word", left.len()))?;
+    let (word, rest) =
+        left.split_first_chunk().ok_or_else(|| format!("the list ends {} bytes into a word", left.len()))?;
     *left = rest;
     Ok(u32::from_le_bytes(*word))
 }

@@ -46,7 +46,8 @@ impl Stored {
 }
 
 impl Answer for Stored {
-    const LIST: List = List { part: "trees", kinds: [KIND, KIND], words: TRAYS_AT + TRAYS[0] + TRAYS[1] + TRAYS[2], count: 1500 };
+    const LIST: List =
+        List { part: "trees", kinds: [KIND, KIND], words: TRAYS_AT + TRAYS[0] + TRAYS[1] + TRAYS[2], count: 1500 };
 
     fn of(case: &Case) -> Option<Stored> {
         let w = &case.words;

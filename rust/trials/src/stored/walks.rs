@@ -58,7 +58,9 @@ impl Stored {
     pub fn new(tree: Tree, query: Query, asked: Asked, side: &Side) -> Stored {
         let (kind, word, answer) = match asked {
             Asked::Draw(u) => (DRAW, u.to_bits(), (side.draw)(&tree, &query, u)),
-            Asked::Chance(handle) => (CHANCE, handle, (side.chance)(&tree, &query, handle).map(|chance| Some((0, chance)))),
+            Asked::Chance(handle) => {
+                (CHANCE, handle, (side.chance)(&tree, &query, handle).map(|chance| Some((0, chance))))
+            }
         };
         let answer = match answer {
             Ok(Some((handle, chance))) => [0, 1, handle, chance],
@@ -100,14 +102,16 @@ impl Answer for Stored {
 
     fn of(case: &Case) -> Option<Stored> {
         let w = &case.words;
-        let tree = Tree { nodes: first(&bytes(&w[NODES_AT..TABLE_AT]), w[0])?, table: first(&bytes(&w[TABLE_AT..]), w[1])? };
+        let tree =
+            Tree { nodes: first(&bytes(&w[NODES_AT..TABLE_AT]), w[0])?, table: first(&bytes(&w[TABLE_AT..]), w[1])? };
         Some(Stored { tree, query: padded(&w[2..8]), kind: case.kind, asked: w[8], answer: padded(&w[9..13]) })
     }
 
     fn case(&self) -> Case {
         let Tree { nodes, table } = &self.tree;
         let head = [nodes.len() as u32, table.len() as u32];
-        let words = [&head[..], &self.query, &[self.asked], &self.answer, &filled_up(nodes, NODES), &filled_up(table, TABLE)];
+        let words =
+            [&head[..], &self.query, &[self.asked], &self.answer, &filled_up(nodes, NODES), &filled_up(table, TABLE)];
         Case { kind: self.kind, words: words.concat() }
     }
 

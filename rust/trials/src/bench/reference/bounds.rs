@@ -19,7 +19,9 @@ pub fn rows() {
         "{INPUTS} records, {} with an importance above 0; medians of {SAMPLES} samples. Proved: records as words, by C.",
         usual.lit()
     );
-    println!("Rust: the reference with its own library functions, not inlined, its records ready; or read from the same words.");
+    println!(
+        "Rust: the reference with its own library functions, not inlined, its records ready; or read from the same words."
+    );
     println!("function | proved ns | Rust ns | ratio");
     usual.importance("importance");
     usual.union("union");

@@ -31,7 +31,8 @@ struct Place {
 impl Place {
     /// How many forks lie above a lamp's leaf.
     fn above(&self, handle: u32) -> usize {
-        let parent = |place: &u32| Some(self.office.tree.nodes[*place as usize].parent()).filter(|parent| *parent != NONE);
+        let parent =
+            |place: &u32| Some(self.office.tree.nodes[*place as usize].parent()).filter(|parent| *parent != NONE);
         std::iter::successors(Some(self.office.tree.handle_to_leaf[handle as usize]), parent).count() - 1
     }
 
@@ -53,9 +54,10 @@ impl Place {
         };
         pass(
             &label("draw", passed),
-            [&|i| sampler_sample(&self.nodes, &queries[i], us[i]).unwrap().map_or(0, |(handle, _)| handle.into()), &|i| {
-                own_draw(&self.office.tree, points[i], us[i])
-            }],
+            [
+                &|i| sampler_sample(&self.nodes, &queries[i], us[i]).unwrap().map_or(0, |(handle, _)| handle.into()),
+                &|i| own_draw(&self.office.tree, points[i], us[i]),
+            ],
         );
         pass(
             &label("chance", above),

@@ -100,7 +100,10 @@ pub const SHORT_TRAY: u32 = 3;
 
 /// The error's number; its message is marked.
 pub(crate) fn number(error: PbrtError) -> u32 {
-    let row = REFUSALS.iter().position(|(message, _)| *message == error.0).unwrap_or_else(|| panic!("unknown error {error:?}"));
+    let row = REFUSALS
+        .iter()
+        .position(|(message, _)| *message == error.0)
+        .unwrap_or_else(|| panic!("unknown error {error:?}"));
     mark_error(row);
     REFUSALS[row].1
 }

@@ -177,7 +177,9 @@ macro_rules! on_blocks {
         }
 
         /// The node of such words; none where the kind or the side is unknown, since no node of the Rust has one.
-        pub fn $of_node([head, right_child, parent, record @ ..]: &[u32; NODE]) -> Option<$side::light_bvh::LightBVHNode> {
+        pub fn $of_node(
+            [head, right_child, parent, record @ ..]: &[u32; NODE],
+        ) -> Option<$side::light_bvh::LightBVHNode> {
             use $side::light_bvh::LightBVHNode::{Interior, Leaf};
             let (bounds, parent, payload) = ($of_words(record).ok()?, *parent, head & PAYLOAD);
             match head - payload {
@@ -204,7 +206,8 @@ macro_rules! on_blocks {
             lend(table, bvh.as_ref().map(|bvh| &bvh.handle_to_leaf[..]).map_err(|_| reserves[1]));
             lend(work, Err(reserves[2]));
             let summary = bvh.as_ref().map(|bvh| {
-                let corners = bvh.all_bounds.map_or([0.0; 6], |all| std::array::from_fn(|i| [all.min, all.max][i / 3][i % 3]));
+                let corners =
+                    bvh.all_bounds.map_or([0.0; 6], |all| std::array::from_fn(|i| [all.min, all.max][i / 3][i % 3]));
                 [&[bvh.bounded_handles.len() as u32], &corners.map(standins::word)[..]].concat()
             });
             lend(answer, summary.as_deref().map_err(|_| reserves[3]));

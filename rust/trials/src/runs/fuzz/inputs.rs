@@ -37,7 +37,8 @@ pub fn list(random: &mut Random, lamps: u32, whole: bool) -> Vec<u32> {
     for handle in 0..lamps {
         let kind = if whole { 1 + random.below(3) } else { random.below(4) } as u32;
         list.push(kind << 30 | handle);
-        let plain = |random: &mut Random, n: u64| (0..n).map(|_| random.within(2.0).abs().to_bits()).collect::<Vec<u32>>();
+        let plain =
+            |random: &mut Random, n: u64| (0..n).map(|_| random.within(2.0).abs().to_bits()).collect::<Vec<u32>>();
         match kind {
             1 => list.extend(plain(random, 5)),
             2 => list.extend(plain(random, 8).into_iter().chain([0x3f66_6666, 0x3f00_0000])),

@@ -117,7 +117,10 @@ impl Fuzz {
             lent.push(zone.lend_words(random, &vec![PATTERN; size]));
         }
         let answer = unsafe {
-            light_build(lights, from, len, lent[0].0, lent[0].1, lent[1].0, lent[1].1, lent[2].0, lent[2].1, lent[3].0, lent[3].1)
+            light_build(
+                lights, from, len, lent[0].0, lent[0].1, lent[1].0, lent[1].1, lent[2].0, lent[2].1, lent[3].0,
+                lent[3].1,
+            )
         };
         self.count("light_build", code(answer));
         if answer != 0 {
