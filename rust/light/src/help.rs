@@ -48,7 +48,7 @@ Draws a lamp for each bench and prints, a bench a line:
             draw comes to a fork neither branch of which shines there
     line    the lamp's line in ROOM
     drawn   the chance with which it is drawn, multiplied on the way down the tree
-    named   the same chance by the lamp's name, multiplied on the way up
+    named   the same chance by the lamp's name, its handle, multiplied on the way up
     bits    the bits of both, in the same order
     apart   how many floats one is from the other; or wholly: one is NaN or infinite, or 0 beside
             one that is not
@@ -93,11 +93,11 @@ pub const CHECK: &str = "\
 Reads all of ROOM, and of BENCHES where it is named, and prints a line for all that it finds: file,
 line, column, what is wrong and what to do. Faults are wrong lines and lamps, rooms and benches that
 the proved functions refuse. Warnings are
-    a triangle whose area is not within 1 part in 1,000 of what its corners make, or whose normal
+  - a triangle whose area is not within 1 part in 1,000 of what its corners make, or whose normal
     is further than that from standing upright on it, on either side
-    a spot whose COS_FALLOFF_END is above its COS_THETA_O, as where the two are swapped
-    two lamps in one place
-    no lamp, no lamp with power, no bench
+  - a spot whose COS_FALLOFF_END is above its COS_THETA_O, as where the two are swapped
+  - two lamps in one place
+  - no lamp, no lamp with power, no bench
 Where there is a fault no lamp is drawn, and of a bench only its text and its u are judged. It exits
 with 0 where no fault is found, with 1 where there is one, with --strict for a warning too.
 `light --help` tells of ROOM, `light report --help` of BENCHES.

@@ -287,6 +287,12 @@ fn wrong_rooms() {
     let output = pair("latin", b"1 0 1 - 0.5\n1 0 \xe4 - 0.5\n");
     assert_eq!(output.status.code(), Some(1));
     assert!(text(&output.stderr).ends_with(": line 2, column 5: no text in UTF-8\n"));
+    let output = pair("wide", b"\xff\xfe1\0 \x000\0");
+    let said = text(&output.stderr);
+    assert!(
+        said.ends_with(": line 1, column 1: no text in UTF-8, it seems to be UTF-16: save the file as UTF-8\n"),
+        "{said}"
+    );
 }
 
 #[test]
