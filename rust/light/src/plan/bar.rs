@@ -1,7 +1,7 @@
 //! The bar of all u from 0 to 1, cut into the runs of the lamps, with the tree under it.
 
 use crate::plan::labels::{clear_of, frame};
-use crate::plan::markup::{Anchor, Box2, Svg, px, width};
+use crate::plan::markup::{Anchor, Box2, Drawing, Svg, px, width};
 use crate::plan::runs::{End, Run};
 use crate::plan::scene::Scene;
 use crate::plan::seen::{Seen, View};
@@ -26,7 +26,7 @@ pub struct Bar<'a> {
 }
 
 /// The bar and the tree of a bench.
-pub fn bar(scene: &Scene, seen: &Seen, view: &View) -> String {
+pub fn bar(scene: &Scene, seen: &Seen, view: &View) -> Drawing {
     let mut svg = Svg::default();
     let bar = Bar { scene, view, at_u: f64::from(seen.bench.u).abs() * WIDE };
     bar.pieces(&mut svg);

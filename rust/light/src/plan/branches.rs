@@ -10,16 +10,16 @@ use crate::plan::shade::{ACCENT, CLOSED, EDGE, FORK, INK, TINT, look};
 use crate::plan::words::{figure, many};
 
 /// How high the whole tree is, and the top of a large one.
-const HIGH: [f64; 2] = [330.0, 160.0];
+const HIGH: [f64; 2] = [330.0, 120.0];
 /// The rows' heights are held between these; words stand in rows that are high enough.
 const ROW: [f64; 2] = [8.0, 22.0];
 const ROW_WITH_WORDS: f64 = 13.0;
 /// So many rows are drawn of a whole tree and of a large one, and a fork is opened where it is so wide.
-const ROWS: [usize; 2] = [64, 16];
+const ROWS: [usize; 2] = [64, 15];
 const OPENED: [f64; 2] = [0.5, 4.0];
 /// So many forks of a way are drawn.
-const WAY: usize = 18;
-const WAY_ROW: f64 = 18.0;
+const WAY: usize = 14;
+const WAY_ROW: f64 = 16.0;
 
 /// A place of the tree with the places under it, up to the last.
 #[derive(Clone, Copy)]
@@ -171,7 +171,7 @@ impl Bar<'_> {
                 y += WAY_ROW;
             }
             if !between.contains(&at) {
-                self.fork_row(svg, fork, end, Box2 { x: 0.0, y, w: WIDE, h: WAY_ROW - 1.5 });
+                self.fork_row(svg, fork, end, Box2 { x: 0.0, y, w: WIDE, h: WAY_ROW - 1.0 });
                 y += WAY_ROW;
             }
         }

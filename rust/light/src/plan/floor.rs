@@ -5,7 +5,7 @@ use crate::plan::labels::{Label, Taken};
 use crate::plan::lamps::{Stage, Style, cross, ring};
 use crate::plan::legend::legend;
 use crate::plan::marks::wide;
-use crate::plan::markup::{Anchor, Box2, Svg, px, width};
+use crate::plan::markup::{Anchor, Box2, Drawing, Svg, px, width};
 use crate::plan::scene::Scene;
 use crate::plan::seen::{Seen, View};
 use crate::plan::shade::{ACCENT, GRID, INK, LINE, look, shade};
@@ -25,7 +25,7 @@ const HEIGHTS: [f64; 2] = [90.0, 180.0];
 const FROM: f32 = 0.01;
 
 /// Plan, heights and legend of a bench.
-pub fn floor(scene: &Scene, seen: &Seen, view: &View) -> String {
+pub fn floor(scene: &Scene, seen: &Seen, view: &View) -> Drawing {
     let mut svg = Svg::default();
     let [x, y, z] = scene.extent.sides;
     let left = left_of(&[y, z]);

@@ -119,7 +119,7 @@ fn map(scene: &Scene, sights: &[Seen]) -> String {
     }
     let view = Box2 { x: 0.0, y: 0.0, w: frame.right() + 2.0, h: frame.bottom() + 2.0 };
     let view = Box2 { w: view.w.max(MAP[0] + 16.0), ..view };
-    svg.drawing("map", view, "Where the benches stand in the plan, by their lines")
+    svg.drawing("map", view, "Where the benches stand in the plan, by their lines").text
 }
 
 /// Panels as areas, all others as dots.

@@ -154,16 +154,23 @@ impl Svg {
 
     /// The drawing, so wide and high from a corner on, with what is said of it to those who do not see it. One with links
     /// is a group of them, others are pictures.
-    pub fn drawing(self, class: &str, view: Box2, label: &str) -> String {
+    pub fn drawing(self, class: &str, view: Box2, label: &str) -> Drawing {
         let role = if self.text.contains("<a ") { "group" } else { "img" };
         let [x, y, w, h] = [view.x, view.y, view.w, view.h].map(px);
         let label = escaped(label);
-        format!(
-            "<svg xmlns=\"http://www.w3.org/2000/svg\" class=\"{class}\" viewBox=\"{x} {y} {w} {h}\" role=\"{role}\" \
-             aria-label=\"{label}\">{}</svg>",
+        let text = format!(
+            "<svg xmlns=\"http://www.w3.org/2000/svg\" class=\"{class}\" viewBox=\"{x} {y} {w} {h}\" \
+             preserveAspectRatio=\"xMinYMin meet\" role=\"{role}\" aria-label=\"{label}\">{}</svg>",
             self.text
-        )
+        );
+        Drawing { text, high: view.h }
     }
+}
+
+/// A drawing as text, and how high it is.
+pub struct Drawing {
+    pub text: String,
+    pub high: f64,
 }
 
 #[derive(Clone, Copy)]

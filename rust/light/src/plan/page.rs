@@ -3,7 +3,7 @@
 use crate::plan::bar::bar;
 use crate::plan::floor::floor;
 use crate::plan::index::index;
-use crate::plan::markup::escaped;
+use crate::plan::markup::{Drawing, escaped, px};
 use crate::plan::scene::Scene;
 use crate::plan::seen::{Gap, Seen, View};
 use crate::plan::tables::{greatest, two};
@@ -23,6 +23,10 @@ const BAR_TOLD: &str = "The bar: each lamp’s run of u, in the order of the tre
     The tree: a fork spans the runs of its lamps and says the share of its left side; the line at u passes through \
     the forks that this draw takes.";
 
+/// What a sheet of A4 has for both drawings, in pixels of the browser, and how much smaller they are on paper.
+const SHEET: f64 = 830.0;
+const BAR_ON_PAPER: f64 = 0.73;
+const PLAN_ON_PAPER: f64 = 0.715;
 const NO_TREE: &str = "No lamp has power, so there is no tree, and every u draws none.";
 
 /// All that comes before the benches' sections.
@@ -56,7 +60,11 @@ fn counted(scene: &Scene, room: &str, table: &str, sights: &[Seen]) -> String {
         [seen] => format!("the bench of line {}", seen.bench.line),
         _ => format!("{drawn} draw a lamp, {none} none, {refused} refused"),
     };
-    format!("Room <b>{room}</b>: {lamps}, {powered} with power. Benches <b>{}</b>: {benches}.", escaped(table))
+    let table = escaped(table);
+    format!(
+        "Room <b>{room}</b>: {lamps}, {powered} with power. Benches <b>{table}</b>: {benches}. Each bench has a number u \
+         from 0 to 1 that picks its lamp."
+    )
 }
 
 /// Whether the two columns of the report differ, and by how much on this page.
@@ -118,11 +126,20 @@ fn body(scene: &Scene, seen: &Seen, view: &View) -> String {
     let (note, floor, bar) = (note(scene, seen, view), floor(scene, seen, view), bar(scene, seen, view));
     let told = if scene.tree.powered() == 0 { NO_TREE } else { BAR_TOLD };
     format!(
-        "<p class=\"note\">{note}</p><div class=\"cols\"><figure>{floor}</figure><div>{}{}</div></div>\
-         <figure class=\"w\"><h3>Which u draws which lamp</h3>{bar}<figcaption>{told}</figcaption></figure>",
+        "<p class=\"note\">{note}</p><div class=\"cols\"><figure{}>{}</figure><div>{}{}</div></div>\
+         <figure class=\"w\"><h3>Which u draws which lamp</h3>{}<figcaption>{told}</figcaption></figure>",
+        high_on_paper(&floor, &bar),
+        floor.text,
         two(seen, view),
-        greatest(scene, seen, view)
+        greatest(scene, seen, view),
+        bar.text
     )
+}
+
+/// How high the plan may be on paper, where it and the bar would pass a sheet of A4 together: it is then drawn smaller.
+fn high_on_paper(floor: &Drawing, bar: &Drawing) -> String {
+    let free = SHEET - BAR_ON_PAPER * bar.high;
+    if PLAN_ON_PAPER * floor.high <= free { String::new() } else { format!(" style=\"--high:{}px\"", px(free)) }
 }
 
 /// "Looks at lamp 45, a spot in line 53, with chance 25.0 %."
