@@ -8,6 +8,7 @@ const pairs = (all) => all.flatMap(([name, a], at) =>
 const sticksOut = (a, b) =>
     a.left < b.left - 3 || a.right > b.right + 3 || a.top < b.top - 3 || a.bottom > b.bottom + 3;
 const outside = (svg) => words(svg).filter(([, a]) => sticksOut(a, box(svg))).map(([name]) => name);
+const isWide = (table) => box(table).right > box(table.parentElement).right + 1;
 const bench = (section) => {
     const svgs = [...section.querySelectorAll('svg')];
     const runs = [...section.querySelectorAll('rect.run')].map((e) => box(e).width);
@@ -19,6 +20,7 @@ const bench = (section) => {
         bar: wide ? box(wide).width * 960 / 964 : 0,
         overlaps: svgs.flatMap((svg) => pairs(words(svg))),
         outside: svgs.flatMap(outside),
+        wide: [...section.querySelectorAll('table')].filter(isWide).map((table) => table.className),
     };
 };
 const lamp = document.querySelector('section tr[data-l]');

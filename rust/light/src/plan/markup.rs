@@ -152,8 +152,8 @@ impl Svg {
         self.text += "</g>";
     }
 
-    /// The drawing, so wide and high from a corner on, with what is said of it to those who do not see it. One with links
-    /// is a group of them, others are pictures.
+    /// The drawing, so wide and high from a corner on, with what is said of it to those who do not see it. One with
+    /// links is a group of them, others are pictures.
     pub fn drawing(self, class: &str, view: Box2, label: &str) -> Drawing {
         let role = if self.text.contains("<a ") { "group" } else { "img" };
         let [x, y, w, h] = [view.x, view.y, view.w, view.h].map(px);

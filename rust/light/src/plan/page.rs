@@ -62,8 +62,8 @@ fn counted(scene: &Scene, room: &str, table: &str, sights: &[Seen]) -> String {
     };
     let table = escaped(table);
     format!(
-        "Room <b>{room}</b>: {lamps}, {powered} with power. Benches <b>{table}</b>: {benches}. Each bench has a number u \
-         from 0 to 1 that picks its lamp."
+        "Room <b>{room}</b>: {lamps}, {powered} with power. Benches <b>{table}</b>: {benches}. Each bench has a \
+         number u from 0 to 1 that picks its lamp."
     )
 }
 

@@ -3,6 +3,7 @@
 use crate::bench::Bench;
 use crate::plan::extent::Extent;
 use crate::plan::marks::{Mark, marks};
+use crate::plan::markup::px;
 use crate::plan::seen::View;
 use crate::plan::words::{figure, kind, percent_of};
 use crate::room::Room;
@@ -43,6 +44,12 @@ impl Scene<'_> {
     /// How high a lamp hangs: the middle of a panel.
     pub fn height(&self, handle: u32) -> String {
         self.marks.get(handle as usize).map_or(String::new(), |mark| decimal(mark.at[2] as f32))
+    }
+
+    /// The same for a narrow column, to a hundredth.
+    pub fn short_height(&self, handle: u32) -> String {
+        let height = self.marks.get(handle as usize).map_or(0.0, |mark| mark.at[2]);
+        if height == 0.0 || (0.01..1e4).contains(&height.abs()) { px(height) } else { format!("{height:.1e}") }
     }
 
     /// "lamp 45 “by the window”".

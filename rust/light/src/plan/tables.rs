@@ -128,7 +128,7 @@ fn row(scene: &Scene, view: &View, handle: u32, met: Met, class: &str) -> String
         shade(met.drawn).fill,
         escaped(&scene.title(handle, view)),
         escaped(name),
-        scene.height(handle),
+        scene.short_height(handle),
     )
 }
 
