@@ -19,8 +19,9 @@ module _ (c : tie.After-validate) where
   abbrev start : tie.Start
   start = at .before .before .before .before
 
-  told : let args = start .args in packPlaced (args .all) (wordsOf (now (args .nodes))) (args .index) (placed (args .place))
-      ≡ (validate (at .bounds .given .0 .0) then λ _. packBounds (args .all) (at .bounds .given .0 .0) (placed (args .place)))
+  told : let args = start .args in let b = at .bounds .given .0 .0 in
+      packPlaced (args .all) (wordsOf (now (args .nodes))) (args .index) (placed (args .place))
+      ≡ (validate b then λ _. packBounds (args .all) b (placed (args .place)))
   unfolding packPlaced _then_
   told = rw (sym (at .before .before .bounds-at .ensures) ∙ ap (found 12) (at .bounds .given .1))
 
@@ -28,7 +29,8 @@ returns : tie.Need-returns
 unfolding _then_
 returns c =
     let call = c .before .before .before in
-    rw (told call, sym (call .validate .ensures) ∙ ap validity (c .before .enum-told .given .1)) (c .pack-bounds .ensures)
+    rw (told call, sym (call .validate .ensures) ∙ ap validity (c .before .enum-told .given .1))
+    (c .pack-bounds .ensures)
 
 returns-2 : tie.Need-returns-2
 unfolding _then_
