@@ -7,11 +7,9 @@ use Rattle.parts_c.proofs.words_bytes_of_words.Statement.{statement}
 use Rattle.parts_c.proofs.words_bytes_of_words.Tie as tie
 
 returns : tie.Need-returns
-returns c = (
-  c .counted-code .ensures ∙ ap code
-      (c .before .before .before .bytes-of-words .ensures .0),
-  c .before .before .before .bytes-of-words .ensures .1,
-)
+returns c =
+    let call = c .before .before .before .bytes-of-words in
+    (c .counted-code .ensures ∙ ap code (call .ensures .0), call .ensures .1)
 
 pub words-bytes-of-words-spec : {M : Type 1} → statement M
 words-bytes-of-words-spec =

@@ -7,11 +7,9 @@ use Rattle.parts_c.proofs.words_words_of_bytes.Statement.{statement}
 use Rattle.parts_c.proofs.words_words_of_bytes.Tie as tie
 
 returns : tie.Need-returns
-returns c = (
-  c .counted-code .ensures ∙ ap code
-      (c .before .before .before .words-of-bytes .ensures .0),
-  c .before .before .before .words-of-bytes .ensures .1,
-)
+returns c =
+    let call = c .before .before .before .words-of-bytes in
+    (c .counted-code .ensures ∙ ap code (call .ensures .0), call .ensures .1)
 
 pub words-words-of-bytes-spec : {M : Type 1} → statement M
 words-words-of-bytes-spec =

@@ -1,34 +1,42 @@
 -- `packed_bvh::pack::pack_placed`: the record, its check, then what stands in pack_bounds. Assumes nothing.
+use mathlib.Core.Path.{_≡_, sym, ap, _∙_}
+use denote.Ref.{now}
+use Rattle.words.specs.LittleEndian.{wordsOf}
+use Rattle.light_bounds.specs.Bounds.{validity}
+use Rattle.light_bounds.specs.LightBounds.{validate}
+use Rattle.light_rows.specs.RecordWords.{found}
 use borrow.Author.Needs.{needs}
 use Rattle.words.specs.Answers.{_then_}
-use Rattle.packed_bvh.specs.AsCoded.PackedParts.{packPlaced}
+use Rattle.packed_bvh.specs.AsCoded.PackedParts.{packPlaced, packBounds, placed}
 use Rattle.packed_bvh.proofs.pack.pack_placed.Statement.{statement}
 use Rattle.packed_bvh.proofs.pack.pack_placed.Tie as tie
 
+-- the record is there: what is left is its check, and packing behind it
+module _ (c : tie.After-validate) where
+  abbrev at : tie.After-bounds
+  at = c .before .before
+
+  abbrev start : tie.Start
+  start = at .before .before .before .before
+
+  told : let args = start .args in let b = at .bounds .given .0 .0 in
+      packPlaced (args .all) (wordsOf (now (args .nodes))) (args .index) (placed (args .place))
+      ≡ (validate b then λ _. packBounds (args .all) b (placed (args .place)))
+  unfolding packPlaced _then_
+  told = rw (sym (at .before .before .bounds-at .ensures) ∙ ap (found 12) (at .bounds .given .1))
+
 returns : tie.Need-returns
-unfolding packPlaced _then_
+unfolding _then_
 returns c =
-    let valid = c .before .before .before in
-    let at = valid .before .before in
-    rw (
-      ← at .before .before .bounds-at .ensures,
-      at .bounds .given .1,
-      ← valid .validate .ensures,
-      c .before .enum-told .given .1,
-    )
+    let call = c .before .before .before in
+    rw (told call, sym (call .validate .ensures) ∙ ap validity (c .before .enum-told .given .1))
     (c .pack-bounds .ensures)
 
 returns-2 : tie.Need-returns-2
-unfolding packPlaced _then_
+unfolding _then_
 returns-2 c =
-    let valid = c .before .before .before in
-    let at = valid .before .before in
-    rw (
-      ← at .before .before .bounds-at .ensures,
-      at .bounds .given .1,
-      ← valid .validate .ensures,
-      c .before .why .given .1,
-    )
+    let call = c .before .before .before in
+    rw (told call, sym (call .validate .ensures) ∙ ap validity (c .before .why .given .1))
 
 returns-3 : tie.Need-returns-3
 unfolding packPlaced _then_
