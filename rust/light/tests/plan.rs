@@ -287,6 +287,8 @@ fn wrong_calls() {
     assert_eq!(absent, "benches.txt: line 2: there is no bench");
     assert_eq!(bad(1, &["plan", "-", "benches.txt"], "pint"), bad(1, &["report", "-", "benches.txt"], "pint"));
     assert_eq!(bad(1, &["plan", "laboratory.txt", "-"], "1 1"), bad(1, &["report", "laboratory.txt", "-"], "1 1"));
+    let absent = bad(1, &["plan", "laboratory.txt", "-", "--bench", "2"], "1 1 1 - 0.5");
+    assert_eq!(absent, "standard input: line 2: there is no bench");
     bad(2, &["plan", "-", "-"], "");
     bad(2, &["plan", "laboratory.txt", "benches.txt", "--bench", "x"], "");
     bad(2, &["plan", "laboratory.txt"], "");

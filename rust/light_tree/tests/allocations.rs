@@ -68,6 +68,8 @@ fn only_what_is_returned() {
     assert_eq!(counted(|| tree.pmf(p, n, lamp).unwrap() > 0.0), (true, 0, 0));
     assert_eq!(counted(|| tree.sample(p, n, 2.0)), (Err(Refusal::BadU), 0, 0));
     assert_eq!(counted(|| tree.run_of(0.5, p, n).unwrap().is_some()), (true, 0, 0));
+    assert_eq!(counted(|| tree.shares(p, n, 0).unwrap().is_some()), (true, 0, 0));
+    assert_eq!(counted(|| sample_nodes(&[0; 16], p, n, 0.5)), (Err(Refusal::BrokenTree), 0, 0));
     assert_eq!(counted(|| bounds[0].validate().is_ok()), (true, 0, 0));
     assert_eq!(counted(|| tree.nodes().filter(LightBVHNode::is_leaf).count()), (k as usize, 0, 0));
 

@@ -1,7 +1,7 @@
 //! How far a room reaches, in round numbers, and how that is laid onto a drawing.
 
 use crate::bench::Bench;
-use crate::plan::marks::{Mark, Point3, wide};
+use crate::plan::marks::{Mark, Point3, finite};
 use crate::plan::markup::Box2;
 
 /// A side of the room, outward to round numbers.
@@ -35,7 +35,7 @@ impl Extent {
     /// Of all lamps, and of the benches that have a place.
     pub fn of(marks: &[Mark], benches: &[Bench]) -> Extent {
         let mut ends = [None; 3];
-        let benches = benches.iter().map(|bench| wide(bench.place.p)).filter(|p| p.iter().all(|x| x.is_finite()));
+        let benches = benches.iter().filter_map(|bench| finite(bench.place.p));
         for point in marks.iter().flat_map(Mark::points).chain(benches) {
             for (end, x) in ends.iter_mut().zip(point) {
                 let (low, high) = end.unwrap_or((x, x));

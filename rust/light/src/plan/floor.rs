@@ -4,7 +4,7 @@ use crate::plan::extent::{Sheet, Side, tick};
 use crate::plan::labels::{Label, Taken};
 use crate::plan::lamps::{Stage, Style, cross, ring};
 use crate::plan::legend::legend;
-use crate::plan::marks::wide;
+use crate::plan::marks::{finite, wide};
 use crate::plan::markup::{Anchor, Box2, Drawing, Svg, px, width};
 use crate::plan::scene::Scene;
 use crate::plan::seen::{Seen, View};
@@ -120,8 +120,7 @@ fn ruler(svg: &mut Svg, sheet: &Sheet, step: f64) {
 
 /// The lamps, the bench and the way between them on one of the two sheets; labels stand on the plan alone.
 fn fill(svg: &mut Svg, seen: &Seen, stage: &Stage, has_labels: bool) {
-    let p = wide(seen.bench.place.p);
-    let bench = p.iter().all(|x| x.is_finite()).then(|| stage.sheet.at(p));
+    let bench = finite(seen.bench.place.p).map(|p| stage.sheet.at(p));
     let drawn = stage.drawn.and_then(|handle| stage.lamp(handle));
     let mut taken = Taken::within(stage.sheet.inner.grown(MARGIN - 1.0));
     if let (Some(from), Some(lamp)) = (bench, drawn) {
@@ -191,7 +190,7 @@ fn labels(svg: &mut Svg, stage: &Stage, ring: Option<Box2>, bench: Option<Box2>,
         handle_label(svg, stage, handle, ring, taken);
     }
     if let Some(bench) = bench {
-        taken.set_beside(svg, bench, &Label { words: "bench", size: 12.0, ink: ACCENT, bold: true });
+        taken.set_beside(svg, bench, &Label { words: "bench", size: 12.0, ink: ACCENT, bold: true, is_needed: true });
     }
     let others = stage.view.greatest().into_iter().filter(|handle| Some(*handle) != stage.drawn);
     // a chance that is not a number is labelled too
@@ -208,7 +207,8 @@ fn labels(svg: &mut Svg, stage: &Stage, ring: Option<Box2>, bench: Option<Box2>,
 fn handle_label(svg: &mut Svg, stage: &Stage, handle: u32, ring: Option<Box2>, taken: &mut Taken) {
     let Some(lamp) = stage.lamp(handle) else { return };
     let (words, ink, bounds) = (handle.to_string(), shade(stage.view.chance(handle)).ink, lamp.shape.bounds());
-    let label = Label { words: &words, size: if ring.is_some() { 12.0 } else { 11.5 }, ink, bold: ring.is_some() };
+    let (is_drawn, size) = (ring.is_some(), if ring.is_some() { 12.0 } else { 11.5 });
+    let label = Label { words: &words, size, ink, bold: is_drawn, is_needed: is_drawn };
     let discs = stage.lamps().map(|lamp| &lamp.shape).filter(|shape| shape.is_disc());
     let small: Vec<Box2> = discs.map(Shape::bounds).collect();
     if !lamp.shape.fills_its_box() || !taken.set_inside(svg, bounds, &small, &label) {

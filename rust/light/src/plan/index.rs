@@ -1,10 +1,11 @@
 //! The index of a page: a row a bench, and a small plan with the benches' lines.
 
+use crate::bench::Bench;
 use crate::plan::extent::Sheet;
 use crate::plan::floor::diamond;
 use crate::plan::labels::{Label, Taken};
 use crate::plan::lamps::{dot, dots_look};
-use crate::plan::marks::wide;
+use crate::plan::marks::finite;
 use crate::plan::markup::{Box2, Svg, escaped};
 use crate::plan::scene::Scene;
 use crate::plan::seen::{Gap, Seen};
@@ -102,11 +103,9 @@ fn map(scene: &Scene, sights: &[Seen]) -> String {
     svg.rect(frame, &look("#ffffff", LINE, 1.0));
     lamps(&mut svg, scene, &sheet);
     let mut taken = Taken::within(frame);
-    let places: Vec<(usize, [f64; 2])> = sights
-        .iter()
-        .filter(|seen| seen.bench.place.p.iter().all(|x| x.is_finite()))
-        .map(|seen| (seen.bench.line, sheet.at(wide(seen.bench.place.p))))
-        .collect();
+    let benches = sights.iter().map(|seen| seen.bench);
+    let place = |bench: &Bench| finite(bench.place.p).map(|p| (bench.line, sheet.at(p)));
+    let places: Vec<(usize, [f64; 2])> = benches.filter_map(place).collect();
     for (line, at) in &places {
         svg.text += &format!("<a href=\"#b{line}\" aria-label=\"bench of line {line}\">");
         diamond(&mut svg, *at, 5.0);
@@ -114,7 +113,7 @@ fn map(scene: &Scene, sights: &[Seen]) -> String {
         taken.add(Box2::around(*at, 10.0, 10.0));
     }
     for (line, at) in &places {
-        let label = Label { words: &line.to_string(), size: 12.0, ink: INK, bold: true };
+        let label = Label { words: &line.to_string(), size: 12.0, ink: INK, bold: true, is_needed: false };
         taken.set_beside(&mut svg, Box2::around(*at, 10.0, 10.0), &label);
     }
     let view = Box2 { x: 0.0, y: 0.0, w: frame.right() + 2.0, h: frame.bottom() + 2.0 };

@@ -17,6 +17,8 @@ pub struct Label<'a> {
     pub size: f64,
     pub ink: &'a str,
     pub bold: bool,
+    /// Whether it is set over something else, where no place is free.
+    pub is_needed: bool,
 }
 
 impl Taken {
@@ -39,8 +41,8 @@ impl Taken {
             && !self.lines.iter().any(|line| place.meets(*line))
     }
 
-    /// Sets a label above, below, right or left of what it names: at the first place that is free, else nowhere; a bold
-    /// one at the first within the walls, over what is there.
+    /// Sets a label above, below, right or left of what it names: at the first place that is free, else nowhere; one
+    /// that is needed at the first within the walls.
     pub fn set_beside(&mut self, svg: &mut Svg, named: Box2, label: &Label) {
         let (wide, high) = (width(label.words, label.size), label.size);
         let [x, y] = named.center();
@@ -49,7 +51,7 @@ impl Taken {
             [[x, y - along], [x, y + along], [x + across, y], [x - across, y]]
         };
         let free = |center: &[f64; 2]| self.is_free(&Box2::around(*center, wide, high));
-        let within = |center: &[f64; 2]| label.bold && self.walls.holds(&Box2::around(*center, wide, high));
+        let within = |center: &[f64; 2]| label.is_needed && self.walls.holds(&Box2::around(*center, wide, high));
         let mut places = [2.0, 5.0].into_iter().flat_map(around);
         if let Some(center) = places.clone().find(free).or_else(|| places.find(within)) {
             label.put(svg, center, true);

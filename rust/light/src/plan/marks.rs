@@ -72,6 +72,11 @@ impl Mark {
     }
 }
 
+/// A place that can be drawn: one whose figures are finite.
+pub fn finite(p: [f32; 3]) -> Option<Point3> {
+    p.iter().all(|x| x.is_finite()).then(|| wide(p))
+}
+
 pub fn wide(p: [f32; 3]) -> Point3 {
     p.map(f64::from)
 }

@@ -37,7 +37,9 @@ pub fn plan(options: &Options, output: &mut Output) -> Result<(), Stop> {
     let line = options.number("bench")?;
     let room = room(path)?;
     let tree = room.tree()?;
-    let benches = chosen(benches(table)?, table, line)?;
+    let benches = benches(table)?;
+    let table = if table == "-" { "standard input" } else { table };
+    let benches = chosen(benches, table, line)?;
     let scene = Scene::new(&room, &tree, &benches);
     let mut sights = Vec::with_capacity(benches.len());
     for bench in &benches {

@@ -3,6 +3,7 @@
 use crate::plan::bar::bar;
 use crate::plan::floor::floor;
 use crate::plan::index::index;
+use crate::plan::marks::finite;
 use crate::plan::markup::{Drawing, escaped, px};
 use crate::plan::scene::Scene;
 use crate::plan::seen::{Gap, Seen, View};
@@ -69,22 +70,32 @@ fn counted(scene: &Scene, room: &str, table: &str, sights: &[Seen]) -> String {
 
 /// Whether the two columns of the report differ, and by how much on this page.
 fn may_differ(sights: &[Seen]) -> String {
-    let drawn = sights.iter().filter_map(Seen::gap).fold(Gap::Floats(0), greater);
-    let all = sights.iter().filter_map(|seen| seen.view.as_ref()).flat_map(View::gaps).fold(Gap::Floats(0), greater);
+    let drawn = sights.iter().filter_map(Seen::gap).reduce(greater);
+    let all = views(sights).flat_map(View::gaps).reduce(greater);
     let told = |gap: Gap| match gap {
         Gap::Floats(0) => "not at all".into(),
         Gap::Floats(floats) => format!("by at most {}", many(floats as usize, "float", "floats")),
         Gap::Wholly => "wholly".into(),
     };
+    let drawn = drawn.map_or(String::new(), |gap| format!("{} for the lamps drawn, and ", told(gap)));
+    let here = all.map_or(String::new(), |gap| {
+        let all = told(gap);
+        format!(
+            "On this page they part {drawn}{all} for any lamp that some u draws; a float is the finest step that a \
+             figure takes. "
+        )
+    });
     format!(
         "<b>May the two columns of the report differ?</b> Yes, in their last digits: both multiply the same shares, \
-         one from the root down, the other from the lamp up, and round each product. On this page they part {} for \
-         the lamps drawn, and {} for any lamp that some u draws; a float is the finest step that a figure takes. They \
-         part by more where a right branch has a tiny share, wholly only where a total of weights is infinite or a \
-         share is too small for a float.",
-        told(drawn),
-        told(all)
+         one from the root down, the other from the lamp up, and round each product. {here}They part by more where a \
+         right branch has a tiny share, wholly only where a total of weights is infinite or a share is too small for a \
+         float."
     )
+}
+
+/// What all u draw, of the benches that are not refused.
+fn views<'a>(sights: &'a [Seen]) -> impl Iterator<Item = &'a View> {
+    sights.iter().filter_map(|seen| seen.view.as_ref())
 }
 
 fn greater(a: Gap, b: Gap) -> Gap {
@@ -93,14 +104,19 @@ fn greater(a: Gap, b: Gap) -> Gap {
 
 /// What is proved of the runs, and what was looked for.
 fn proved(sights: &[Seen]) -> String {
-    let runs: usize = sights.iter().filter_map(|seen| seen.view.as_ref()).map(|view| view.runs.runs.len()).sum();
-    let ends = many(2 * runs, "end", "ends");
+    let runs: usize = views(sights).map(|view| view.runs.runs.len()).sum();
+    let ends = match runs {
+        0 => String::new(),
+        _ => format!(
+            "; all {} ends on this page were drawn again from the tree, and each drew what is shown",
+            thousands(2 * runs)
+        ),
+    };
     format!(
         "<b>How sure are the runs of u?</b> Proved, for every room and bench: the u that draw a lamp are all those \
          from a first to a last, and the lamps follow each other in the order of the tree’s leaves (<i>unbroken</i> \
          and <i>leaf-order</i> in crates/light_runs/specs/Demand3.antt). Looked for here: where each run begins and \
-         ends, by halving stretches of u whose ends draw unlike; all {ends} on this page were drawn again from the \
-         tree, and each drew what is shown."
+         ends, by halving stretches of u whose ends draw unlike{ends}."
     )
 }
 
@@ -176,7 +192,7 @@ fn note(scene: &Scene, seen: &Seen, view: &View) -> String {
         notes.push(none_told(view));
     }
     notes.extend(behind(scene, seen));
-    if !seen.bench.place.p.iter().all(|x| x.is_finite()) {
+    if finite(seen.bench.place.p).is_none() {
         notes.push("The bench’s place is not finite, so it is not on the plan.".into());
     }
     notes.join(" ")

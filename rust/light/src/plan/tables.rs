@@ -10,15 +10,6 @@ use crate::rows::Outcome;
 /// So many lamps are told by themselves.
 const TOP: usize = 10;
 
-/// "1 float apart", "the same float", "wholly apart".
-pub fn gap_words(gap: Gap) -> String {
-    match gap {
-        Gap::Floats(0) => "no float apart".into(),
-        Gap::Floats(floats) => format!("{} apart", many(floats as usize, "float", "floats")),
-        Gap::Wholly => "wholly apart".into(),
-    }
-}
-
 /// The two columns of the lamp drawn, and how far they part.
 pub fn two(seen: &Seen, view: &View) -> String {
     let Outcome::Lamp { handle, drawn, named } = seen.outcome else { return String::new() };
@@ -38,12 +29,11 @@ pub fn two(seen: &Seen, view: &View) -> String {
 
 /// "1 float apart, a gap of 3.0 · 10⁻⁸."
 fn parted(drawn: f32, named: f32) -> String {
-    let gap = Gap::of(drawn, named);
-    match gap {
+    match Gap::of(drawn, named) {
         Gap::Floats(0) => "<b>Both are the same float.</b>".into(),
-        Gap::Floats(_) => {
-            let apart = (f64::from(drawn) - f64::from(named)).abs();
-            format!("<b>{}</b>, a gap of {}.", gap_words(gap), power(apart))
+        Gap::Floats(floats) => {
+            let gap = power((f64::from(drawn) - f64::from(named)).abs());
+            format!("<b>{} apart</b>, a gap of {gap}.", many(floats as usize, "float", "floats"))
         }
         Gap::Wholly => {
             "<b>Wholly apart</b>: one is not a number or infinite, or 0 beside one that is not; a total of weights is \
