@@ -3,7 +3,7 @@ use Prim.Native.Nat.{_+_, _*_, _-_}
 use mathlib.Core.Path.{_≡_}
 use native.Mathlib.Omega.{arith}
 use borrow.Author.Needs.{needs}
-use Rattle.light_report.proofs.ReportLaws.{Reported, reported-none, reported-next, reported-all, reported-part}
+use Rattle.light_report.proofs.Reported.{Reported, reported-none, reported-next, reported-all, reported-part}
 use Rattle.light_report.proofs.lines.put_lines.Statement.{statement}
 use Rattle.light_report.proofs.lines.put_lines.Tie as tie
 
