@@ -177,7 +177,7 @@ fn too_narrow(cos_theta_e: f32, cos_theta_o: f32, cos_falloff_end: f32) -> bool
     cos_theta_e == 1.0 && cos_theta_o != cos_falloff_end
 }
 
-// The cone of a spot is full within its inner angle and ends at its outer one.
+// The cone is the inner one; the light falls off from there to the outer cosine.
 fn spot_bounds(
     position: Vec3,
     cone: Cone,

@@ -12,7 +12,8 @@ use Rattle.lamps.proofs.lamp_bounds.emission_is_bad.Tie as tie
 -- of finite numbers only the signs count
 told : (c : tie.Else2) →
     emissionBad (c .before .before .before .before .args .value) (c .before .before .before .before .args .scale)
-    ≡ (lt (c .before .before .before .before .args .value) zerof || lt (c .before .before .before .before .args .scale) zerof)
+    ≡ (lt (c .before .before .before .before .args .value) zerof
+    || lt (c .before .before .before .before .args .scale) zerof)
 told c =
     let first = c .before .before .before in
     rw (← first .is-finite .ensures, not-false (first .is-finite .result) (c .before .before .if1 .left))

@@ -7,7 +7,8 @@ use Rattle.lamps.proofs.lamp_bounds.falloff.Statement.{statement}
 use Rattle.lamps.proofs.lamp_bounds.falloff.Tie as tie
 
 told : (c : tie.After-too-narrow) →
-    falloff (c .before .before .before .before .args .cos-theta-o) (c .before .before .before .before .args .cos-falloff-end)
+    falloff (c .before .before .before .before .args .cos-theta-o)
+    (c .before .before .before .before .args .cos-falloff-end)
     ≡ cond (c .too-narrow .result) nearlyOne (c .before .cos .result)
 unfolding falloff
 told c =

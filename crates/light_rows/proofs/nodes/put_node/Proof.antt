@@ -14,8 +14,8 @@ returns c =
     let start = c .before .before .before .before .before in
     let args = start .args in
     c .before .before .write-record .ensures
-    ∙ put-node-parts (now (args .words)) (args .at) (args .head) (args .links .«right_child») (args .links .parent) (args .bounds)
-    (start .pre)
+    ∙ put-node-parts (now (args .words)) (args .at) (args .head) (args .links .«right_child») (args .links .parent)
+    (args .bounds) (start .pre)
 
 same-length : tie.Need-same-length
 same-length c = ap length (returns c) ∙ simp length-sets
