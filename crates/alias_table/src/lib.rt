@@ -1,6 +1,8 @@
 // The power alias table (specs/AliasTable.antt): `build_power_alias_table` of pbrt-r4's light_sampler.rs over lent
 // slices. The two stacks of the Rust stand in the lent work, each entry a weight's word and a place: `under` from word
 // 0 on, `over` from word 2m on.
+#![tactic(auto)]
+
 ghost use Rattle.std.specs.Prelude.{◌≡◌, cond, List, [], ◌∷◌, map, ◌++◌, ◌+◌, ◌*◌, ◌<◌, length, get_or, set, replicate, drop};
 ghost use Rattle.std.specs.Float.{binary32, binary64};
 ghost use Rattle.std.specs.Float.Ieee.{to_bits, lt};

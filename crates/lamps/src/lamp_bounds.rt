@@ -28,7 +28,7 @@ const COS_HALF_PI: f32 = -0.00000004371139;
 
 const MINUS_ONE: f32 = -1.0;
 
-#[derive(Drop)]
+#[derive(Clone, Copy)]
 pub struct AreaTriangleInput {
     pub a: Vec3,
     pub b: Vec3,

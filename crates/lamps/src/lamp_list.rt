@@ -25,13 +25,13 @@ const GROUP_WORDS: usize = 5;
 pub const TRIANGLE_WORDS: usize = 13;
 
 // The reading place.
-#[derive(Drop)]
+#[derive(Clone, Copy)]
 pub struct Cursor {
     pub at: usize,
 }
 
 // `LightBoundInput`, a group's triangles beside it.
-#[derive(Drop)]
+#[derive(Clone, Copy)]
 pub enum Lamp {
     Point {
         handle: u32,

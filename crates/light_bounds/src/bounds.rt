@@ -8,7 +8,7 @@ use super::vecmath::{Vec3, is_finite_vec};
 use floats::choose::{max, min};
 use words::refusals::Refusal;
 
-#[derive(Drop)]
+#[derive(Clone, Copy)]
 pub struct Bounds3 {
     pub min: Vec3,
     pub max: Vec3,

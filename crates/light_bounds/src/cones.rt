@@ -13,7 +13,7 @@ use trig::{acos, cos};
 use words::floats::word_of_f32;
 
 // The directions within an angle of one, by its cosine.
-#[derive(Drop)]
+#[derive(Clone, Copy)]
 pub struct Cone {
     pub direction: Vec3,
     pub cos_theta: f32,

@@ -19,7 +19,7 @@ use floats::choose::{abs, max};
 use words::refusals::Refusal;
 
 // The point that a lamp is weighed for, and its normal; a normal whose dot with itself is 0 is none.
-#[derive(Drop)]
+#[derive(Clone, Copy)]
 pub struct Query {
     pub p: Vec3,
     pub n: Vec3,
@@ -43,7 +43,7 @@ pub fn importance(record: LightBounds, query: Query) -> Weight
 // ---- the query as a walk holds it
 
 // No normal; the normal at length 1; or a normal that has no length to divide by.
-#[derive(Drop)]
+#[derive(Clone, Copy)]
 pub enum Normal {
     Nothing,
     Unit(Vec3),
@@ -51,7 +51,7 @@ pub enum Normal {
 }
 
 // The point, whether all of the query is finite, and its normal.
-#[derive(Drop)]
+#[derive(Clone, Copy)]
 pub struct Prepared {
     pub p: Vec3,
     pub is_finite: bool,

@@ -1,4 +1,6 @@
 // Bounds of lamps, after pbrt-r4's light_bounds.rs: vectors, boxes, records, their union and their importance.
+#![tactic(auto)]
+
 pub mod bounds;
 pub mod cones;
 pub mod importance;

@@ -13,7 +13,7 @@ use super::vecmath::{Vec3, dot, is_finite, is_finite_vec};
 use floats::choose::min;
 use words::refusals::Refusal;
 
-#[derive(Drop)]
+#[derive(Clone, Copy)]
 pub struct LightBounds {
     pub bounds: Bounds3,
     pub direction: Vec3,

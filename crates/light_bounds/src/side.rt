@@ -3,7 +3,7 @@
 ghost use Rattle.std.specs.Prelude.{◌≡◌};
 ghost use Rattle.light_bounds.specs.Side.{side_known, side_of, side_word, lamp_side, either as either_of};
 
-#[derive(Drop)]
+#[derive(Clone, Copy)]
 pub struct Side {
     pub two_sided: bool,
 }

@@ -10,7 +10,7 @@ use floats::sqrt::sqrt as root;
 use trig::{asin, cos, sin};
 use words::refusals::Refusal;
 
-#[derive(Drop)]
+#[derive(Clone, Copy)]
 pub struct Vec3 {
     pub x: f32,
     pub y: f32,

@@ -2,6 +2,8 @@
 // name, packing, the power alias table, and the library's version. Each but the last is its function with numbers and
 // slices for arguments and a number for its answer, and promises what that promises. Draw, chance and packing read and
 // write a tree as bytes, little-endian; the others take words.
+#![tactic(auto)]
+
 ghost use Rattle.std.specs.Prelude.{◌≡◌, List, [], ◌∷◌, ℕ, ◌*◌, ◌^◌, ◌≤◌, ◌<◌, get_or, length};
 ghost use Rattle.std.proofs.Math.Option.{some};
 ghost use Rattle.std.proofs.lemmas.List.Edits.{sets};

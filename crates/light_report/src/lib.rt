@@ -2,6 +2,8 @@
 // groups p, n, u on standard input, little-endian; the report on standard output. Its lines are in lines.rt. The input
 // is read as a stream, a chunk of groups at a time, so a longer report takes no more memory. A program leaves no
 // checked modules for its wrong programs, so all of it stands in this library and `columns` only calls it.
+#![tactic(auto)]
+
 mod lines;
 
 ghost use Rattle.std.specs.Prelude.{◌≡◌, ◌+◌, ◌*◌, ◌/◌, ◌%◌, ◌≤◌, length, get_or, take};

@@ -43,7 +43,7 @@ pub const INVALID_INDEX: u32 = 0xffff_ffff;
 
 // A node without its record: a leaf with its handle and its parent; an interior node with its left and right child and
 // its parent; or neither.
-#[derive(Drop)]
+#[derive(Clone, Copy)]
 pub enum Node {
     Leaf(u32, u32),
     Interior(u32, u32, u32),

@@ -46,7 +46,7 @@ pub enum Found {
 }
 
 // A vector's words.
-#[derive(Drop)]
+#[derive(Clone, Copy)]
 struct Triple {
     x: u32,
     y: u32,

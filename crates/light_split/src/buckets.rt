@@ -20,14 +20,14 @@ use trig::{acos, cos};
 use words::floats::word_of_f32;
 
 // A bucket: the record around what fell into it, or nothing.
-#[derive(Drop)]
+#[derive(Clone, Copy)]
 pub struct Slot {
     pub filled: bool,
     pub bounds: LightBounds,
 }
 
 // The twelve; `lost` where a union's operand failed its check.
-#[derive(Drop)]
+#[derive(Clone, Copy)]
 pub struct Slots {
     pub lost: bool,
     pub slots: [Slot; 12],
@@ -155,7 +155,7 @@ fn kr(diagonal: Vec3, dimension: usize) -> f32
 }
 
 // An m_omega that was worked out, and the cosines it is of.
-#[derive(Drop)]
+#[derive(Clone, Copy)]
 pub struct Omega {
     pub known: bool,
     pub cos_theta_o: f32,
@@ -164,7 +164,7 @@ pub struct Omega {
 }
 
 // What a side costs, and the last m_omega.
-#[derive(Drop)]
+#[derive(Clone, Copy)]
 pub struct Costed {
     pub cost: f32,
     pub omega: Omega,

@@ -15,7 +15,7 @@ use light_bounds::bounds::{Bounds3, union};
 use light_rows::block::light_box;
 
 // A cut: behind which bucket of which axis.
-#[derive(Drop)]
+#[derive(Clone, Copy)]
 pub struct Split {
     pub dimension: usize,
     pub bucket: usize,
@@ -29,7 +29,7 @@ pub enum Chosen {
 }
 
 // The best cut so far and its cost.
-#[derive(Drop)]
+#[derive(Clone, Copy)]
 pub struct Best {
     pub min_cost: f32,
     pub best: Split,

@@ -2,6 +2,8 @@
 // little-endian words out; or `refused N` and a line's end. Bytes that are no whole word make the list ragged (1),
 // unless it is over the limits (2). A program leaves no checked modules for its wrong programs, so all of it stands in
 // this library and `lamps_to_block` only calls it.
+#![tactic(auto)]
+
 ghost use Rattle.std.specs.Prelude.{◌≡◌, ◌≤◌, length};
 ghost use Rattle.std.proofs.lemmas.List.Edits.{sets};
 ghost use Rattle.lamps.specs.BuildBounds.{build_light_bounds};

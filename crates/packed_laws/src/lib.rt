@@ -1,1 +1,3 @@
 // Laws of packed trees that no code cites: specs/.
+
+#![tactic(auto)]

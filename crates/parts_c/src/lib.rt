@@ -1,5 +1,7 @@
 // What only the differential runs and the benchmarks call, for C and Rust: plain numbers, slices as a pointer and a
 // length, answers as words. What a renderer calls is in light_c.
+#![tactic(auto)]
+
 ghost use Rattle.std.specs.Prelude.{◌≡◌, ℕ, ◌*◌, ◌/◌, ◌≤◌, get_or, length};
 ghost use Rattle.std.specs.Float.{binary32, binary64};
 ghost use Rattle.std.specs.Float.Ieee.{of_bits, to_bits};

@@ -1,6 +1,8 @@
 // What the programs write, laid into a lent slice (specs/Text.antt): text, a word in decimal or in hexadecimal
 // digits, a refusal's line, words as bytes. Each function writes all of its bytes and answers how many they are;
 // where the slice has no room for all, it writes none and answers 0.
+#![tactic(auto)]
+
 ghost use Rattle.std.specs.Prelude.{◌≡◌, ◌+◌, ◌≤◌, ◌<◌, length};
 ghost use Rattle.std.proofs.lemmas.List.Edits.{sets};
 ghost use Rattle.io.specs.Digits.{last_digits, hex_digit_ascii as glyph_of};

@@ -1,1 +1,3 @@
 // Laws of the built light tree that no code cites: specs/.
+
+#![tactic(auto)]

@@ -1,5 +1,7 @@
 // cos, sin, acos and asin of an f32, as R2.9 to R2.13 write them: series in f64 steps, narrowed. The definitions are
 // specs/Series.antt and specs/Trig.antt.
+#![tactic(auto)]
+
 ghost use Rattle.std.specs.Prelude.{◌≡◌, ◌≤◌};
 ghost use Rattle.trig.specs.Series.{series as series_of, series_step, arc as arc_of, arc_step};
 ghost use Rattle.trig.specs.Trig.{cos as cos_of, sin as sin_of, acos as acos_of, asin as asin_of, twice_arc};

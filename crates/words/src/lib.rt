@@ -1,5 +1,7 @@
 // Words: the 32-bit words that lamp lists, blocks and trees are made of, as floats and as little-endian bytes; filling
 // a stretch of a slice of them; heads, limits; and the answers and refusals that calls give.
+#![tactic(auto)]
+
 pub mod answers;
 pub mod fill;
 pub mod floats;
