@@ -1,0 +1,70 @@
+-- `alias_table::build_power_alias_table`: its tests are the definition's, and where they pass the sums say which answer
+-- is left. Assumes nothing.
+use borrow.Author.Tests.{lt-ltb, le-ltb, lt-leb, le-leb, ltb-true, ltb-false}
+use Prim.Native.Nat.{◌*◌}
+use mathlib.Core.Path.{refl, sym, ◌∙◌}
+use mathlib.Core.Logic.{⊎_elim}
+use mathlib.Core.List.{append-nil}
+use native.Mathlib.Nat.{sub_self, sub-zero}
+use native.Mathlib.Omega.{arith}
+use lib.ListN.{length}
+use Rattle.words.specs.Tray.{tray}
+use Rattle.words.proofs.Reserves.{tray-zeroed}
+use Rattle.alias_table.specs.AliasTable.{build_power_alias_table}
+use Rattle.alias_table.specs.AsCoded.Stacks.{Room}
+use Rattle.alias_table.proofs.StackLaws.{length-bin_words}
+use Rattle.alias_table.proofs.TableLaws.{answer-bad, answer-given, total-is, played-length}
+use Rattle.alias_table.proofs.build_power_alias_table.Goals as goal
+
+-- the tests have passed
+room : (c : goal.Else-work-m) → let args = c.args in
+    Room (length args.weights.now) args.bins.now args.work.now
+room c =
+    record {
+      few = c.if-m-gt-MAX_LAMPS.false;
+      bins-room = c.if-bins-m.false;
+      work-room = ltb-false _ _
+          c.if-work-m.false-raw;
+    }
+
+pub returns-then-m-gt-MAX_LAMPS : goal.returns-then-m-gt-MAX_LAMPS
+unfolding build_power_alias_table tray
+returns-then-m-gt-MAX_LAMPS c = simp (lt-ltb _ _ c.if-m-gt-MAX_LAMPS.true) (record { result_value = refl; bins_after = refl; work_after = refl })
+
+pub returns-then-bins-m : goal.returns-then-bins-m
+unfolding build_power_alias_table tray
+returns-then-bins-m c = let args = c.args in
+    let few = le-ltb _ _ c.if-m-gt-MAX_LAMPS.false in
+    let work = lt-leb (4 * length args.weights.now) (length args.work.now) in
+    ⊎_elim (λ w. simp (few, lt-leb _ _ w.taken) (refl, (refl, refl)))
+    (λ w. simp (few, le-leb _ _ w.0.left, work (ltb-true _ _ w.1.taken)) (refl, (refl, refl)))
+    c.then-bins-m.branch
+
+pub build-requires : goal.build-requires
+build-requires c = let told = c in (
+      room told.before.before.before,
+      c.total.ensures ∙
+          total-is _ _ _ (sym told.s.given.1 ∙ told.before.before.add-up.ensures),
+    )
+
+pub returns-in-Of : goal.returns-in-Of
+unfolding tray
+returns-in-Of c = let built = c.build.ensures in
+    let sums = sym c.in-Of.is ∙ c.add_up-s.ensures in
+    let len = played-length c.args.weights.now _ _ sums in
+    rw (answer-given _ (room (goal.at.returns-in-Of c).Else-work-m) _ _ sums) (
+      rw len refl,
+      (built.0 ∙ simp (length-bin_words, len, sub_self, append-nil), built.1 ∙ simp sub-zero),
+    )
+
+pub returns-in-Bad : goal.returns-in-Bad
+returns-in-Bad c = let told = c in
+    let r = room told.before.before.before in
+    rw (answer-bad _ r (sym told.enum_told.given.1 ∙ told.before.before.add-up.ensures)) (
+      refl,
+      (
+        c.zero_words.ensures ∙
+            tray-zeroed _ _ _ _ 8 r.bins-room refl (omega arith),
+        c.zero_words-in-Bad.ensures ∙ tray-zeroed _ _ _ _ 8 r.work-room refl (omega arith),
+      ),
+    )

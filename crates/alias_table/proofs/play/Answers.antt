@@ -1,0 +1,47 @@
+-- `alias_table::play`: each turn is the game's, and where a stack is empty the turns to go change nothing. Assumes
+-- nothing.
+use mathlib.Core.Bool.{true, false}
+use mathlib.Core.Logic.{inl, inr}
+use borrow.Author.Tests.{ltb-true, ltb-false}
+use Rattle.alias_table.proofs.LoopLaws.{going-none, going_in, going_next, going-last}
+use native.Mathlib.Omega.{arith}
+use Rattle.alias_table.proofs.play.Goals as goal
+
+pub loop-nu-init : goal.loop-nu-init
+loop-nu-init c = going-none c.requires
+
+pub overflow_sub-o : goal.overflow_sub-o
+overflow_sub-o c = omega (arith, ltb-true)
+
+pub settle-requires : goal.settle-requires
+settle-requires c = let loop = c in
+    going_in loop.loop.invariant loop.before.before.before.requires (omega arith) (omega (arith, ltb-true))
+
+pub overflow_sub-no : goal.overflow_sub-no
+overflow_sub-no c = omega (arith, ltb-true)
+
+pub overflow_sub-no-then-push : goal.overflow_sub-no-then-push
+overflow_sub-no-then-push c = omega (arith, ltb-true)
+
+pub loop-nu-smaller-then-push : goal.loop-nu-smaller-then-push
+loop-nu-smaller-then-push c = omega (arith, ltb-true)
+
+pub loop-nu-preserved-then-push : goal.loop-nu-preserved-then-push
+loop-nu-preserved-then-push c = let pushed = c in
+    let sum = pushed.before.before.before.before.before.before.before in
+    going_next sum.before.before.before.before.before.before.loop.invariant (omega arith) (omega (arith, ltb-true))
+    sum.joint.ensures
+    pushed.before.before.before.before.settle.ensures pushed.push.ensures true c.if-push.true
+
+pub loop-nu-preserved : goal.loop-nu-preserved
+loop-nu-preserved c = let pushed = c in
+    let sum = pushed.before.before.before.before.before.before.before in
+    going_next sum.before.before.before.before.before.before.loop.invariant (omega arith) (omega (arith, ltb-true))
+    sum.joint.ensures
+    pushed.before.before.before.before.settle.ensures pushed.push.ensures false c.if-push.false
+
+pub returns-else-no-gt0 : goal.returns-else-no-gt0
+returns-else-no-gt0 c = going-last c.loop-nu.invariant (inr (omega (arith, ltb-false)))
+
+pub returns-after-loop-nu : goal.returns-after-loop-nu
+returns-after-loop-nu c = going-last c.loop-nu.invariant (inl (omega arith))

@@ -1,0 +1,21 @@
+-- `floats::choose::clamp`: what the first test leaves is the definition's y, and the second test is made of it. Assumes
+-- nothing.
+use mathlib.Core.Path.{◌≡◌}
+use mathlib.Core.Bool.{cond}
+use mathlib.Core.Logic.{⊎_elim}
+use lib.Ieee.{lt}
+use Rattle.ieee.specs.Choose.{clamp}
+use Rattle.floats.proofs.choose.clamp.Goals as goal
+
+-- y, past the first test
+raised : (c : goal.Joined-x-lo) →
+    c.if-x-lo.y ≡ cond (lt c.args.x c.args.lo) c.args.lo c.args.x
+raised c = ⊎_elim (λ w. rw w.0.taken w.1) (λ w. rw w.0.left w.1) c.if-x-lo.branch
+
+pub returns-then-hi-y : goal.returns-then-hi-y
+unfolding clamp
+returns-then-hi-y c = rw (← raised c, c.if-hi-y.true)
+
+pub returns-else-hi-y : goal.returns-else-hi-y
+unfolding clamp
+returns-else-hi-y c = rw (← raised c, c.if-hi-y.false)

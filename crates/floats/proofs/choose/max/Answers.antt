@@ -1,0 +1,18 @@
+-- `floats::choose::max`: only a NaN differs from itself, so the one test of the code parts as the definition's two.
+-- Assumes nothing.
+use mathlib.Core.Path.{◌≡◌}
+use mathlib.Core.Bool.{◌||◌}
+use mathlib.Core.Logic.{⊎_elim}
+use lib.Ieee.{lt, ne}
+use Rattle.ieee.specs.Laws.ChooseLaws.{fmax_tests}
+use Rattle.floats.proofs.choose.max.Goals as goal
+
+test : (c : goal.Joined-x) →
+    c.if-x.value ≡ (ne c.args.x c.args.x || lt c.args.x c.args.y)
+test c = ⊎_elim (λ w. rw (w.1, w.0.taken)) (λ w. rw (w.1, w.0.left)) c.if-x.branch
+
+pub returns-then-x-y : goal.returns-then-x-y
+returns-then-x-y c = rw ( fmax_tests c.args.x c.args.y, ← test c, c.if-x-y.true, )
+
+pub returns-else-x-y : goal.returns-else-x-y
+returns-else-x-y c = rw (fmax_tests c.args.x c.args.y, ← test c, c.if-x-y.false)

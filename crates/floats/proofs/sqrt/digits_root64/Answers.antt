@@ -1,0 +1,56 @@
+-- `floats::sqrt::digits_root64`: with 54 zeros behind the normalised digits the root has one digit more than f64 keeps,
+-- and one rounding drops it. Assumes nothing.
+use Prim.Native.Nat.{ℕ, ◌+◌, ◌-◌, ◌*◌, ◌^◌, ◌≤◌, ◌<◌}
+use mathlib.Core.Path.{◌≡◌, ap, ◌∙◌, sym}
+use native.Mathlib.Nat.{mul-le-mul_right, mul-lt-mul_of_pos_right, mul_assoc, zero-add}
+use native.Mathlib.Omega.{arith}
+use lib.Dec.{lit≤, lit<}
+use lib.Pow.{pow-add}
+use lib.Ieee.{binary64, to_bits}
+use lib.Ieee.Nearest.{closest}
+use Rattle.ieee.specs.Sqrt.{root_of}
+use Rattle.ieee.specs.Laws.SqrtWords.{sticky, sticky-lt, root_kept, root-pattern}
+use Rattle.floats.proofs.sqrt.digits_root64.Goals as goal
+
+-- the digits with 54 zeros behind them
+from : (n : ℕ) → 2 ^ 52 ≤ n → 2 ^ 106 ≤ n * 2 ^ 54
+from n h = mul-le-mul_right (2 ^ 54) h
+
+to : (n : ℕ) → n < 2 ^ 54 → n * 2 ^ 54 < 2 ^ 108
+to n h = mul-lt-mul_of_pos_right h (lit< tt)
+
+-- what is kept of the root's digits
+kept : (c : goal.After-shifted_to_even-kept) →
+    c.shifted_to_even-kept.result ≡ closest (sticky (c.normalised-s.result.digits * 2 ^ 54)) (2 ^ 2)
+
+kept c = c.shifted-to-even.ensures ∙ ap (λ (z : ℕ). closest z (2 ^ 2)) c.before.wide-sticky-root.ensures
+
+
+kept-le : (c : goal.After-shifted_to_even-kept) → c.shifted_to_even-kept.result ≤ 2 ^ 53
+kept-le c =
+    let s = c.normalised-s in
+    let n = s.result.digits in
+    rw (kept c) (root_kept binary64 0 (s.result.half - 27) (n * 2 ^ 54) (from n s.ensures.1.0)
+    (to n s.ensures.1.1.0))
+
+pub shifted_to_even-kept-requires : goal.shifted_to_even-kept-requires
+shifted_to_even-kept-requires c = let s = c.normalised-s in
+    let l : sticky (s.result.digits * 2 ^ 54) < 2 ^ 55 = sticky-lt (s.result.digits * 2 ^ 54) (2 ^ 54)
+    (to s.result.digits s.ensures.1.1.0) in
+    record { a_bound = omega (arith, c.wide_sticky_root.ensures); le_gone = lit≤ tt; gone_bound = lit≤ tt }
+
+pub overflow_add-result : goal.overflow_add-result
+overflow_add-result c = omega (arith, kept-le c)
+
+pub returns : goal.returns
+returns c = let s = c.normalised-s in
+    let t = s.result.half - 27 in
+    let n = s.result.digits in
+    let h : 27 + t ≡ s.result.half = omega arith in
+    let e : n * 2 ^ 54 * 4 ^ t ≡ c.args.d * 2 ^ c.args.e =
+    mul_assoc n (2 ^ 54) (4 ^ t) ∙ ap (λ (z : ℕ). n * z) (sym (pow-add 4 27 t) ∙ ap (λ (z : ℕ). 4 ^ z) h) ∙
+    s.ensures.0 in
+    ap (λ (z : ℕ). t * 2 ^ 52 + z) (kept c)
+    ∙ ap (λ (z : ℕ). z * 2 ^ 52 + closest (sticky (n * 2 ^ 54)) (2 ^ 2)) (sym (zero-add t))
+    ∙ root-pattern binary64 0 t (n * 2 ^ 54) (from n s.ensures.1.0) (to n s.ensures.1.1.0) (omega arith)
+    ∙ ap (λ (z : ℕ). to_bits binary64 (root_of binary64 1075 z)) e

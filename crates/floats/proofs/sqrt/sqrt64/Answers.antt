@@ -1,0 +1,9 @@
+-- `floats::sqrt::sqrt64`: the word that is read back is that of the root, which the format holds. Assumes nothing.
+use lib.Ieee.{binary64}
+use Rattle.ieee.specs.Laws.FormatLaws.{sqrt-fits}
+use Rattle.ieee.specs.Laws.Patterns.{through-words}
+use Rattle.ieee.specs.Sqrt.{sqrt}
+use Rattle.floats.proofs.sqrt.sqrt64.Goals as goal
+
+pub returns : goal.returns
+returns c = through-words binary64 binary64 (sqrt binary64) c.args.x _ _ _ c.well-formed.0.1 (sqrt-fits binary64 c.args.x) c.word_of_f64.ensures c.sqrt64_word.ensures c.f64_of_word.ensures

@@ -1,0 +1,74 @@
+-- `light_bounds::cones::union_by_angles`: the first cone, the second, or the one around both. Assumes nothing.
+use mathlib.Core.Path.{◌≡◌, sym, ◌∙◌, ap}
+use lib.Ieee.{neg, of_bits}
+use Rattle.ieee.specs.Choose.{fmin, clamp}
+use Rattle.ieee.specs.Single.{◌⊕◌, onef, minus_one, pi}
+use Rattle.trig.specs.Trig.{acos}
+use Rattle.light_bounds.specs.Cones.{union_direction_cones}
+use Rattle.light_bounds.specs.Vecmath.{angle_between}
+use Rattle.light_bounds.proofs.cones.union_by_angles.Goals as goal
+
+-- the three angles
+theta-a : (c : goal.After-acos-theta_a) → acos (clamp c.args.cos_a minus_one onef) ≡ c.acos-theta_a.result
+unfolding neg of_bits
+theta-a c = sym (c.acos-theta_a.ensures ∙ ap acos c.clamp.ensures)
+
+theta-b : (c : goal.After-acos-theta_b) →
+    acos (clamp c.args.cos_b minus_one onef) ≡ c.acos-theta_b.result
+unfolding neg of_bits
+theta-b c = sym (c.acos-theta_b.ensures ∙ ap acos c.clamp-2.ensures)
+
+theta-d : (c : goal.After-angle_between-theta_d) → (let s = c.args in angle_between
+    s.a s.b) ≡ c.angle_between-theta_d.result
+theta-d c = sym c.angle_between-theta_d.ensures
+
+-- the two sums, at most half a turn
+first : (c : goal.After-min) →
+    fmin (c.angle_between-theta_d.result ⊕ c.acos-theta_b.result) pi ≡ c.min.result
+first c = sym c.min.ensures
+
+second : (c : goal.After-min-2) → fmin (c.angle_between-theta_d.result ⊕
+    c.acos-theta_a.result) pi ≡ c.min-2.result
+second c = sym c.min-2.ensures
+
+pub returns-then-min-theta_a : goal.returns-then-min-theta_a
+unfolding union_direction_cones
+returns-then-min-theta_a c = rw (
+      theta-a (goal.at.returns-then-min-theta_a c).After-acos-theta_a,
+      theta-b (goal.at.returns-then-min-theta_a c).After-acos-theta_b,
+      theta-d
+          c,
+      first (goal.at.returns-then-min-theta_a c).After-min,
+    )
+    (rw c.if-min-theta_a.true)
+
+pub returns-then-min-theta_b : goal.returns-then-min-theta_b
+unfolding union_direction_cones
+returns-then-min-theta_b c = rw (
+      theta-a (goal.at.returns-then-min-theta_b c).After-acos-theta_a,
+      theta-b
+          c,
+    )
+    (rw (
+      theta-d (goal.at.returns-then-min-theta_b c).After-angle_between-theta_d,
+      first
+          c,
+      c.if-min-theta_a.false,
+      second (goal.at.returns-then-min-theta_b c).After-min-2,
+    )
+    (rw c.if-min-theta_b.true))
+
+pub returns : goal.returns
+unfolding union_direction_cones
+returns c = rw (
+      theta-a (goal.at.returns c).After-acos-theta_a,
+      theta-b
+          c,
+    )
+    (rw (
+      theta-d (goal.at.returns c).After-angle_between-theta_d,
+      first
+          c,
+      c.if-min-theta_a.false,
+    )
+    (rw (second (goal.at.returns c).After-min-2, c.if-min-theta_b.false) c.join.ensures))

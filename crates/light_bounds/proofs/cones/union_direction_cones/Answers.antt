@@ -1,0 +1,42 @@
+-- `light_bounds::cones::union_direction_cones`: the angle of all directions is PI, and the first test's sum is cut to
+-- PI. Assumes nothing.
+use mathlib.Core.Path.{◌≡◌, refl, sym, ◌∙◌, ap, subst}
+use mathlib.Core.Bool.{Bool, true}
+use lib.Dec.{T}
+use lib.Ieee.{Float, binary32, of_bits, lt, le, is_nan}
+use lib.Ieee.Bits.{of_bits-to_bits}
+use Rattle.ieee.specs.Choose.{fmin, clamp}
+use Rattle.ieee.specs.Laws.ChooseOrder.{fmin-cap}
+use Rattle.ieee.specs.Single.{◌⊕◌, onef, minus_one, pi}
+use Rattle.trig.specs.Trig.{acos}
+use Rattle.trig.proofs.KnownArcs.{acos-minus-one}
+use Rattle.light_bounds.specs.Cones.{union_direction_cones, cone}
+use Rattle.light_bounds.specs.Vecmath.{angle_between}
+use Rattle.light_bounds.specs.declared.vecmath.Vec3.{Vec3}
+use Rattle.light_bounds.proofs.cones.union_direction_cones.Goals as goal
+
+unclamped : clamp minus_one minus_one onef ≡ minus_one
+unfolding clamp of_bits lt is_nan
+unclamped = refl
+
+whole-turn : acos (clamp minus_one minus_one onef) ≡ pi
+whole-turn = ap acos unclamped ∙ sym acos-minus-one
+
+cut : (x : Float) → le (fmin x pi) pi ≡ true
+unfolding of_bits is_nan
+cut x = go (le (fmin x pi) pi) (fmin-cap x pi tt)
+  where
+    go : (b : Bool) → T b → b ≡ true
+    go true t = refl
+
+all-directions : (a : Vec3) (b : Vec3) (cos_b : Float) → union_direction_cones a minus_one b cos_b ≡ cone a minus_one
+unfolding union_direction_cones
+all-directions a b cos_b = rw whole-turn (rw (cut (angle_between a b ⊕ acos (clamp cos_b minus_one onef))) refl)
+
+pub returns-then-word_of_f32-eq3212836864 : goal.returns-then-word_of_f32-eq3212836864
+unfolding of_bits
+returns-then-word_of_f32-eq3212836864 c = let s = c in
+    let is : s.args.cos-a ≡ minus_one =
+    sym (of_bits-to_bits binary32 s.args.cos-a (subst T (sym s.well-formed.1.0.1) tt)) ∙
+    ap (of_bits binary32) (sym c.word_of_f32.ensures ∙ c.if-word_of_f32-eq3212836864.true) in
+    rw is (sym (all-directions s.args.a s.args.b s.args.cos-b))

@@ -1,0 +1,14 @@
+-- The union of the records at both places is written in front; where it is refused, it is by 10. Assumes nothing.
+use mathlib.Core.Path.{refl, sym, ap, ◌∙◌}
+use Rattle.light_bounds.specs.LightBounds.{bounded}
+use Rattle.light_bvh.proofs.LostLaws.{union_lost}
+use Rattle.light_bvh.proofs.subtree.join_children.Goals as goal
+
+pub returns-in-Bounds : goal.returns-in-Bounds
+returns-in-Bounds c = let arm = c in
+    rw (sym arm.before.before.union-children.ensures ∙ ap bounded arm.bounds.given.1)
+    (record { result_value = refl; nodes_after = c.write_interior.ensures.words_after })
+
+pub returns-in-Refused : goal.returns-in-Refused
+returns-in-Refused c = let told = sym c.union_children.ensures ∙ ap bounded c.in-Refused.is in
+    rw (union_lost _ _ _ told) (record { result_value = refl; nodes_after = refl })

@@ -1,0 +1,7 @@
+-- There is room, so the words stand at the front. Assumes nothing.
+use Rattle.light_report.proofs.TreeBytes.{words-read}
+use Rattle.light_report.proofs.read_words.Goals as goal
+
+pub returns : goal.returns
+returns c = let start = c in
+    rw c.words_of_bytes.ensures.words_after (words-read _ start.args.words.now start.requires)

@@ -1,0 +1,40 @@
+-- `light_rows::block::check_handles`: up to `i` every handle is its place. Assumes nothing.
+use Prim.Native.Nat.{ℕ}
+use mathlib.Core.Path.{◌≡◌, refl, subst, sym, ap, ◌∙◌}
+use mathlib.Core.Bool.{true}
+use native.Mathlib.Omega.{arith}
+use borrow.Author.Tests.{eq-eqb, ne_eqb}
+use lib.ListN.{get_or}
+use Rattle.words.specs.Answers.{given}
+use Rattle.words.specs.Rows.{below}
+use Rattle.words.proofs.RowLaws.{below_false, below_next}
+use Rattle.light_rows.specs.Block.{handle_at, block_handles}
+use Rattle.light_rows.proofs.block.check_handles.Goals as goal
+
+pub loop-i-init : goal.loop-i-init
+unfolding below
+loop-i-init c = (c.word_or_zero-m.ensures, omega arith, refl)
+
+pub loop-i-preserved : goal.loop-i-preserved
+loop-i-preserved c = let loop = c.loop-i in
+    let block = c.args.block.now in (
+      loop.invariant.0,
+      omega arith,
+      rw (below_next (handle_at block) loop.i, loop.invariant.2)
+          (eq-eqb _ _ (sym c.label.ensures ∙ c.if-label-i.true)),
+    )
+
+pub returns-else-label-i : goal.returns-else-label-i
+unfolding block_handles
+returns-else-label-i c = let loop = c.loop-i in
+    let block = c.args.block.now in
+    rw (below_false (handle_at block) (get_or block 0 0) loop.i (omega (arith, loop.invariant.0))
+    (ne_eqb _ _ (λ e. c.if-label-i.false (c.label.ensures ∙ e))))
+
+pub returns : goal.returns
+unfolding block_handles
+returns c = let loop = c.loop-i in
+    let block = c.args.block.now in
+    let e : loop.i ≡ get_or block 0 0 = omega (arith, loop.invariant.0) in
+    rw (subst (λ (k : ℕ). below (handle_at block) k ≡ true) e loop.invariant.2)
+    (ap given (c.wide.ensures ∙ loop.invariant.0))

@@ -1,0 +1,34 @@
+-- `light_rows::block::check_layout` judges the limits, then the length, then the sides. Assumes nothing.
+use mathlib.Core.Path.{◌≡◌, ◌∙◌}
+use native.Mathlib.Omega.{arith}
+use borrow.Author.Tests.{eq-eqb, ne_eqb}
+use lib.ListN.{length, get_or}
+use Rattle.light_rows.specs.Block.{block_layout, block_words}
+use Rattle.light_rows.proofs.block.check_layout.Goals as goal
+
+pub returns-then-crowded : goal.returns-then-crowded
+unfolding block_layout
+returns-then-crowded c = rw (← c.crowded.ensures, c.if-crowded.true)
+
+pub check_sides-requires : goal.check_sides-requires
+check_sides-requires c = c.if-block-block_words.true ∙ c.block_words.ensures
+
+pub returns-then-block-block_words : goal.returns-then-block-block_words
+unfolding block_layout
+returns-then-block-block_words c = let words = c in
+    let test = words.before.before in
+    let block = test.before.before.before.args.block.now in
+    let m = words.before.word-or-zero.ensures in
+    let size : length block ≡ block_words (get_or block 0 0) =
+    omega (arith, m, words.Block-words.ensures, c.if-block-block_words.true) in
+    rw (← test.before.crowded.ensures, test.if1.false) (rw (eq-eqb _ _ size, ← m) c.check_sides.ensures)
+
+pub returns : goal.returns
+unfolding block_layout
+returns c = let words = c in
+    let test = words.before.before in
+    let block = test.before.before.before.args.block.now in
+    let m = words.before.word-or-zero.ensures in
+    rw (← test.before.crowded.ensures, test.if1.false)
+    (rw (ne_eqb (length block) (block_words (get_or block 0 0))
+    (λ e. c.if-block-block_words.false (omega (arith, e, m, words.Block-words.ensures)))))

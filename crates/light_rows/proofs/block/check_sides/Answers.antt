@@ -1,0 +1,42 @@
+-- `light_rows::block::check_sides`: up to `i` every side is known. Assumes nothing.
+use Prim.Native.Nat.{ℕ}
+use mathlib.Core.Path.{◌≡◌, refl, subst, sym, ap, ◌∙◌}
+use mathlib.Core.Bool.{true}
+use native.Mathlib.Omega.{arith}
+use lib.ListN.{get_or}
+use Rattle.words.specs.Answers.{given}
+use Rattle.words.specs.Rows.{below}
+use Rattle.words.proofs.RowLaws.{below_false, below_next}
+use Rattle.light_bounds.specs.Side.{side_known}
+use Rattle.light_rows.specs.Block.{side_at}
+use Rattle.light_rows.specs.RecordWords.{side_place}
+use Rattle.light_rows.proofs.block.check_sides.Goals as goal
+
+pub loop-i-init : goal.loop-i-init
+unfolding below
+loop-i-init c = (c.requires, omega arith, refl)
+
+pub loop-i-preserved : goal.loop-i-preserved
+loop-i-preserved c = let place = c in
+    let loop = place.before.before.loop in
+    let block = place.before.before.before.before.args.block.now in
+    let known = c.is_side.ensures
+    ∙ ap (λ (k : ℕ). side_known (get_or block (side_place k) 0)) place.record-place.ensures in (
+      loop.invariant.0,
+      omega arith,
+      rw (below_next (side_at block) loop.i, loop.invariant.2) (sym known ∙ c.if-is_side.true),
+    )
+
+pub returns-else-is_side : goal.returns-else-is_side
+returns-else-is_side c = let place = c in
+    let args = place.before.before.before.before.args in
+    let block = args.block.now in
+    let known = c.is_side.ensures
+    ∙ ap (λ (k : ℕ). side_known (get_or block (side_place k) 0)) place.record-place.ensures in
+    rw (below_false (side_at block) args.m place.before.before.loop.i (omega arith) (sym known ∙ c.if-is_side.false))
+
+pub returns : goal.returns
+returns c = let loop = c.loop-i in
+    let args = c.args in
+    let e : loop.i ≡ args.m = omega arith in
+    rw (subst (λ (k : ℕ). below (side_at args.block.now) k ≡ true) e loop.invariant.2) (ap given c.wide.ensures)

@@ -1,0 +1,24 @@
+-- `light_rows::record_words::write_vec`: its stores are those of `sets`, counted by one. Assumes nothing.
+use Prim.Native.Nat.{suc, ◌+◌}
+use mathlib.Core.Path.{◌≡◌}
+use native.Mathlib.Numerals.{add-one}
+use native.Mathlib.Omega.{arith}
+use lib.ListN.{length-set}
+use Rattle.light_rows.proofs.record_words.write_vec.Goals as goal
+
+pub bounds-words-at-2 : goal.bounds-words-at-2
+bounds-words-at-2 c = simp length-set (omega arith)
+
+pub bounds-words-at-3 : goal.bounds-words-at-3
+bounds-words-at-3 c = simp length-set (omega arith)
+
+pub returns : goal.returns
+returns c = let at = c.args.at in
+    let e2 : at + 2 ≡ suc (suc at) = omega arith in
+    rw (
+      e2,
+      add-one at,
+      ← c.word_of_f32.ensures,
+      ← c.word_of_f32-2.ensures,
+      ← c.word_of_f32-3.ensures,
+    )

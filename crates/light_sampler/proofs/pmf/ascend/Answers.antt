@@ -1,0 +1,75 @@
+-- The walk that is left comes to what the whole walk comes to, for whatever query is held. Assumes nothing.
+use mathlib.Core.Path.{refl, sym, ap, ◌∙◌}
+use lib.Ieee.{of_bits}
+use Rattle.light_sampler.specs.AsCoded.Turns.{factor_of, parent_of, above_of}
+use Rattle.light_sampler.proofs.WalkLaws.{rise-held, ascend-spent, ascend_unknown, ascend-root}
+use Rattle.light_sampler.proofs.WalkLaws.{ascend-refused, ascend-nought, ascend-part}
+use Rattle.light_sampler.proofs.pmf.ascend.Goals as goal
+
+pub loop-entries-init : goal.loop-entries-init
+unfolding of_bits
+loop-entries-init c = (c.node_at-here.ensures, λ q h. refl)
+
+pub returns-then-parent : goal.returns-then-parent
+returns-then-parent c = let at = c in
+    let loop = at.before.before.loop in
+    let stands = ap parent_of (sym loop.invariant.0) ∙ sym at.parent_of.ensures ∙
+    ap above_of c.in-Parent.is in
+    let start = at.before.before.before.before in
+    sym (ascend-root _ _ _ _ _ at.before.loop-test.true stands c.if-parent.true) ∙
+    loop.invariant.1 _ start.prepare.ensures
+
+pub rise-requires : goal.rise-requires
+rise-requires c = c.node_at-above.ensures
+
+pub loop-entries-preserved : goal.loop-entries-preserved
+loop-entries-preserved c = let above = c in
+    let inner = above.before in
+    let at = inner.before.before.before.before in
+    let loop = at.before.before.loop in
+    let stands = ap parent_of (sym loop.invariant.0) ∙ sym at.parent_of.ensures ∙
+    ap above_of inner.before.before.parent.given.1 in (
+      above.node-at2.ensures,
+      λ q h.
+          let step = rise-held _ _ q h _ _ ∙ sym c.rise.ensures ∙
+          ap factor_of c.in-Part.is in
+          sym (ascend-part _ _ _ _ _ at.before.loop-test.true stands inner.if1.false step) ∙ loop.invariant.1 q h,
+    )
+
+pub returns-in-Nought : goal.returns-in-Nought
+unfolding of_bits
+returns-in-Nought c = let inner = c in
+    let at = inner.before.before.before.before in
+    let loop = at.before.before.loop in
+    let start = at.before.before.before.before in
+    let stands = ap parent_of (sym loop.invariant.0) ∙ sym at.parent_of.ensures ∙
+    ap above_of inner.before.before.parent.given.1 in
+    let step = rise-held _ _ _ start.prepare.ensures _ _ ∙ sym c.rise.ensures ∙
+    ap factor_of c.in-Nought.is in
+    sym (ascend-nought _ _ _ _ _ at.before.loop-test.true stands inner.if1.false step) ∙
+    loop.invariant.1 _ start.prepare.ensures
+
+pub returns-in-Refused : goal.returns-in-Refused
+returns-in-Refused c = let inner = c in
+    let at = inner.before.before.before.before in
+    let loop = at.before.before.loop in
+    let start = at.before.before.before.before in
+    let stands = ap parent_of (sym loop.invariant.0) ∙ sym at.parent_of.ensures ∙
+    ap above_of inner.before.before.parent.given.1 in
+    let step =
+    rise-held _ _ _ start.prepare.ensures _ _ ∙ sym c.rise.ensures ∙
+    ap factor_of c.in-Refused.is in
+    sym (ascend-refused _ _ _ _ _ at.before.loop-test.true stands inner.if1.false step) ∙
+    loop.invariant.1 _ start.prepare.ensures
+
+pub returns-in-Unknown : goal.returns-in-Unknown
+returns-in-Unknown c = let at = c in
+    let loop = at.before.before.loop in
+    let stands = ap parent_of (sym loop.invariant.0) ∙ sym at.parent_of.ensures ∙
+    ap above_of c.in-Unknown.is in
+    sym (ascend_unknown _ _ _ _ _ at.before.loop-test.true stands)
+    ∙ loop.invariant.1 _ at.before.before.before.before.prepare.ensures
+
+pub returns : goal.returns
+returns c = sym (ascend-spent _ _ _ _ _ c.loop-entries-test.false) ∙
+    c.loop-entries.invariant.1 _ c.prepare-held.ensures

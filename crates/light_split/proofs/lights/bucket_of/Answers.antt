@@ -1,0 +1,15 @@
+-- `light_split::lights::bucket_of`: the index of its figure between those of the ends. Assumes nothing.
+use mathlib.Core.Path.{◌∙◌}
+use Rattle.light_split.specs.Lights.{bucket_of}
+use Rattle.light_split.proofs.LightLaws.{bucket_index-below}
+use Rattle.light_split.proofs.lights.bucket_of.Goals as goal
+
+pub returns : goal.returns
+unfolding bucket_of
+returns c = let figure = c in
+    let is = c.bucket_index.ensures in (
+      is ∙ rw (figure.component.ensures, c.component-2.ensures, c.component-3.ensures)
+          (rw (figure.before.centroid.ensures, figure.before.before.light-box.ensures)),
+      rw is (bucket_index-below figure.component.result c.component-2.result
+          c.component-3.result),
+    )

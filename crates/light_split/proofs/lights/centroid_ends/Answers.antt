@@ -1,0 +1,28 @@
+-- `light_split::lights::centroid_ends`: at `i` the fold over the handles that are left leads to the whole fold. Assumes
+-- nothing.
+use mathlib.Core.Path.{refl, sym, ◌∙◌}
+use native.Mathlib.Omega.{arith}
+use lib.Ieee.{of_bits, div, neg}
+use Rattle.light_split.specs.Lights.{widen, centroid_ends}
+use Rattle.words.proofs.ListLaws.{folded-next, folded-all}
+use Rattle.light_split.proofs.lights.centroid_ends.Goals as goal
+
+pub loop-i-init : goal.loop-i-init
+unfolding div neg of_bits
+loop-i-init c = (omega arith, refl)
+
+pub loop-i-preserved : goal.loop-i-preserved
+loop-i-preserved c = let at = c in
+    let args = at.before.before.before.args in (
+      omega arith,
+      rw c.widen-ends.ensures
+          (sym (folded-next (widen args.block.now) at.loop.ends args.handles.now at.loop.i
+          (omega arith)) ∙ at.loop.invariant.1),
+    )
+
+pub returns : goal.returns
+unfolding centroid_ends
+returns c = let loop = c.loop-i in
+    let args = c.args in
+    sym (folded-all (widen args.block.now) loop.ends args.handles.now loop.i (omega arith)) ∙
+    loop.invariant.1

@@ -1,0 +1,32 @@
+-- `packed_bvh::pack::pack_node`: by the node's kind, with its own checks taken before its record's, which are judged
+-- first. Assumes nothing.
+use mathlib.Core.Path.{sym, ap, ◌∙◌}
+use Rattle.words.specs.LittleEndian.{words_of}
+use Rattle.light_rows.specs.Nodes.{leaf, interior, node}
+use Rattle.packed_bvh.proofs.PackLaws.{node-placed, node-refused}
+use Rattle.packed_bvh.proofs.pack.pack_node.Goals as goal
+
+pub returns-in-Leaf : goal.returns-in-Leaf
+returns-in-Leaf c = let at = c in
+    let args = at.before.before.before.before.args in
+    let words = at.handle.given.0 in
+    let n = leaf words.0 words.1.0 in
+    c.pack_placed.ensures
+    ∙ rw c.place_leaf.ensures
+    (sym (node-placed args.count args.all (words_of args.nodes.now) args.index n
+    (sym at.before.before.Node-at.ensures ∙ ap node at.handle.given.1)))
+
+pub returns-in-Interior : goal.returns-in-Interior
+returns-in-Interior c = let at = c in
+    let args = at.before.before.before.before.args in
+    let words = at.left.given.0 in
+    let n = interior words.0 words.1.0 words.1.1.0 in
+    c.pack_placed-in-Interior.ensures
+    ∙ rw c.place_interior.ensures
+    (sym (node-placed args.count args.all (words_of args.nodes.now) args.index n
+    (sym at.before.before.Node-at.ensures ∙ ap node at.left.given.1)))
+
+pub returns-in-Unknown : goal.returns-in-Unknown
+returns-in-Unknown c = let args = c.args in
+    sym (node-refused args.count args.all (words_of args.nodes.now) args.index 12
+    (sym c.node_at.ensures ∙ ap node c.in-Unknown.is))

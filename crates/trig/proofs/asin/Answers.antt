@@ -1,0 +1,9 @@
+-- `trig::asin`: the arc of 0 is 0, and any other argument goes the common way. Assumes nothing.
+use lib.Ieee.{of_bits}
+use Rattle.trig.specs.Trig.{asin}
+use Rattle.trig.proofs.KnownArcs.{at-word, asin-zero}
+use Rattle.trig.proofs.asin.Goals as goal
+
+pub returns-then-word_of_f32-eq0 : goal.returns-then-word_of_f32-eq0
+unfolding of_bits
+returns-then-word_of_f32-eq0 c = at-word asin _ _ _ _ c.well-formed.0.1 c.word_of_f32.ensures c.if-word_of_f32-eq0.true asin-zero

@@ -1,0 +1,48 @@
+-- `trig::asin_steps`: the tests part as the definition's; above a half the arc is that of the size, and takes the
+-- argument's sign at the end. Assumes nothing.
+use mathlib.Core.Path.{◌≡◌, ◌∙◌, ap}
+use mathlib.Core.Bool.{Bool, cond}
+use lib.Ieee.{Float, binary64, of_bits, lt, sub, div, neg}
+use Rattle.ieee.specs.Narrow.{narrow}
+use Rattle.trig.specs.Series.{one64, arc}
+use Rattle.trig.specs.Trig.{asin, half, half_pi, twice_arc}
+use Rattle.trig.proofs.Sizes.{sized, beyond}
+use Rattle.trig.proofs.asin_steps.Goals as goal
+
+-- above a half: π/2 less the arc of the size, with the argument's sign
+above : (c : goal.After-twice_arc-magnitude) {b : Bool} {r : Float} →
+    lt c.args.x (of_bits binary64 0) ≡ b
+    → r ≡ narrow (cond b (neg (sub binary64 half_pi c.twice_arc-magnitude.result))
+    (sub binary64 half_pi c.twice_arc-magnitude.result))
+    → r ≡ asin c.args.x
+unfolding asin of_bits
+above c {b} t h =
+    let l = c.before.before in
+    let s = l.before.before in
+    let x = s.before.args.x in
+    rw (sized x one64 s.abs.ensures l.before.if1.true, sized x half s.abs.ensures l.if2.false, t)
+    (h ∙ ap (λ (v : Float). narrow (cond b (neg (sub binary64 half_pi v)) (sub binary64 half_pi v)))
+    (c.twice-arc.ensures ∙ ap twice_arc (c.before.widen2.ensures ∙ s.abs.ensures)))
+
+pub returns-then-size-2 : goal.returns-then-size-2
+unfolding asin of_bits
+returns-then-size-2 c = let t = c in
+    let s = t.before.before in
+    rw (
+      sized s.before.args.x one64 s.abs.ensures t.before.if1.true,
+      sized s.before.args.x half
+          s.abs.ensures t.if2.true,
+    )
+    (c.narrow.ensures ∙ ap narrow (c.arc.ensures ∙ ap arc c.widen.ensures))
+
+pub returns-then-x : goal.returns-then-x
+unfolding of_bits
+returns-then-x c = above (goal.at.returns-then-x c).After-twice_arc-magnitude c.if-x.true c.narrow-then-x.ensures
+
+pub returns-else-x : goal.returns-else-x
+unfolding of_bits
+returns-else-x c = above (goal.at.returns-else-x c).After-twice_arc-magnitude c.if-x.false c.narrow-then-size.ensures
+
+pub returns-else-size : goal.returns-else-size
+unfolding asin div of_bits
+returns-else-size c = beyond c.args.x one64 c.abs-size.ensures _ c.if-size.false

@@ -1,0 +1,20 @@
+-- `words::fill::fill_words` meets its contract. The loop's invariant: the places from the first up to `i` hold the
+-- value, and the others are as they came. Assumes nothing.
+use mathlib.Core.Logic.{⊎_elim}
+use native.Mathlib.Omega.{arith}
+use Rattle.words.proofs.FillLaws.{filling-none, filling-one, filling-all}
+use Rattle.words.proofs.fill.fill_words.Goals as goal
+
+pub loop-i-init : goal.loop-i-init
+loop-i-init c = (
+  ⊎_elim (λ w. omega arith) (λ w. omega arith) c.if-to-s.branch,
+  ⊎_elim (λ w. omega arith) (λ w. omega arith) c.if-from-end.branch,
+  ⊎_elim (λ w. omega arith) (λ w. omega arith) c.if-from-end.branch,
+  filling-none,
+)
+
+pub loop-i-preserved : goal.loop-i-preserved
+loop-i-preserved c = (omega arith, omega arith, omega arith, filling-one c.loop-i.invariant.3 (omega arith))
+
+pub returns : goal.returns
+returns c = filling-all _ _ c.loop-i.invariant.3 (omega arith) (omega arith)
