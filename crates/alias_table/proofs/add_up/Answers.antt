@@ -2,11 +2,11 @@
 -- Assumes nothing.
 use borrow.Author.Tests.{not-true, not-false}
 use mathlib.Core.Path.{refl}
-use mathlib.Core.Logic.{⊎_elim}
 use native.Mathlib.Omega.{arith}
 use lib.Ieee.{of_bits, div}
 use Rattle.alias_table.proofs.WeightLaws.{bad-above, bad-below, sums_next, sums_stop, sums-all}
 use Rattle.alias_table.proofs.add_up.Goals as goal
+use Rattle.alias_table.proofs.add_up.Goals.{else-not-w, then-not-w}
 
 pub loop-i-init : goal.loop-i-init
 unfolding of_bits
@@ -15,13 +15,12 @@ loop-i-init c = record { within = omega arith; then = refl }
 pub returns-then-not-w : goal.returns-then-not-w
 unfolding of_bits div
 returns-then-not-w c = sums_stop c.loop-i.invariant (omega arith) c.f32_of_word-w.ensures
-    (⊎_elim (λ w. bad-above _ (not-true _ w.taken)) (λ w. bad-below _ w.1.taken) c.then-not-w.branch)
+    (elim c.then-not-w.branch [ then-not-w w ↦ bad-above _ (not-true _ w.taken) | else-not-w w ↦ bad-below _ w.1.taken ])
 
 pub loop-i-preserved : goal.loop-i-preserved
 unfolding of_bits div
-loop-i-preserved c = let read = c in
-    rw c.widen-double.ensures
-    (sums_next read.before.before.before.loop.invariant (omega arith) read.f32-of-word.ensures
+loop-i-preserved c = rw c.widen-double.ensures
+    (sums_next c.loop-i.invariant (omega arith) c.f32_of_word-w.ensures
     (not-false _ c.if-not-w.false-raw) c.if-w.false)
 
 pub returns : goal.returns

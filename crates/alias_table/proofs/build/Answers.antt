@@ -13,30 +13,24 @@ pub play-last-requires : goal.play-last-requires
 play-last-requires c = (_, _, _, c.start-first.ensures)
 
 pub make_whole-requires : goal.make_whole-requires
-make_whole-requires c = let won = c in
-    let g = won.play.ensures _ _ _ won.before.before.before.before.before.before.before.start.ensures in
+make_whole-requires c = let g = c.play-last.ensures _ _ _ c.start-first.ensures in
     left-of _ _ g.stacks.under-is g.bins-are g.count (omega (arith, g.stacks.room, g.stacks.together))
 
 pub make_whole-requires-2 : goal.make_whole-requires-2
-make_whole-requires-2 c = let won = c in
-    let g = won.play.ensures _ _ _ won.before.before.before.before.before.before.before.start.ensures in
+make_whole-requires-2 c = let g = c.play-last.ensures _ _ _ c.start-first.ensures in
     let under = wholed-of _ _ g.stacks.under-is g.bins-are g.count
     c.make_whole.ensures in
     left-of _ _ g.stacks.over-is under (length-leftover _ _ ∙ g.count)
     (omega (arith, g.stacks.room, g.stacks.together))
 
 pub overflow_mul-count-2 : goal.overflow_mul-count-2
-overflow_mul-count-2 c = let won = c in
-    omega (arith, won.before.before.before.before.before.before.before.before.before.before.before.before.before.requires.0)
+overflow_mul-count-2 c = omega (arith, c.requires.room)
 
 pub returns : goal.returns
 unfolding played
-returns c = let halved = c in
-    let won = halved.before.before.before.before.before.before.before in
-    let started = won.before.before.before.before.before.before.before in
-    let args = started.before.before.before.before.before.before.args in
-    let g = won.play.ensures _ _ _ started.start.ensures in
-    let under = wholed-of _ _ g.stacks.under-is g.bins-are g.count halved.make-whole.ensures in
+returns c = let args = c.args in
+    let g = c.play-last.ensures _ _ _ c.start-first.ensures in
+    let under = wholed-of _ _ g.stacks.under-is g.bins-are g.count c.make_whole.ensures in
     let over = wholed-of _ _ g.stacks.over-is under (length-leftover _ _ ∙ g.count) c.make_whole-2.ensures
     in (
       rw (weighted-length args.flat args.weights.now) over,

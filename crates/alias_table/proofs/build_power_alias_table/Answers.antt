@@ -3,7 +3,6 @@
 use borrow.Author.Tests.{lt-ltb, le-ltb, lt-leb, le-leb, ltb-true, ltb-false}
 use Prim.Native.Nat.{◌*◌}
 use mathlib.Core.Path.{refl, sym, ◌∙◌}
-use mathlib.Core.Logic.{⊎_elim}
 use mathlib.Core.List.{append-nil}
 use native.Mathlib.Nat.{sub_self, sub-zero}
 use native.Mathlib.Omega.{arith}
@@ -15,9 +14,10 @@ use Rattle.alias_table.specs.AsCoded.Stacks.{Room}
 use Rattle.alias_table.proofs.StackLaws.{length-bin_words}
 use Rattle.alias_table.proofs.TableLaws.{answer-bad, answer-given, total-is, played-length}
 use Rattle.alias_table.proofs.build_power_alias_table.Goals as goal
+use Rattle.alias_table.proofs.build_power_alias_table.Goals.{Else-work-m, else-bins-m, then-bins-m}
 
 -- the tests have passed
-room : (c : goal.Else-work-m) → let args = c.args in
+room : (c : Else-work-m) → let args = c.args in
     Room (length args.weights.now) args.bins.now args.work.now
 room c =
     record {
@@ -36,15 +36,13 @@ unfolding build_power_alias_table tray
 returns-then-bins-m c = let args = c.args in
     let few = le-ltb _ _ c.if-m-gt-MAX_LAMPS.false in
     let work = lt-leb (4 * length args.weights.now) (length args.work.now) in
-    ⊎_elim (λ w. simp (few, lt-leb _ _ w.taken) (refl, (refl, refl)))
-    (λ w. simp (few, le-leb _ _ w.0.left, work (ltb-true _ _ w.1.taken)) (refl, (refl, refl)))
-    c.then-bins-m.branch
+    elim c.then-bins-m.branch [ then-bins-m w ↦ simp (few, lt-leb _ _ w.taken) (refl, (refl, refl)) | else-bins-m w ↦ simp (few, le-leb _ _ w.0.left, work (ltb-true _ _ w.1.taken)) (refl, (refl, refl)) ]
 
 pub build-requires : goal.build-requires
-build-requires c = let told = c in (
-      room told.before.before.before,
+build-requires c = (
+      room (goal.at.build-requires c).Else-work-m,
       c.total.ensures ∙
-          total-is _ _ _ (sym told.s.given.1 ∙ told.before.before.add-up.ensures),
+          total-is _ _ _ (sym c.in-Of.is ∙ c.add_up-s.ensures),
     )
 
 pub returns-in-Of : goal.returns-in-Of
@@ -54,13 +52,12 @@ returns-in-Of c = let built = c.build.ensures in
     let len = played-length c.args.weights.now _ _ sums in
     rw (answer-given _ (room (goal.at.returns-in-Of c).Else-work-m) _ _ sums) (
       rw len refl,
-      (built.0 ∙ simp (length-bin_words, len, sub_self, append-nil), built.1 ∙ simp sub-zero),
+      (built.bins_after ∙ simp (length-bin_words, len, sub_self, append-nil), built.work_after ∙ simp sub-zero),
     )
 
 pub returns-in-Bad : goal.returns-in-Bad
-returns-in-Bad c = let told = c in
-    let r = room told.before.before.before in
-    rw (answer-bad _ r (sym told.enum_told.given.1 ∙ told.before.before.add-up.ensures)) (
+returns-in-Bad c = let r = room c in
+    rw (answer-bad _ r (sym c.in-Bad.is ∙ c.add_up-s.ensures)) (
       refl,
       (
         c.zero_words.ensures ∙

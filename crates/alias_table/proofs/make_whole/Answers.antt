@@ -10,9 +10,10 @@ use Rattle.alias_table.specs.Laws.GameLaws.{length-leftover}
 use Rattle.alias_table.specs.AsCoded.Stacks.{stack_at}
 use Rattle.alias_table.proofs.StackLaws.{length-bin_words, whole_words}
 use Rattle.alias_table.proofs.make_whole.Goals as goal
+use Rattle.alias_table.proofs.make_whole.Goals.{After-shared_slice_known-1}
 
 -- the place of a bin that is left over
-in-bins : (c : goal.After-shared_slice_known-1) → let args = c.args in
+in-bins : (c : After-shared_slice_known-1) → let args = c.args in
     3 * get_or args.work.now (args.base + 2 * c.loop-k.k + 1) 0 < length args.bins.now
 in-bins c =
     let (bs, rest, e, sound, room) = c.requires in

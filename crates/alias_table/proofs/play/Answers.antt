@@ -14,8 +14,7 @@ pub overflow_sub-o : goal.overflow_sub-o
 overflow_sub-o c = omega (arith, ltb-true)
 
 pub settle-requires : goal.settle-requires
-settle-requires c = let loop = c in
-    going_in loop.loop.invariant loop.before.before.before.requires (omega arith) (omega (arith, ltb-true))
+settle-requires c = going_in c.loop-nu.invariant c.requires (omega arith) (omega (arith, ltb-true))
 
 pub overflow_sub-no : goal.overflow_sub-no
 overflow_sub-no c = omega (arith, ltb-true)
@@ -27,18 +26,14 @@ pub loop-nu-smaller-then-push : goal.loop-nu-smaller-then-push
 loop-nu-smaller-then-push c = omega (arith, ltb-true)
 
 pub loop-nu-preserved-then-push : goal.loop-nu-preserved-then-push
-loop-nu-preserved-then-push c = let pushed = c in
-    let sum = pushed.before.before.before.before.before.before.before in
-    going_next sum.before.before.before.before.before.before.loop.invariant (omega arith) (omega (arith, ltb-true))
-    sum.joint.ensures
-    pushed.before.before.before.before.settle.ensures pushed.push.ensures true c.if-push.true
+loop-nu-preserved-then-push c = going_next c.loop-nu.invariant (omega arith) (omega (arith, ltb-true))
+    c.joint-excess.ensures
+    c.settle.ensures c.push.ensures true c.if-push.true
 
 pub loop-nu-preserved : goal.loop-nu-preserved
-loop-nu-preserved c = let pushed = c in
-    let sum = pushed.before.before.before.before.before.before.before in
-    going_next sum.before.before.before.before.before.before.loop.invariant (omega arith) (omega (arith, ltb-true))
-    sum.joint.ensures
-    pushed.before.before.before.before.settle.ensures pushed.push.ensures false c.if-push.false
+loop-nu-preserved c = going_next c.loop-nu.invariant (omega arith) (omega (arith, ltb-true))
+    c.joint-excess.ensures
+    c.settle.ensures c.push.ensures false c.if-push.false
 
 pub returns-else-no-gt0 : goal.returns-else-no-gt0
 returns-else-no-gt0 c = going-last c.loop-nu.invariant (inr (omega (arith, ltb-false)))

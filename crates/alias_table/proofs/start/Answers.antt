@@ -12,27 +12,21 @@ use Rattle.alias_table.proofs.start.Goals as goal
 
 pub int_to_float-count : goal.int_to_float-count
 unfolding in_float
-int_to_float-count c = let start = c in
-    rw (le-leb (length start.args.weights.now) (2 ^ 24) (omega (arith, start.requires))) tt
+int_to_float-count c = rw (le-leb (length c.args.weights.now) (2 ^ 24) (omega (arith, c.requires))) tt
 
 pub loop-i-init : goal.loop-i-init
-loop-i-init c = let start = c in
-    starting-none _ start.args.sum (weighted-length start.args.flat start.args.weights.now)
-    start.requires.0
+loop-i-init c = starting-none _ c.args.sum (weighted-length c.args.flat c.args.weights.now)
+    c.requires.room
 
 pub loop-i-preserved-then-below : goal.loop-i-preserved-then-below
-loop-i-preserved-then-below c = let pushed = c in
-    let weight = pushed.before.before.before.before.before.before in
-    starting-next weight.before.before.loop.invariant (omega arith) weight.weight-at.ensures
-    pushed.before.before.before.before.put-bin.ensures
-    pushed.push.ensures true c.if-below.true
+loop-i-preserved-then-below c = starting-next c.loop-i.invariant (omega arith) c.weight_at.ensures
+    c.put_bin.ensures
+    c.push-below.ensures true c.if-below.true
 
 pub loop-i-preserved : goal.loop-i-preserved
-loop-i-preserved c = let pushed = c in
-    let weight = pushed.before.before.before.before.before.before in
-    starting-next weight.before.before.loop.invariant (omega arith) weight.weight-at.ensures
-    pushed.before.before.before.before.put-bin.ensures
-    pushed.push.ensures false c.if-below.false
+loop-i-preserved c = starting-next c.loop-i.invariant (omega arith) c.weight_at.ensures
+    c.put_bin.ensures
+    c.push-below.ensures false c.if-below.false
 
 pub returns : goal.returns
-returns c = starting-all c.loop-i.invariant (omega arith) c.requires.1
+returns c = starting-all c.loop-i.invariant (omega arith) c.requires.sum_value

@@ -4,4 +4,4 @@ use Rattle.light_c.proofs.light_alias_table.Goals as goal
 
 pub returns : goal.returns
 returns c = let told = c.build_power_alias_table.ensures in
-    (rw (c.counted_code.ensures, told.0, code-count), told.1)
+    (rw (c.counted_code.ensures, told.result_value, code-count), told.1)

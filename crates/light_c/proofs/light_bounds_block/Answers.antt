@@ -4,4 +4,4 @@ use Rattle.light_c.proofs.light_bounds_block.Goals as goal
 
 pub returns : goal.returns
 returns c = let told = c.build_light_bounds.ensures in
-    record { value = rw (c.counted_code.ensures, told.0, code-count); block_after = told.1 }
+    record { value = rw (c.counted_code.ensures, told.result_value, code-count); block_after = told.block_after }

@@ -7,6 +7,7 @@ use Rattle.light_bvh.specs.Build.{built}
 use Rattle.light_c.specs.Codes.{answer_reserve}
 use Rattle.light_c.proofs.Answered.{short, k-fits, tree-answered, none-answered, refused-answered}
 use Rattle.light_c.proofs.light_build.Goals as goal
+use Rattle.light_c.proofs.light_build.Goals.{After-build_light_bvh}
 
 -- ---- the place where the build has returned
 
@@ -15,7 +16,7 @@ abbrev start : tie.After-build-light-bvh → tie.Start
 start c = c.before.before.before.before.before.before.before.before.before.before
 
 
-room : (c : goal.After-build_light_bvh) → answer_reserve ≤ length (start c).args.answer.now
+room : (c : After-build_light_bvh) → answer_reserve ≤ length (start c).args.answer.now
 room c = c.if-answer-lt-ANSWER_WORDS.false
 
 -- ---- the needs
@@ -34,28 +35,25 @@ write_summary-requires c = let b = called c in
     record { k_bound = fits; answer_reserve_in_bounds = room b }
 
 pub returns-in-Tree : goal.returns-in-Tree
-returns-in-Tree c = let arm = c in
-    let b = called arm.before.before in
+returns-in-Tree c = let b = called c in
     let s = (start b).args in
     let e = b.build-light-bvh.ensures in
     tree-answered s.lights s.block.now s.nodes.now s.table.now s.work.now
-    s.answer.now (room b) (sym (ap built arm.k.given.1) ∙ e.0, e.1)
+    s.answer.now (room b) (sym (ap built c.in-Tree.is) ∙ e.0, e.1)
     c.write_summary.ensures
 
 pub returns-in-Nothing : goal.returns-in-Nothing
-returns-in-Nothing c = let arm = c in
-    let b = called arm.before.before in
+returns-in-Nothing c = let b = called c in
     let s = (start b).args in
     let e = b.build-light-bvh.ensures in
     none-answered s.lights s.block.now s.nodes.now s.table.now s.work.now
-    s.answer.now (room b) (sym (ap built arm.enum_told.given.1) ∙ e.0, e.1)
+    s.answer.now (room b) (sym (ap built c.in-Nothing.is) ∙ e.0, e.1)
     c.zero_words.ensures
 
 pub returns-in-Refused : goal.returns-in-Refused
-returns-in-Refused c = let arm = c in
-    let b = called arm.before.before in
+returns-in-Refused c = let b = called c in
     let s = (start b).args in
     let e = b.build-light-bvh.ensures in
     let told = c.refuse_build.ensures in
     refused-answered s.lights s.block.now s.nodes.now s.table.now s.work.now
-    s.answer.now (room b) (sym (ap built arm.why.given.1) ∙ e.0, e.1) told.value told.answer_after
+    s.answer.now (room b) (sym (ap built c.in-Refused.is) ∙ e.0, e.1) told.value told.answer_after

@@ -4,4 +4,3 @@ use mathlib.Core.Path.{ap}
 use Rattle.light_c.proofs.packed_code.Goals as goal
 
 returns-3 c = rw c.before.before.answer2.given.1 (ap (λ (n : ℕ). 0x2_0000_0000 + n) c.refusal-number.ensures)
-

@@ -18,12 +18,10 @@ returns-then-lamps-gt-REPORT_LAMPS c = rw (
 
 pub returns-then-input-lamps : goal.returns-then-input-lamps
 unfolding block_lamps
-returns-then-input-lamps c = let words = c in
-    rw (le-ltb _ 4 words.before.if1.false, ← words.word_at.ensures, ← c.wide-lamps.ensures)
+returns-then-input-lamps c = rw (le-ltb _ 4 c.if-input-lt4.false, ← c.word_at.ensures, ← c.wide-lamps.ensures)
     (rw (le-ltb _ _ c.if-lamps-gt-REPORT_LAMPS.false, lt-ltb _ _ c.if-input-lamps.true))
 
 pub returns : goal.returns
 unfolding block_lamps
-returns c = let words = c in
-    rw (le-ltb _ 4 words.before.if1.false, ← words.word_at.ensures, ← c.wide-lamps.ensures)
+returns c = rw (le-ltb _ 4 c.if-input-lt4.false, ← c.word_at.ensures, ← c.wide-lamps.ensures)
     (rw (le-ltb _ _ c.if-lamps-gt-REPORT_LAMPS.false, le-ltb _ _ c.if-input-lamps.false))

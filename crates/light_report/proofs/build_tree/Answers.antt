@@ -9,8 +9,9 @@ use Rattle.light_bvh.specs.Build.{LightBVH, build_light_bvh, nodes_reserve, node
 use Rattle.light_report.specs.Report.{tree_of}
 use Rattle.light_report.specs.AsCoded.Written.{powered}
 use Rattle.light_report.proofs.build_tree.Goals as goal
+use Rattle.light_report.proofs.build_tree.Goals.{After-build_light_bvh}
 
-module _ (c : goal.After-build_light_bvh) where
+module _ (c : After-build_light_bvh) where
   abbrev start : tie.Start
   start = c
 
@@ -40,15 +41,12 @@ module _ (c : goal.After-build_light_bvh) where
 
 pub returns-in-Tree : goal.returns-in-Tree
 unfolding powered
-returns-in-Tree c = let call = c in
-    record { result_value = rw (← sized call, ← call.build-light-bvh.ensures.0, c.in-Tree.is); nodes_after = nodes call; table_after = table call }
+returns-in-Tree c = record { result_value = rw (← sized c, ← c.build_light_bvh.ensures.result_value, c.in-Tree.is); nodes_after = nodes c; table_after = table c }
 
 pub returns-in-Nothing : goal.returns-in-Nothing
 unfolding powered
-returns-in-Nothing c = let call = c in
-    record { result_value = rw (← sized call, ← call.build-light-bvh.ensures.0, c.in-Nothing.is); nodes_after = nodes call; table_after = table call }
+returns-in-Nothing c = record { result_value = rw (← sized c, ← c.build_light_bvh.ensures.result_value, c.in-Nothing.is); nodes_after = nodes c; table_after = table c }
 
 pub returns-in-Refused : goal.returns-in-Refused
 unfolding powered
-returns-in-Refused c = let call = c in
-    record { result_value = rw (← sized call, ← call.build-light-bvh.ensures.0, c.in-Refused.is); nodes_after = nodes call; table_after = table call }
+returns-in-Refused c = record { result_value = rw (← sized c, ← c.build_light_bvh.ensures.result_value, c.in-Refused.is); nodes_after = nodes c; table_after = table c }

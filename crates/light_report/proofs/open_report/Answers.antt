@@ -15,8 +15,9 @@ use Rattle.light_report.specs.AsCoded.Written.{sizes, taken, node_bytes, table_b
 use Rattle.light_report.proofs.TreeBytes.{sizes-few, nodes-front, table-front, opened-groups}
 use Rattle.light_report.proofs.TreeBytes.{first-header, tree-room, Ends, ended-first}
 use Rattle.light_report.proofs.open_report.Goals as goal
+use Rattle.light_report.proofs.open_report.Goals.{After-put_refused, After-put_words-nodes_end, After-put_words-table_end, After-take_tree, In-Tree-2}
 
-module _ (c : goal.After-take_tree) where
+module _ (c : After-take_tree) where
   abbrev said : tie.After-put-text
   said = c
 
@@ -33,7 +34,7 @@ module _ (c : goal.After-take_tree) where
 
 
 -- a tree with so many lamps and so many of them powered
-module _ (c : goal.In-Tree-2) where
+module _ (c : In-Tree-2) where
   abbrev call : tie.After-take-tree
   call = c
 
@@ -51,7 +52,7 @@ module _ (c : goal.In-Tree-2) where
 
 
 -- its nodes' bytes
-module _ (c : goal.After-put_words-nodes_end) where
+module _ (c : After-put_words-nodes_end) where
   abbrev counted : tie.After-node-words
   counted = c
 
@@ -72,7 +73,7 @@ module _ (c : goal.After-put_words-nodes_end) where
       room c.put_words-nodes_end.ensures
 
 
-module _ (c : goal.After-put_words-table_end) where
+module _ (c : After-put_words-table_end) where
   abbrev before : tie.After-put-words
   before = c
 
@@ -92,7 +93,7 @@ module _ (c : goal.After-put_words-table_end) where
 
 
 -- of a bad block
-module _ (c : goal.After-put_refused) where
+module _ (c : After-put_refused) where
   abbrev why : tie.After-why
   why = c
 
@@ -111,22 +112,20 @@ module _ (c : goal.After-put_refused) where
 
 
 pub returns-in-Tree : goal.returns-in-Tree
-returns-in-Tree c = let put = c in
-    let at = lamps (before put) in
+returns-in-Tree c = let at = lamps (before c) in
     let front = (start (call at)).args.front.now in
-    let opened = opened-groups front (m at) (k at) (sized at) _ _ _ (header (call at)).1 (nodes (before put)).1
-    (table put).1 in
+    let opened = opened-groups front (m at) (k at) (sized at) _ _ _ (header (call at)).1 (nodes (before c)).1
+    (table c).1 in
     let first = first-header front (m at) (k at) (sized at) in record {
       opened = opened;
-      nodes-laid = (nodes (before put)).0;
-      table-laid = (table put).0;
+      nodes-laid = (nodes (before c)).0;
+      table-laid = (table c).0;
       lines-laid = (header (call at)).0 ∙ ap (sets (start (call at)).args.out.now 0) first;
     }
 
 pub returns-in-Refused : goal.returns-in-Refused
-returns-in-Refused c = let put = c in
-    let args = (start (call-2 put)).args in
-    let end = ended put in record {
+returns-in-Refused c = let args = (start (call-2 c)).args in
+    let end = ended c in record {
       opened = end.opened;
       nodes-laid = ap (sets args.node-bytes.now 0) end.no-nodes;
       table-laid = ap (sets args.table-bytes.now 0) end.no_table;

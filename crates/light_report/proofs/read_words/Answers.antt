@@ -3,5 +3,4 @@ use Rattle.light_report.proofs.TreeBytes.{words-read}
 use Rattle.light_report.proofs.read_words.Goals as goal
 
 pub returns : goal.returns
-returns c = let start = c in
-    rw c.words_of_bytes.ensures.words_after (words-read _ start.args.words.now start.requires)
+returns c = rw c.words_of_bytes.ensures.words_after (words-read _ c.args.words.now c.requires)

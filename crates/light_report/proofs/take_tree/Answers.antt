@@ -10,9 +10,10 @@ use Rattle.light_report.specs.AsCoded.Written.{sizes}
 use Rattle.light_report.specs.Laws.ReportLaws.{front-word, lamps-there}
 use Rattle.light_report.proofs.TreeBytes.{unbuilt, sizes-given, sizes-refused}
 use Rattle.light_report.proofs.take_tree.Goals as goal
+use Rattle.light_report.proofs.take_tree.Goals.{In-Count-2}
 
 -- how many lamps there are, and that they are there
-module _ (c : goal.In-Count-2) where
+module _ (c : In-Count-2) where
   abbrev start : tie.Start
   start = c
 
@@ -24,29 +25,24 @@ module _ (c : goal.In-Count-2) where
 
 
 pub make_tree-requires : goal.make_tree-requires
-make_tree-requires c = let lamps = c in
-    let (word, few, there) = lamps-there (input lamps) _ (count lamps) in
-    let (block, nodes, table, work) = (start lamps).requires in
+make_tree-requires c = let (word, few, there) = lamps-there (input c) _ (count c) in
+    let (block, nodes, table, work) = (start c).requires in
     record { lamps_bound = (few, there, block); nodes_len = (nodes, table, work) }
 
 pub returns-in-Count-make_tree : goal.returns-in-Count-make_tree
 unfolding report_tree ◌then◌
-returns-in-Count-make_tree c = let call = c in
-    let lamps = call.before.before.before.before.before.before in
-    rw (count lamps) (
-      sizes-given _ _ _ (rw c.in-Count-make_tree.is at call.make-tree.ensures.0),
-      rw (front-word (input lamps) (block_bytes lamps.lamps.given.0.0) (omega arith)) at
-          call.make-tree.ensures.1,
+returns-in-Count-make_tree c = rw (count c) (
+      sizes-given _ _ _ (rw c.in-Count-make_tree.is at c.make_tree.ensures.result_value),
+      rw (front-word (input c) (block_bytes c.in-Count.lamps) (omega arith)) at
+          c.make_tree.ensures.1,
     )
 
 pub returns-in-Refused-make_tree : goal.returns-in-Refused-make_tree
 unfolding report_tree ◌then◌
-returns-in-Refused-make_tree c = let call = c in
-    let lamps = call.before.before.before.before.before.before in
-    rw (count lamps) (
-      sizes-refused _ _ (rw c.in-Refused-make_tree.is at call.make-tree.ensures.0),
-      rw (front-word (input lamps) (block_bytes lamps.lamps.given.0.0) (omega arith)) at
-          call.make-tree.ensures.1,
+returns-in-Refused-make_tree c = rw (count c) (
+      sizes-refused _ _ (rw c.in-Refused-make_tree.is at c.make_tree.ensures.result_value),
+      rw (front-word (input c) (block_bytes c.in-Count.lamps) (omega arith)) at
+          c.make_tree.ensures.1,
     )
 
 pub returns-in-Refused : goal.returns-in-Refused

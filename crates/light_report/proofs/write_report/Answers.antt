@@ -10,8 +10,9 @@ use Rattle.light_report.specs.Report.{report_tree}
 use Rattle.light_report.specs.AsCoded.Written.{first_lines, node_bytes, table_bytes}
 use Rattle.light_report.proofs.TreeBytes.{tree-room, first-room, groups-are, ended_is}
 use Rattle.light_report.proofs.write_report.Goals as goal
+use Rattle.light_report.proofs.write_report.Goals.{After-open_front, In-Ended-2, In-Groups-2}
 
-module _ (c : goal.After-open_front) where
+module _ (c : After-open_front) where
   abbrev start : tie.Start
   start = c
 
@@ -28,7 +29,7 @@ module _ (c : goal.After-open_front) where
   table = omega (arith, (tree-room start.args.front.now tree refl).1, start.pre.0.1)
 
 
-module _ (c : goal.In-Groups-2) where
+module _ (c : In-Groups-2) where
   abbrev call : tie.After-open-front
   call = c
 
@@ -38,7 +39,7 @@ module _ (c : goal.In-Groups-2) where
   long = groups-are (tree call) _ _ _ (sym c.in-Groups.is ∙ call.open-front.ensures.opened)
 
 
-module _ (c : goal.In-Ended-2) where
+module _ (c : In-Ended-2) where
   abbrev call-2 : tie.After-open-front
   call-2 = c
 
@@ -47,37 +48,30 @@ module _ (c : goal.In-Ended-2) where
 
 
 pub slice_bounds-write_first-end : goal.slice_bounds-write_first-end
-slice_bounds-write_first-end c = let at = c in
-    omega (arith, (long at).0, first (call at), (call at).open-front.auto.1.1.1.0)
+slice_bounds-write_first-end c = omega (arith, (long c).0, first (call c), (call c).open-front.auto.1.1.1.0)
 
 pub write_first-requires : goal.write_first-requires
-write_first-requires c = let at = c in
-    handed (start (call at)).args.out.now _ _ (first (call at)) (call at).open-front.ensures.lines-laid
-    (long at).0
+write_first-requires c = handed (start (call c)).args.out.now _ _ (first (call c)) (call c).open-front.ensures.lines-laid
+    (long c).0
 
 pub slice_bounds-write_groups-end : goal.slice_bounds-write_groups-end
-slice_bounds-write_groups-end c = let at = c in
-    omega (arith, (long at).1, nodes (call at), (call at).open-front.auto.1.0)
+slice_bounds-write_groups-end c = omega (arith, (long c).1, nodes (call c), (call c).open-front.auto.1.0)
 
 pub slice_bounds-write_groups-end-then-write_first : goal.slice_bounds-write_groups-end-then-write_first
-slice_bounds-write_groups-end-then-write_first c = let at = c in
-    omega (arith, (long at).2, table (call at), (call at).open-front.auto.1.1.0)
+slice_bounds-write_groups-end-then-write_first c = omega (arith, (long c).2, table (call c), (call c).open-front.auto.1.1.0)
 
 pub write_groups-requires : goal.write_groups-requires
-write_groups-requires c = let at = c in
-    let left = (call at).open-front.ensures in (
+write_groups-requires c = let left = (call at).open-front.ensures in (
       (
-        handed (start (call at)).args.node-bytes.now _ _ (nodes (call at)) left.nodes-laid (long at).1,
-        handed (start (call at)).args.table-bytes.now _ _ (table (call at)) left.table-laid (long at).2,
+        handed (start (call c)).args.node-bytes.now _ _ (nodes (call c)) left.nodes-laid (long c).1,
+        handed (start (call c)).args.table-bytes.now _ _ (table (call c)) left.table-laid (long c).2,
       ),
-      rw (call at).open-front.auto.1.1.1.0 (start (call at)).pre.1.1,
+      rw (call c).open-front.auto.1.1.1.0 (start (call c)).pre.1.1,
     )
 
 pub slice_bounds-write_first-end-in-Ended : goal.slice_bounds-write_first-end-in-Ended
-slice_bounds-write_first-end-in-Ended c = let at = c in
-    omega (arith, long-2 at, first (call-2 at), (call-2 at).open-front.auto.1.1.1.0)
+slice_bounds-write_first-end-in-Ended c = omega (arith, long-2 c, first (call-2 c), (call-2 c).open-front.auto.1.1.1.0)
 
 pub write_first-requires-in-Ended : goal.write_first-requires-in-Ended
-write_first-requires-in-Ended c = let at = c in
-    handed (start (call-2 at)).args.out.now _ _ (first (call-2 at)) (call-2 at).open-front.ensures.lines-laid
-    (long-2 at)
+write_first-requires-in-Ended c = handed (start (call-2 c)).args.out.now _ _ (first (call-2 c)) (call-2 c).open-front.ensures.lines-laid
+    (long-2 c)

@@ -14,9 +14,10 @@ use Rattle.text.proofs.PutLaws.{fitting-all}
 use Rattle.list_to_block.specs.ListToBlock.{block_room, answer_bytes}
 use Rattle.list_to_block.proofs.AnswerBytes.{block_room_lem, block-bytes, block_refused}
 use Rattle.list_to_block.proofs.convert.Goals as goal
+use Rattle.list_to_block.proofs.convert.Goals.{After-build_light_bounds, In-Count}
 
 -- what build has answered and left
-module _ (c : goal.After-build_light_bounds) where
+module _ (c : After-build_light_bounds) where
   abbrev start : tie.Start
   start = c
 
@@ -30,7 +31,7 @@ module _ (c : goal.After-build_light_bounds) where
   room = omega (arith, block_room_lem list block_room, start.pre.1)
 
 
-module _ (c : goal.In-Count) where
+module _ (c : In-Count) where
   abbrev call : tie.After-build-light-bounds
   call = c
 
@@ -54,15 +55,11 @@ pub slice_bounds-put_words-end : goal.slice_bounds-put_words-end
 slice_bounds-put_words-end c = omega ( arith, (block c).0, (call c).build-light-bounds.kept.1.0, (start (call c)).pre.0, )
 
 pub returns-in-Count : goal.returns-in-Count
-returns-in-Count c = let put = c in
-    let told = put.before.before.before.before in
-    rw (sub-zero (block_words (m told)), (block told).1, fitting-all _ 0 (bytes (call told)) (room (call told))) at
-    put.put-words.ensures
+returns-in-Count c = rw (sub-zero (block_words (m c)), (block c).1, fitting-all _ 0 (bytes (call c)) (room (call c))) at
+    c.put_words.ensures
 
 pub returns-in-Refused : goal.returns-in-Refused
-returns-in-Refused c = let put = c in
-    let call = put.before.before.before.before.before.before.before in
-    let line =
-    block_refused (list call) _ (start call).requires.0 _
-    (rw put.before.before.before.why.given.1 at call.build-light-bounds.ensures.0) in
-    rw (line, fitting-all _ 0 (bytes call) (room call)) at put.Put-refused.ensures
+returns-in-Refused c = let line =
+    block_refused (list c) _ (start c).requires.0 _
+    (rw c.in-Refused.is at c.build_light_bounds.ensures.result_value) in
+    rw (line, fitting-all _ 0 (bytes c) (room c)) at c.put_refused.ensures

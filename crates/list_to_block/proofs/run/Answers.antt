@@ -7,8 +7,9 @@ use Rattle.text.proofs.PutLaws.{handed}
 use Rattle.list_to_block.specs.ListToBlock.{converted}
 use Rattle.list_to_block.proofs.AnswerBytes.{converted-room}
 use Rattle.list_to_block.proofs.run.Goals as goal
+use Rattle.list_to_block.proofs.run.Goals.{After-answer-end}
 
-module _ (c : goal.After-answer-end) where
+module _ (c : After-answer-end) where
   abbrev read : tie.After-read-list
   read = c
 
@@ -31,10 +32,8 @@ module _ (c : goal.After-answer-end) where
 
 
 pub slice_bounds-write-end-2 : goal.slice_bounds-write-end-2
-slice_bounds-write-end-2 c = let call = c in
-    omega (arith, room call, call.answer.ensures.1, call.answer.auto.1.1.1.0)
+slice_bounds-write-end-2 c = omega (arith, room c, c.answer-end.ensures.value, c.answer-end.auto.1.1.1.0)
 
 pub write-requires : goal.write-requires
-write-requires c = let call = c in
-    handed (start call).args.out.now (text call) call.answer.result (room call) call.answer.ensures.0
-    call.answer.ensures.1
+write-requires c = handed (start c).args.out.now (text c) c.answer-end.result (room c) c.answer-end.ensures.out_after
+    c.answer-end.ensures.value

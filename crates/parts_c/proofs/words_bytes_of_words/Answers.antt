@@ -6,4 +6,4 @@ use Rattle.parts_c.proofs.words_bytes_of_words.Goals as goal
 
 pub returns : goal.returns
 returns c = let call = c.bytes_of_words in
-    record { value = c.counted_code.ensures ∙ ap code call.ensures.0; bytes_after = call.ensures.1 }
+    record { value = c.counted_code.ensures ∙ ap code c.bytes_of_words.ensures.result_value; bytes_after = c.bytes_of_words.ensures.bytes_after }

@@ -6,4 +6,4 @@ use Rattle.parts_c.proofs.words_words_of_bytes.Goals as goal
 
 pub returns : goal.returns
 returns c = let call = c.words_of_bytes in
-    record { value = c.counted_code.ensures ∙ ap code call.ensures.0; words_after = call.ensures.1 }
+    record { value = c.counted_code.ensures ∙ ap code c.words_of_bytes.ensures.result_value; words_after = c.words_of_bytes.ensures.words_after }

@@ -6,16 +6,13 @@ use Rattle.text.proofs.PutLaws.{room-told, put_all, put-none, length_decimal}
 use Rattle.text.proofs.put_decimal.Goals as goal
 
 pub lay_digits-requires : goal.lay_digits-requires
-lay_digits-requires c = let tested = c in
-    (search rules, search rules, room-told tested.before.fits2.ensures tested.if1.true)
+lay_digits-requires c = (search rules, search rules, room-told c.fits.ensures c.if-fits.true)
 
 pub returns-then-fits : goal.returns-then-fits
 unfolding decimal_bytes
-returns-then-fits c = let put = c in
-    let room = put.before.before in
-    let counted = room.before.before.places.ensures.0 in
-    put_all _ _ _ _ (length_decimal _ ∙ sym counted) (sym room.before.fits2.ensures ∙ room.if1.true)
-    (rw counted at put.lay-digits.ensures)
+returns-then-fits c = let counted = c.places-count.ensures.value in
+    put_all _ _ _ _ (length_decimal _ ∙ sym counted) (sym c.fits.ensures ∙ c.if-fits.true)
+    (rw counted at c.lay_digits.ensures)
 
 pub returns : goal.returns
 returns c = put-none _ _ _ _ (length_decimal _ ∙ sym c.places-count.ensures.value)

@@ -6,14 +6,12 @@ use Rattle.text.proofs.PutLaws.{room-told, put_all, put-none, length_hex}
 use Rattle.text.proofs.put_hex.Goals as goal
 
 pub lay_digits-requires : goal.lay_digits-requires
-lay_digits-requires c = let tested = c in
-    (search rules, search rules, room-told tested.before.fits2.ensures tested.if1.true)
+lay_digits-requires c = (search rules, search rules, room-told c.fits.ensures c.if-fits.true)
 
 pub returns-then-fits : goal.returns-then-fits
 unfolding hex_bytes
-returns-then-fits c = let room = c in
-    let n = room.before.before.before.args.n in
-    put_all _ _ _ 8 (length_hex n) (sym room.before.fits2.ensures ∙ room.if1.true)
+returns-then-fits c = let n = c.args.n in
+    put_all _ _ _ 8 (length_hex n) (sym c.fits.ensures ∙ c.if-fits.true)
     c.lay_digits.ensures
 
 pub returns : goal.returns

@@ -5,21 +5,16 @@ use Rattle.text.proofs.PutLaws.{put_all, put-none, length_refusal}
 use Rattle.text.proofs.put_refused.Goals as goal
 
 pub lay_refused-requires : goal.lay_refused-requires
-lay_refused-requires c = let room = c in
-    let counted = room.before.before.places.ensures in
-    (counted.0, counted.1, leb-true _ _ (sym room.before.fits2.ensures ∙ room.if1.true))
+lay_refused-requires c = let counted = c.places-k.ensures in
+    (counted.value, counted.upper_bound, leb-true _ _ (sym c.fits.ensures ∙ c.if-fits.true))
 
 pub returns-then-fits : goal.returns-then-fits
-returns-then-fits c = let put = c in
-    let room = put.before.before in
-    let digits = room.before.before in
-    rw (← digits.before.refusal-number.ensures)
-    (put_all _ _ _ _ (length_refusal _ ∙ rw digits.places.ensures.0)
-    (sym room.before.fits2.ensures ∙ room.if1.true)
-    put.lay-refused.ensures)
+returns-then-fits c = rw (← c.refusal_number-n.ensures)
+    (put_all _ _ _ _ (length_refusal _ ∙ rw c.places-k.ensures.value)
+    (sym c.fits.ensures ∙ c.if-fits.true)
+    c.lay_refused.ensures)
 
 pub returns : goal.returns
-returns c = let digits = c in
-    rw (← digits.before.refusal-number.ensures)
-    (put-none _ _ _ _ (length_refusal _ ∙ rw digits.places.ensures.0)
+returns c = rw (← c.refusal_number-n.ensures)
+    (put-none _ _ _ _ (length_refusal _ ∙ rw c.places-k.ensures.value)
     (sym c.fits.ensures ∙ c.if-fits.false))

@@ -8,9 +8,7 @@ pub lay_text-requires : goal.lay_text-requires
 lay_text-requires c = leb-true _ _ (sym c.fits.ensures ∙ c.if-fits.true)
 
 pub returns-then-fits : goal.returns-then-fits
-returns-then-fits c = let put = c in
-    let room = put.before.before in
-    put_all _ _ _ _ refl (sym room.before.fits2.ensures ∙ room.if1.true) put.lay-text.ensures
+returns-then-fits c = put_all _ _ _ _ refl (sym c.fits.ensures ∙ c.if-fits.true) c.lay_text.ensures
 
 pub returns : goal.returns
 returns c = put-none _ _ _ _ refl (sym c.fits.ensures ∙ c.if-fits.false)

@@ -10,39 +10,33 @@ use Rattle.trig.proofs.acos_steps.Goals as goal
 
 pub returns-then-size-2 : goal.returns-then-size-2
 unfolding acos of_bits
-returns-then-size-2 c = let t = c in
-    let i = t.before.before in
-    let x = i.before.before.args.x in
-    rw (sized x one64 i.before.abs.ensures i.if1.true, sized x half i.before.abs.ensures t.if2.true)
+returns-then-size-2 c = let x = c.args.x in
+    rw (sized x one64 c.abs-size.ensures c.if-size.true, sized x half c.abs-size.ensures c.if-size-2.true)
     (c.narrow.ensures ∙ ap (λ (v : Float). narrow (sub binary64 half_pi v))
-    (c.arc.ensures ∙ ap arc t.before.widen.ensures))
+    (c.arc.ensures ∙ ap arc c.widen-wide.ensures))
 
 pub returns-then-x : goal.returns-then-x
 unfolding acos of_bits
-returns-then-x c = let t = c in
-    let i = t.before.before.before in
-    let x = i.before.before.args.x in
+returns-then-x c = let x = c.args.x in
     rw (
-      sized x one64 i.before.abs.ensures i.if1.true,
-      sized x half i.before.abs.ensures
-          t.before.if2.false,
-      t.if3.true,
+      sized x one64 c.abs-size.ensures c.if-size.true,
+      sized x half c.abs-size.ensures
+          c.if-size-2.false,
+      c.if-x.true,
     )
-    (c.narrow-then-x.ensures ∙ ap narrow (c.twice_arc.ensures ∙ ap twice_arc t.before.before.widen.ensures))
+    (c.narrow-then-x.ensures ∙ ap narrow (c.twice_arc.ensures ∙ ap twice_arc c.widen-wide.ensures))
 
 pub returns-else-x : goal.returns-else-x
 unfolding acos of_bits
-returns-else-x c = let t = c in
-    let i = t.before.before.before in
-    let x = i.before.before.args.x in
+returns-else-x c = let x = c.args.x in
     rw (
-      sized x one64 i.before.abs.ensures i.if1.true,
-      sized x half i.before.abs.ensures
-          t.before.if2.false,
-      t.if3.false,
+      sized x one64 c.abs-size.ensures c.if-size.true,
+      sized x half c.abs-size.ensures
+          c.if-size-2.false,
+      c.if-x.false,
     )
     (c.narrow-then-size.ensures ∙ ap (λ (v : Float). narrow (sub binary64 pi v))
-    (c.twice_arc-then-size.ensures ∙ ap (λ (w : Float). twice_arc (neg w)) t.before.before.widen.ensures))
+    (c.twice_arc-then-size.ensures ∙ ap (λ (w : Float). twice_arc (neg w)) c.widen-wide.ensures))
 
 pub returns-else-size : goal.returns-else-size
 unfolding acos div of_bits

@@ -8,9 +8,10 @@ use Rattle.trig.specs.Series.{one64, arc}
 use Rattle.trig.specs.Trig.{asin, half, half_pi, twice_arc}
 use Rattle.trig.proofs.Sizes.{sized, beyond}
 use Rattle.trig.proofs.asin_steps.Goals as goal
+use Rattle.trig.proofs.asin_steps.Goals.{After-twice_arc-magnitude}
 
 -- above a half: π/2 less the arc of the size, with the argument's sign
-above : (c : goal.After-twice_arc-magnitude) {b : Bool} {r : Float} →
+above : (c : After-twice_arc-magnitude) {b : Bool} {r : Float} →
     lt c.args.x (of_bits binary64 0) ≡ b
     → r ≡ narrow (cond b (neg (sub binary64 half_pi c.twice_arc-magnitude.result))
     (sub binary64 half_pi c.twice_arc-magnitude.result))
@@ -26,12 +27,10 @@ above c {b} t h =
 
 pub returns-then-size-2 : goal.returns-then-size-2
 unfolding asin of_bits
-returns-then-size-2 c = let t = c in
-    let s = t.before.before in
-    rw (
-      sized s.before.args.x one64 s.abs.ensures t.before.if1.true,
-      sized s.before.args.x half
-          s.abs.ensures t.if2.true,
+returns-then-size-2 c = rw (
+      sized c.args.x one64 c.abs-size.ensures c.if-size.true,
+      sized c.args.x half
+          c.abs-size.ensures c.if-size-2.true,
     )
     (c.narrow.ensures ∙ ap narrow (c.arc.ensures ∙ ap arc c.widen.ensures))
 

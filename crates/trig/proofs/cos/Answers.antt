@@ -10,8 +10,7 @@ use Rattle.trig.proofs.cos.Goals as goal
 
 pub returns-then-abs : goal.returns-then-abs
 unfolding cos of_bits
-returns-then-abs c = let t = c in
-    within t.before.before.args.x eight t.before.abs.ensures t.if1.true
+returns-then-abs c = within c.args.x eight c.abs.ensures c.if-abs.true
     (c.narrow.ensures ∙ ap narrow
     (c.series.ensures ∙ ap (λ (w : Float). series 1 (mul binary64 w w)) c.widen-wide.ensures))
 

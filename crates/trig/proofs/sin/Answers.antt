@@ -10,8 +10,7 @@ use Rattle.trig.proofs.sin.Goals as goal
 
 pub returns-then-abs : goal.returns-then-abs
 unfolding sin of_bits
-returns-then-abs c = let t = c in
-    within t.before.before.args.x eight t.before.abs.ensures t.if1.true (c.narrow.ensures ∙ ap narrow
+returns-then-abs c = within c.args.x eight c.abs.ensures c.if-abs.true (c.narrow.ensures ∙ ap narrow
     (ap (mul binary64 c.widen-wide.result) c.series.ensures
     ∙ ap (λ (w : Float). mul binary64 w (series 0 (mul binary64 w w))) c.widen-wide.ensures))
 

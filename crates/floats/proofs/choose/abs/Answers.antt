@@ -4,9 +4,10 @@ use lib.Dec.{T}
 use lib.Ieee.{binary32, of_bits, fits}
 use Rattle.ieee.specs.Laws.AbsLaws.{abs_greater}
 use Rattle.floats.proofs.choose.abs.Goals as goal
+use Rattle.floats.proofs.choose.abs.Goals.{Start}
 
-in_format : (c : goal.Start) → T (fits binary32 c.args.x)
-in_format c = subst T (sym c.well-formed.0.1) tt
+in_format : (c : Start) → T (fits binary32 c.args.x)
+in_format c = subst T (sym c.well_formed.0.1) tt
 
 pub returns-then-y-x : goal.returns-then-y-x
 unfolding of_bits

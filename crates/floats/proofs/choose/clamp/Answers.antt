@@ -2,15 +2,15 @@
 -- nothing.
 use mathlib.Core.Path.{◌≡◌}
 use mathlib.Core.Bool.{cond}
-use mathlib.Core.Logic.{⊎_elim}
 use lib.Ieee.{lt}
 use Rattle.ieee.specs.Choose.{clamp}
 use Rattle.floats.proofs.choose.clamp.Goals as goal
+use Rattle.floats.proofs.choose.clamp.Goals.{Joined-x-lo, else-x-lo, then-x-lo}
 
 -- y, past the first test
-raised : (c : goal.Joined-x-lo) →
+raised : (c : Joined-x-lo) →
     c.if-x-lo.y ≡ cond (lt c.args.x c.args.lo) c.args.lo c.args.x
-raised c = ⊎_elim (λ w. rw w.0.taken w.1) (λ w. rw w.0.left w.1) c.if-x-lo.branch
+raised c = elim c.if-x-lo.branch [ then-x-lo w ↦ rw w.0.taken w.1 | else-x-lo w ↦ rw w.0.left w.1 ]
 
 pub returns-then-hi-y : goal.returns-then-hi-y
 unfolding clamp

@@ -2,14 +2,14 @@
 -- Assumes nothing.
 use mathlib.Core.Path.{◌≡◌}
 use mathlib.Core.Bool.{◌||◌}
-use mathlib.Core.Logic.{⊎_elim}
 use lib.Ieee.{lt, ne}
 use Rattle.ieee.specs.Laws.ChooseLaws.{fmax_tests}
 use Rattle.floats.proofs.choose.max.Goals as goal
+use Rattle.floats.proofs.choose.max.Goals.{Joined-x, else-x, then-x}
 
-test : (c : goal.Joined-x) →
+test : (c : Joined-x) →
     c.if-x.value ≡ (ne c.args.x c.args.x || lt c.args.x c.args.y)
-test c = ⊎_elim (λ w. rw (w.1, w.0.taken)) (λ w. rw (w.1, w.0.left)) c.if-x.branch
+test c = elim c.if-x.branch [ then-x w ↦ rw (w.1, w.0.taken) | else-x w ↦ rw (w.1, w.0.left) ]
 
 pub returns-then-x-y : goal.returns-then-x-y
 returns-then-x-y c = rw ( fmax_tests c.args.x c.args.y, ← test c, c.if-x-y.true, )

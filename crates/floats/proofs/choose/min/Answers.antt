@@ -2,14 +2,14 @@
 -- Assumes nothing.
 use mathlib.Core.Path.{◌≡◌}
 use mathlib.Core.Bool.{◌||◌}
-use mathlib.Core.Logic.{⊎_elim}
 use lib.Ieee.{lt, ne}
 use Rattle.ieee.specs.Laws.ChooseLaws.{fmin_tests}
 use Rattle.floats.proofs.choose.min.Goals as goal
+use Rattle.floats.proofs.choose.min.Goals.{Joined-x, else-x, then-x}
 
-test : (c : goal.Joined-x) →
+test : (c : Joined-x) →
     c.if-x.value ≡ (ne c.args.x c.args.x || lt c.args.y c.args.x)
-test c = ⊎_elim (λ w. rw (w.1, w.0.taken)) (λ w. rw (w.1, w.0.left)) c.if-x.branch
+test c = elim c.if-x.branch [ then-x w ↦ rw (w.1, w.0.taken) | else-x w ↦ rw (w.1, w.0.left) ]
 
 pub returns-then-y-x : goal.returns-then-y-x
 returns-then-y-x c = rw ( fmin_tests c.args.x c.args.y, ← test c, c.if-y-x.true, )

@@ -8,14 +8,15 @@ use Rattle.ieee.specs.Narrow.{narrow}
 use Rattle.ieee.specs.Laws.NarrowLaws.{narrow-large, narrow-normal, narrow-small}
 use Rattle.ieee.specs.Laws.NarrowLaws.{narrow_subnormal, normal-room, subnormal-room}
 use Rattle.floats.proofs.narrow.narrow_word.Goals as goal
+use Rattle.floats.proofs.narrow.narrow_word.Goals.{After-shifted_to_even, After-shifted_to_even-2}
 
 -- what is kept of a normal and of a subnormal magnitude
-normal-kept : (c : goal.After-shifted_to_even) → c.shifted_to_even.result ≤ 255 * 2 ^ 23
+normal-kept : (c : After-shifted_to_even) → c.shifted_to_even.result ≤ 255 * 2 ^ 23
 normal-kept c =
     rw c.shifted_to_even.ensures
     (normal-room (c.args.w % 2 ^ 63) c.if-a-ge5183643171103440896.false)
 
-subnormal-kept : (c : goal.After-shifted_to_even-2) → c.shifted_to_even-2.result ≤ 2 ^ 23
+subnormal-kept : (c : After-shifted_to_even-2) → c.shifted_to_even-2.result ≤ 2 ^ 23
 subnormal-kept c =
     rw c.shifted_to_even-2.ensures
     (subnormal-room (c.args.w % 2 ^ 63) c.if-a-ge4039728865751334912.false)
@@ -34,9 +35,8 @@ pub overflow_add-result-then-a-ge4039728865751334912 : goal.overflow_add-result-
 overflow_add-result-then-a-ge4039728865751334912 c = omega (arith, normal-kept c)
 
 pub returns-then-a-ge4039728865751334912 : goal.returns-then-a-ge4039728865751334912
-returns-then-a-ge4039728865751334912 c = let s = c in
-    rw c.shifted_to_even.ensures
-    (narrow-normal s.before.before.args.w (omega arith) c.if-a-ge4039728865751334912.true s.if2.false)
+returns-then-a-ge4039728865751334912 c = rw c.shifted_to_even.ensures
+    (narrow-normal c.args.w (omega arith) c.if-a-ge4039728865751334912.true c.if-a-ge5183643171103440896.false)
 
 pub returns-then-a-lt3931642474694443008 : goal.returns-then-a-lt3931642474694443008
 returns-then-a-lt3931642474694443008 c = narrow-small c.args.w (omega arith) c.if-a-lt3931642474694443008.true
@@ -48,6 +48,5 @@ pub overflow_add-result-2 : goal.overflow_add-result-2
 overflow_add-result-2 c = omega (arith, subnormal-kept c)
 
 pub returns : goal.returns
-returns c = let s = c in
-    rw c.shifted_to_even-2.ensures
-    (narrow_subnormal s.before.before.before.args.w (omega arith) c.if-a-lt3931642474694443008.false s.if3.false)
+returns c = rw c.shifted_to_even-2.ensures
+    (narrow_subnormal c.args.w (omega arith) c.if-a-lt3931642474694443008.false c.if-a-ge4039728865751334912.false)

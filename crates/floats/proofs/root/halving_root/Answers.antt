@@ -23,8 +23,8 @@ overflow_mul-middle c = record { fits = square-fits (c.loop-range.low + c.loop-r
 pub loop-range-preserved-then-middle-n : goal.loop-range-preserved-then-middle-n
 loop-range-preserved-then-middle-n c = let at = c.loop-range in (
       c.if-middle-n.true,
-      same_end c.args.n at.low at.range
-          at.invariant.1,
+      same_end c.args.n c.loop-range.low c.loop-range.range
+          c.loop-range.invariant.1,
       omega arith,
       omega arith,
     )
@@ -34,6 +34,6 @@ loop-range-preserved c = (c.loop-range.invariant.0, c.if-middle-n.false, omega a
 
 pub returns : goal.returns
 returns c = let at = c.loop-range in
-    let one : at.low + at.range ≡ suc at.low = omega arith in
+    let one : c.loop-range.low + c.loop-range.range ≡ suc c.loop-range.low = omega arith in
     let n = c.args.n in
-    root_unique n at.low (record { at_most = at.invariant.0; below = subst (λ (z : ℕ). n < z * z) one at.invariant.1 })
+    root_unique n c.loop-range.low (record { at_most = c.loop-range.invariant.0; below = subst (λ (z : ℕ). n < z * z) one c.loop-range.invariant.1 })

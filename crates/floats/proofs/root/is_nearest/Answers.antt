@@ -7,9 +7,10 @@ use native.Mathlib.Omega.{arith}
 use borrow.Author.Tests.{lt-ltb, le-ltb}
 use Rattle.ieee.specs.Laws.SqrtNear.{is_nearest}
 use Rattle.floats.proofs.root.is_nearest.Goals as goal
+use Rattle.floats.proofs.root.is_nearest.Goals.{Start}
 
-square_le : (c : goal.Start) → c.args.q * c.args.q ≤ 2 ^ 50
-square_le c = mul-le-mul c.requires.1 c.requires.1
+square_le : (c : Start) → c.args.q * c.args.q ≤ 2 ^ 50
+square_le c = mul-le-mul c.requires.q_bound c.requires.q_bound
 
 pub overflow_mul-square : goal.overflow_mul-square
 overflow_mul-square c = omega (arith, square_le c)

@@ -7,6 +7,7 @@ use native.Mathlib.Omega.{arith}
 use borrow.Author.Tests.{leb-true}
 use Rattle.ieee.specs.Laws.SqrtLaws.{root_unique}
 use Rattle.floats.proofs.root.root.Goals as goal
+use Rattle.floats.proofs.root.root.Goals.{Then-square-n-2}
 
 square-fits : (k : ℕ) → k < 2 ^ 27 → k * k < 2 ^ 54
 square-fits k h =
@@ -18,15 +19,14 @@ positive : (k n : ℕ) → n < k * k → 1 ≤ k
 positive zero n h = absurd (omega arith)
 positive (suc k) n h = omega arith
 
-above : (c : goal.Then-square-n-2) → 1 ≤ c.guess-q.result
+above : (c : Then-square-n-2) → 1 ≤ c.guess-q.result
 above c = positive c.guess-q.result c.args.n c.if-square-n-2.true
 
 pub overflow_mul-square : goal.overflow_mul-square
 overflow_mul-square c = omega (arith, square-fits c.guess-q.result c.guess-q.ensures)
 
 pub returns-then-n-square : goal.returns-then-n-square
-returns-then-n-square c = let g = c in
-    root_unique g.before.args.n g.guess.result
+returns-then-n-square c = root_unique c.args.n c.guess-q.result
     (record { at_most = c.if-square-n.true; below = omega (arith, leb-true) })
 
 pub overflow_sub-q : goal.overflow_sub-q
@@ -42,7 +42,6 @@ pub overflow_sub-result : goal.overflow_sub-result
 overflow_sub-result c = above (goal.at.overflow_sub-result c).Then-square-n-2
 
 pub returns-then-q-n : goal.returns-then-q-n
-returns-then-q-n c = let g = c in
-    let e : suc (g.guess.result - 1) ≡ g.guess.result = omega (arith, above (goal.at.returns-then-q-n c).Then-square-n-2) in
-    root_unique g.before.args.n (g.guess.result - 1)
+returns-then-q-n c = let e : suc (c.guess-q.result - 1) ≡ c.guess-q.result = omega (arith, above (goal.at.returns-then-q-n c).Then-square-n-2) in
+    root_unique c.args.n (c.guess-q.result - 1)
     (record { at_most = leb-true _ _ c.if-q-n.true-raw; below = rw e c.if-square-n-2.true })

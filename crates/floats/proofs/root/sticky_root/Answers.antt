@@ -5,11 +5,12 @@ use native.Mathlib.Omega.{arith}
 use Rattle.ieee.specs.Laws.SqrtLaws.{Root, root-of, root_below}
 use Rattle.ieee.specs.Laws.SqrtWords.{sticky_exact, sticky-rest}
 use Rattle.floats.proofs.root.sticky_root.Goals as goal
+use Rattle.floats.proofs.root.sticky_root.Goals.{After-root-q}
 
-found : (c : goal.After-root-q) → Root c.args.n c.root-q.result
+found : (c : After-root-q) → Root c.args.n c.root-q.result
 found c = root-of c.args.n c.root-q.result c.root-q.ensures
 
-short : (c : goal.After-root-q) → c.root-q.result < 2 ^ 27
+short : (c : After-root-q) → c.root-q.result < 2 ^ 27
 short c = root_below c.args.n c.root-q.result (2 ^ 27) (found c) c.requires
 
 pub overflow_mul-q : goal.overflow_mul-q

@@ -7,6 +7,7 @@ use lib.Dec.{lit<}
 use Rattle.ieee.specs.Laws.SqrtLaws.{Root, root-of, root_below, root-from}
 use Rattle.ieee.specs.Laws.SqrtWords.{lower, over, whole-root, lower-le, over-lt, wide_exact, wide-above, wide_below}
 use Rattle.floats.proofs.root.wide_sticky_root.Goals as goal
+use Rattle.floats.proofs.root.wide_sticky_root.Goals.{After-root-upper}
 
 -- what is known of the upper half, and of the numbers that are made with it
 record Halves (n s : ℕ) : Type 0 where
@@ -18,27 +19,26 @@ record Halves (n s : ℕ) : Type 0 where
   square-to : (n - s * s) * 2 ^ 27 / (2 * s) * ((n - s * s) * 2 ^ 27 / (2 * s)) ≤ 2 ^ 54
   over-to : (n - s * s) * 2 ^ 27 % (2 * s) * 2 ^ 27 < 2 * s * 2 ^ 27
 
-
-halves : (c : goal.After-root-upper) → Halves c.args.n c.root-upper.result
+halves : (c : After-root-upper) → Halves c.args.n c.root-upper.result
 unfolding lower over
 halves c =
     let n = c.args.n in
     let s = c.root-upper.result in
     let r : Root n s = root-of n s c.root-upper.ensures in
-    let f : 2 ^ 26 ≤ s = root-from n s (2 ^ 26) r c.requires.0 in
+    let f : 2 ^ 26 ≤ s = root-from n s (2 ^ 26) r c.requires.bound in
     let w : 2 ^ 27 ≤ 2 * s = omega arith in
     let l : (n - s * s) * 2 ^ 27 / (2 * s) ≤ 2 ^ 27 = lower-le n s (2 ^ 27) r w (lit< tt) in
     record {
       upper = r;
       from = f;
-      to = root_below n s (2 ^ 27) r c.requires.1;
+      to = root_below n s (2 ^ 27) r c.requires.n_bound;
       rest = omega (arith, r.below);
       lower-to = l;
       square-to = mul-le-mul l l;
       over-to = over-lt n s (2 ^ 27) r w (lit< tt);
     }
 
-wide : (c : goal.After-root-upper) → 2 ^ 27 ≤ 2 * c.root-upper.result
+wide : (c : After-root-upper) → 2 ^ 27 ≤ 2 * c.root-upper.result
 wide c = omega (arith, (halves c).from)
 
 pub overflow_mul-rest : goal.overflow_mul-rest
@@ -96,8 +96,7 @@ returns-then-over-square c = wide_exact c.args.n c.root-upper.result (2 ^ 27) (h
 
 pub returns-then-over-square-2 : goal.returns-then-over-square-2
 unfolding lower over whole-root
-returns-then-over-square-2 c = let r = c in
-    wide_below r.before.args.n r.root.result (2 ^ 27) (halves r).upper (wide r) (lit< tt) c.if-over-square-2.true
+returns-then-over-square-2 c = wide_below c.args.n c.root-upper.result (2 ^ 27) (halves (goal.at.returns-then-over-square-2 c).After-root-upper).upper (wide (goal.at.returns-then-over-square-2 c).After-root-upper) (lit< tt) c.if-over-square-2.true
 
 pub returns-else-over-square-2 : goal.returns-else-over-square-2
 unfolding lower over whole-root

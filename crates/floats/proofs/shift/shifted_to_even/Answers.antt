@@ -7,12 +7,13 @@ use lib.Pow.{pow_pos, pow-lt}
 use Rattle.ieee.specs.Laws.Patterns.{one_shifted}
 use Rattle.ieee.specs.Laws.Rounding.{closest-gone}
 use Rattle.floats.proofs.shift.shifted_to_even.Goals as goal
+use Rattle.floats.proofs.shift.shifted_to_even.Goals.{Start}
 
 -- the half unit, as the shift makes it
-half : (c : goal.Start) → 1 * 2 ^ (c.args.gone - 1) % 2 ^ 64 ≡ 2 ^ (c.args.gone - 1)
+half : (c : Start) → 1 * 2 ^ (c.args.gone - 1) % 2 ^ 64 ≡ 2 ^ (c.args.gone - 1)
 half c = one_shifted (c.args.gone - 1) 64 (omega arith)
 
-half_lt : (c : goal.Start) → 2 ^ (c.args.gone - 1) < 2 ^ 62
+half_lt : (c : Start) → 2 ^ (c.args.gone - 1) < 2 ^ 62
 half_lt c = pow-lt {i = c.args.gone - 1} {j = 62} (omega arith)
 
 pub overflow_sub-result : goal.overflow_sub-result

@@ -11,6 +11,7 @@ use lib.Ieee.Nearest.{closest}
 use Rattle.ieee.specs.Sqrt.{root_of}
 use Rattle.ieee.specs.Laws.SqrtWords.{sticky, sticky-lt, root_kept, root-pattern}
 use Rattle.floats.proofs.sqrt.digits_root64.Goals as goal
+use Rattle.floats.proofs.sqrt.digits_root64.Goals.{After-shifted_to_even-kept}
 
 -- the digits with 54 zeros behind them
 from : (n : ℕ) → 2 ^ 52 ≤ n → 2 ^ 106 ≤ n * 2 ^ 54
@@ -20,23 +21,22 @@ to : (n : ℕ) → n < 2 ^ 54 → n * 2 ^ 54 < 2 ^ 108
 to n h = mul-lt-mul_of_pos_right h (lit< tt)
 
 -- what is kept of the root's digits
-kept : (c : goal.After-shifted_to_even-kept) →
+kept : (c : After-shifted_to_even-kept) →
     c.shifted_to_even-kept.result ≡ closest (sticky (c.normalised-s.result.digits * 2 ^ 54)) (2 ^ 2)
 
 kept c = c.shifted-to-even.ensures ∙ ap (λ (z : ℕ). closest z (2 ^ 2)) c.before.wide-sticky-root.ensures
 
-
-kept-le : (c : goal.After-shifted_to_even-kept) → c.shifted_to_even-kept.result ≤ 2 ^ 53
+kept-le : (c : After-shifted_to_even-kept) → c.shifted_to_even-kept.result ≤ 2 ^ 53
 kept-le c =
     let s = c.normalised-s in
-    let n = s.result.digits in
-    rw (kept c) (root_kept binary64 0 (s.result.half - 27) (n * 2 ^ 54) (from n s.ensures.1.0)
-    (to n s.ensures.1.1.0))
+    let n = c.normalised-s.result.digits in
+    rw (kept c) (root_kept binary64 0 (c.normalised-s.result.half - 27) (n * 2 ^ 54) (from n c.normalised-s.ensures.bound)
+    (to n c.normalised-s.ensures.digits_bound))
 
 pub shifted_to_even-kept-requires : goal.shifted_to_even-kept-requires
 shifted_to_even-kept-requires c = let s = c.normalised-s in
-    let l : sticky (s.result.digits * 2 ^ 54) < 2 ^ 55 = sticky-lt (s.result.digits * 2 ^ 54) (2 ^ 54)
-    (to s.result.digits s.ensures.1.1.0) in
+    let l : sticky (c.normalised-s.result.digits * 2 ^ 54) < 2 ^ 55 = sticky-lt (c.normalised-s.result.digits * 2 ^ 54) (2 ^ 54)
+    (to c.normalised-s.result.digits c.normalised-s.ensures.digits_bound) in
     record { a_bound = omega (arith, c.wide_sticky_root.ensures); le_gone = lit≤ tt; gone_bound = lit≤ tt }
 
 pub overflow_add-result : goal.overflow_add-result
@@ -44,13 +44,13 @@ overflow_add-result c = omega (arith, kept-le c)
 
 pub returns : goal.returns
 returns c = let s = c.normalised-s in
-    let t = s.result.half - 27 in
-    let n = s.result.digits in
-    let h : 27 + t ≡ s.result.half = omega arith in
+    let t = c.normalised-s.result.half - 27 in
+    let n = c.normalised-s.result.digits in
+    let h : 27 + t ≡ c.normalised-s.result.half = omega arith in
     let e : n * 2 ^ 54 * 4 ^ t ≡ c.args.d * 2 ^ c.args.e =
     mul_assoc n (2 ^ 54) (4 ^ t) ∙ ap (λ (z : ℕ). n * z) (sym (pow-add 4 27 t) ∙ ap (λ (z : ℕ). 4 ^ z) h) ∙
-    s.ensures.0 in
+    c.normalised-s.ensures.half_value in
     ap (λ (z : ℕ). t * 2 ^ 52 + z) (kept c)
     ∙ ap (λ (z : ℕ). z * 2 ^ 52 + closest (sticky (n * 2 ^ 54)) (2 ^ 2)) (sym (zero-add t))
-    ∙ root-pattern binary64 0 t (n * 2 ^ 54) (from n s.ensures.1.0) (to n s.ensures.1.1.0) (omega arith)
+    ∙ root-pattern binary64 0 t (n * 2 ^ 54) (from n c.normalised-s.ensures.bound) (to n c.normalised-s.ensures.digits_bound) (omega arith)
     ∙ ap (λ (z : ℕ). to_bits binary64 (root_of binary64 1075 z)) e

@@ -8,37 +8,37 @@ use lib.Dec.{lit≤}
 use lib.Count.{count_leading_zeros}
 use Rattle.ieee.specs.Laws.SqrtWords.{Normal, normal, normal-same, once_more}
 use Rattle.floats.proofs.sqrt.normalised.Goals as goal
+use Rattle.floats.proofs.sqrt.normalised.Goals.{Start}
 
-found : (c : goal.Start) → Normal c.args.d
-found c = normal c.args.d c.requires.0 c.requires.1.0
+found : (c : Start) → Normal c.args.d
+found c = normal c.args.d c.requires.d_nonzero c.requires.d_bound
 
 -- the shift, the digits after it, and the exponent that is left
-abbrev shift : goal.Start → ℕ
+abbrev shift : Start → ℕ
 shift c = count_leading_zeros 64 c.args.d - 11
 
-abbrev digits : goal.Start → ℕ
+abbrev digits : Start → ℕ
 digits c = c.args.d * 2 ^ shift c
 
-abbrev last : goal.Start → ℕ
+abbrev last : Start → ℕ
 last c = digits c * 2 ^ ((c.args.e - shift c) % 2)
 
 -- neither shift loses anything
-shifted : (c : goal.Start) → digits c % 2 ^ 64 ≡ digits c
+shifted : (c : Start) → digits c % 2 ^ 64 ≡ digits c
 shifted c = mod-eq_of_lt (lt_of_lt_of_le (found c).to (lit≤ tt))
 
 record Bounds (n : ℕ) : Type 0 where
   from : 2 ^ 52 ≤ n
   to : n < 2 ^ 54
 
-
-bounds : (c : goal.Start) → Bounds (last c)
+bounds : (c : Start) → Bounds (last c)
 bounds c =
     let n = found c in
     ⊎_elim (λ e. subst Bounds (sym e) (record { from = n.from; to = omega arith }))
     (λ e. subst Bounds (sym e) (record { from = omega arith; to = omega arith }))
     (once_more (digits c) (c.args.e - shift c))
 
-twice-shifted : (c : goal.Start) → last c % 2 ^ 64 ≡ last c
+twice-shifted : (c : Start) → last c % 2 ^ 64 ≡ last c
 twice-shifted c = mod-eq_of_lt (lt_of_lt_of_le (bounds c).to (lit≤ tt))
 
 pub overflow_sub-shift : goal.overflow_sub-shift
@@ -54,7 +54,8 @@ pub overflow_sub-exponent : goal.overflow_sub-exponent
 overflow_sub-exponent c = omega (arith, (found c).few)
 
 pub returns : goal.returns
-returns c = let n = found c in let b = bounds c in
+returns c = let n = found c in
+    let b = bounds c in
     let l : shift c ≤ c.args.e = omega arith in
     rw (shifted c, twice-shifted c)
     (normal-same c.args.d (shift c) c.args.e l, (b.from, (b.to, (omega arith, omega arith))))

@@ -1,7 +1,6 @@
 -- `floats::whole::next_whole_word`: adding one less than the weight of a one and cutting the fraction off goes up only
 -- where there is a fraction; each range of magnitudes is a case of WholeWords. Assumes nothing.
 use Prim.Native.Nat.{◌+◌, ◌-◌, ◌%◌, ◌/◌, ◌^◌, ◌≤◌}
-use mathlib.Core.Logic.{⊎_elim}
 use native.Mathlib.Nat.{mod-le}
 use native.Mathlib.Omega.{arith}
 use lib.Pow.{pow_pos, pow_mono}
@@ -11,9 +10,10 @@ use Rattle.ieee.specs.Whole.{next_whole}
 use Rattle.ieee.specs.Laws.WholeWords.{next_whole-whole, next_whole-zero, next_whole-one}
 use Rattle.ieee.specs.Laws.WholeWords.{next_whole-none, next_whole_away, next_whole-toward}
 use Rattle.floats.proofs.whole.next_whole_word.Goals as goal
+use Rattle.floats.proofs.whole.next_whole_word.Goals.{After-power-part, else-a-eq0, then-a-eq0}
 
 -- the weight of a one among the digits
-part : (c : goal.After-power-part) → (1 ≤ c.power-part.result) × (c.power-part.result ≤ 2 ^ 23)
+part : (c : After-power-part) → (1 ≤ c.power-part.result) × (c.power-part.result ≤ 2 ^ 23)
 part c =
     let x = c.args.w % 2 ^ 31 / 2 ^ 23 in
     (rw c.power-part.ensures (pow_pos (150 - x)), rw c.power-part.ensures (pow_mono {i = 150 - x} {j = 23} (omega arith)))
@@ -28,8 +28,7 @@ returns-then-a-ge1258291200 c = next_whole-whole c.args.w (omega arith) c.if-a-g
 
 pub returns-then-a-eq0 : goal.returns-then-a-eq0
 returns-then-a-eq0 c = let a = c.args in
-    ⊎_elim (λ z. next_whole-zero a.w (omega arith) c.if-a-lt1065353216.true a.away z.taken)
-    (λ z. next_whole-none a.w (omega arith) c.if-a-lt1065353216.true a.away z.1.taken) c.then-a-eq0.branch
+    elim c.then-a-eq0.branch [ then-a-eq0 z ↦ next_whole-zero a.w (omega arith) c.if-a-lt1065353216.true a.away z.taken | else-a-eq0 z ↦ next_whole-none a.w (omega arith) c.if-a-lt1065353216.true a.away z.1.taken ]
 
 pub returns-then-a-lt1065353216 : goal.returns-then-a-lt1065353216
 returns-then-a-lt1065353216 c = let a = c.args in
@@ -52,9 +51,8 @@ pub overflow_add-result-then-away : goal.overflow_add-result-then-away
 overflow_add-result-then-away c = omega (arith, part (goal.at.overflow_add-result-then-away c).After-power-part)
 
 pub returns-then-away : goal.returns-then-away
-returns-then-away c = let s = c in
-    rw (c.if-away.true, c.power-part.ensures)
-    (next_whole_away s.before.before.args.w (omega arith) c.if-a-lt1065353216.false s.if2.false)
+returns-then-away c = rw (c.if-away.true, c.power-part.ensures)
+    (next_whole_away c.args.w (omega arith) c.if-a-lt1065353216.false c.if-a-ge1258291200.false)
 
 pub nonzero_rem-result-2 : goal.nonzero_rem-result-2
 nonzero_rem-result-2 c = (part (goal.at.nonzero_rem-result-2 c).After-power-part).0
@@ -63,6 +61,5 @@ pub overflow_sub-result-2 : goal.overflow_sub-result-2
 overflow_sub-result-2 c = mod-le (c.args.w % 2 ^ 31) c.power-part.result
 
 pub returns : goal.returns
-returns c = let s = c in
-    rw (c.if-away.false, c.power-part.ensures)
-    (next_whole-toward s.before.before.args.w (omega arith) c.if-a-lt1065353216.false s.if2.false)
+returns c = rw (c.if-away.false, c.power-part.ensures)
+    (next_whole-toward c.args.w (omega arith) c.if-a-lt1065353216.false c.if-a-ge1258291200.false)

@@ -9,9 +9,10 @@ use Rattle.ieee.specs.Laws.Nans.{nan-bits}
 use Rattle.ieee.specs.Whole.{round_away}
 use Rattle.ieee.specs.Laws.WholeWords.{round_away-whole, round_away-none, round_away-one, round_away-part}
 use Rattle.floats.proofs.whole.round_word.Goals as goal
+use Rattle.floats.proofs.whole.round_word.Goals.{After-power-part}
 
 -- the weight of a one among the digits
-part : (c : goal.After-power-part) → (1 ≤ c.power-part.result) × (c.power-part.result ≤ 2 ^ 23)
+part : (c : After-power-part) → (1 ≤ c.power-part.result) × (c.power-part.result ≤ 2 ^ 23)
 part c =
     let x = c.args.w % 2 ^ 31 / 2 ^ 23 in
     (rw c.power-part.ensures (pow_pos (150 - x)), rw c.power-part.ensures (pow_mono {i = 150 - x} {j = 23} (omega arith)))

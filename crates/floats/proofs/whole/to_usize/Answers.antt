@@ -9,7 +9,6 @@ use Rattle.ieee.specs.Whole.{to_usize}
 use Rattle.floats.proofs.whole.to_usize.Goals as goal
 
 pub returns : goal.returns
-returns c = let start = c in
-    c.to_usize_word.ensures
+returns c = c.to_usize_word.ensures
     ∙ ap (λ (w : ℕ). to_usize (of_bits binary32 w)) c.word_of_f32.ensures
-    ∙ ap to_usize (of_bits-to_bits binary32 start.args.x (subst T (sym start.well-formed.0.1) tt))
+    ∙ ap to_usize (of_bits-to_bits binary32 c.args.x (subst T (sym c.well_formed.0.1) tt))

@@ -13,14 +13,15 @@ use Rattle.light_rows.specs.Block.{block_words, pack_exhaustive_bounds}
 use Rattle.lamps.specs.LampList.{lamp_list}
 use Rattle.lamps.proofs.BuildLaws.{list_counted, build_unread, build-short, early-list}
 use Rattle.lamps.proofs.build_bounds.build_light_bounds.Goals as goal
+use Rattle.lamps.proofs.build_bounds.build_light_bounds.Goals.{In-Count}
 
 -- the list was read as m lamps
-read : (c : goal.In-Count) →
+read : (c : In-Count) →
     count (lamp_list c.args.list.now) ≡
     given c.in-Count.m
 read c = sym c.check_list.ensures ∙ ap counted c.in-Count.is
 
-few : (c : goal.In-Count) → c.in-Count.m ≤ max_lamps
+few : (c : In-Count) → c.in-Count.m ≤ max_lamps
 few c =
     let (rs, lamps, n, is, h) = list_counted c.args.list.now
     c.in-Count.m (read c) in h
@@ -30,10 +31,9 @@ overflow_cast-m c = omega (arith, few c)
 
 pub returns-then-block-block_words : goal.returns-then-block-block_words
 unfolding tray
-returns-then-block-block_words c = let words = c in
-    let args = words.before.before.before.before.before.before.before.args in
-    rw (build-short args.list.now (length args.block.now) _ (read words.before)
-    (omega (arith, words.Block-words.ensures)))
+returns-then-block-block_words c = let args = c.args in
+    rw (build-short args.list.now (length args.block.now) _ (read (goal.at.returns-then-block-block_words c).In-Count)
+    (omega (arith, c.block_words.ensures)))
     (record { result_value = refl; block_after = refl })
 
 pub write_block-requires : goal.write_block-requires

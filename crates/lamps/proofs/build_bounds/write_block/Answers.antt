@@ -10,44 +10,37 @@ use Rattle.lamps.proofs.build_bounds.write_block.Goals as goal
 
 pub overflow_cast-block : goal.overflow_cast-block
 overflow_cast-block c = let (rs, read, n, is, few) = list_counted c.args.list.now c.args.m
-    c.requires.0 in omega
+    c.requires.list_value in omega
     (arith, few)
 
 pub bounds-block-0 : goal.bounds-block-0
-bounds-block-0 c = omega (arith, c.requires.1)
+bounds-block-0 c = omega (arith, c.requires.m_in_bounds)
 
 pub loop-place-init : goal.loop-place-init
 loop-place-init c = let args = c.args in
-    let (rs, read, n, is, few) = list_counted args.list.now args.m c.requires.0 in
+    let (rs, read, n, is, few) = list_counted args.list.now args.m c.requires.list_value in
     rw c.new-cursor.ensures (taking-none args.list.now args.m args.block.now few
-    c.requires.1)
+    c.requires.m_in_bounds)
 
 pub zero_words-requires : goal.zero_words-requires
 zero_words-requires c = omega (arith, c.block_words.ensures)
 
 pub shape_of-block-in-Refused : goal.shape_of-block-in-Refused
-shape_of-block-in-Refused c = let zeroed = c in
-    let loop = zeroed.before.before.before.before.before.before.before.before in
-    let args = loop.before.before.before.before.args in
-    zeroed.zero-words.auto.0 ∙ loop.loop.invariant.written.same ∙ length-set args.block.now 0 args.m
+shape_of-block-in-Refused c = let args = c.args in
+    c.zero_words.auto.0 ∙ c.loop-place.invariant.written.same ∙ length-set args.block.now 0 args.m
 
 pub returns-in-Refused : goal.returns-in-Refused
-returns-in-Refused c = let zeroed = c in
-    let arm = zeroed.before.before.before.before in
-    let loop = arm.before.before.before.before in
-    let start = loop.before.before.before.before in
-    let told = sym arm.before.before.next-bounds.ensures ∙ ap passed arm.why.given.1 in
+returns-in-Refused c = let told = sym c.next_bounds.ensures ∙ ap passed c.in-Refused.is in
     let (answer, block) =
-    taking-refused start.args.block.now loop.loop.invariant start.requires.0 start.requires.1
-    (number arm.why.given.0.0) (omega arith) told in
-    record { result_value = answer; block_after = rw zeroed.before.Block-words.ensures at zeroed.zero-words.ensures ∙ block }
+    taking-refused c.args.block.now c.loop-place.invariant c.requires.list_value c.requires.m_in_bounds
+    (number c.in-Refused.why) (omega arith) told in
+    record { result_value = answer; block_after = rw c.block_words.ensures at c.zero_words.ensures ∙ block }
 
 pub loop-place-preserved : goal.loop-place-preserved
-loop-place-preserved c = let arm = c in
-    let told = sym arm.before.before.next-bounds.ensures ∙ ap passed arm.«record».given.1 in
+loop-place-preserved c = let told = sym c.next_bounds.ensures ∙ ap passed c.«record».given.1 in
     rw c.write_row.ensures
-    (taking-next arm.before.before.before.before.loop.invariant
-    (record { bounds = arm.«record».given.0.0; next = arm.«record».given.0.1.0 }) (omega arith) told)
+    (taking-next c.loop-place.invariant
+    (record { bounds = c.«record».given.0.0; next = c.«record».given.0.1.0 }) (omega arith) told)
 
 pub shape_of-block : goal.shape_of-block
 shape_of-block c = c.loop-place.invariant.written.same ∙ length-set c.args.block.now 0
@@ -55,5 +48,5 @@ shape_of-block c = c.loop-place.invariant.written.same ∙ length-set c.args.blo
 
 pub returns : goal.returns
 returns c = taking-all c.args.block.now c.loop-place.invariant
-    c.requires.0 c.requires.1
+    c.requires.list_value c.requires.m_in_bounds
     (omega arith)

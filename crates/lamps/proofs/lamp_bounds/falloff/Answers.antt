@@ -3,8 +3,9 @@ use mathlib.Core.Path.{◌≡◌}
 use mathlib.Core.Bool.{cond}
 use Rattle.lamps.specs.LampBounds.{falloff, nearly_one}
 use Rattle.lamps.proofs.lamp_bounds.falloff.Goals as goal
+use Rattle.lamps.proofs.lamp_bounds.falloff.Goals.{After-too_narrow}
 
-told : (c : goal.After-too_narrow) →
+told : (c : After-too_narrow) →
     falloff c.args.cos_theta_o
     c.args.cos_falloff_end
     ≡ cond c.too_narrow.result nearly_one c.cos-cos_theta_e.result

@@ -13,7 +13,7 @@ returns-then-n-eq0 c = let args = c.args in
     rw (
       ← c.validate_emission.ensures,
       c.in-Valid.is,
-      union_from-end args.emission-max args.scale args.two-sided args.triangles.now 0
+      union_from-end args.emission_max args.scale args.two_sided args.triangles.now 0
           (length args.triangles.now / 13) (refused 9)
           c.if-n-eq0.true,
     )
@@ -23,7 +23,7 @@ unfolding group_bounds ◌then◌
 returns-in-Bounds c = let args = c.args in
     rw (← c.validate_emission.ensures)
     (rw c.in-Valid.is
-    (rw (union_from-first args.emission-max args.scale args.two-sided args.triangles.now
+    (rw (union_from-first args.emission_max args.scale args.two_sided args.triangles.now
     (length args.triangles.now / 13) (omega arith))
     (rw (
       ← c.triangle_at.ensures,
@@ -36,7 +36,7 @@ unfolding group_bounds ◌then◌
 returns-in-Refused-triangle_record c = let args = c.args in
     rw (← c.validate_emission.ensures)
     (rw c.in-Valid.is
-    (rw (union_from-first args.emission-max args.scale args.two-sided args.triangles.now
+    (rw (union_from-first args.emission_max args.scale args.two_sided args.triangles.now
     (length args.triangles.now / 13) (omega arith))
     (rw (
       ← c.triangle_at.ensures,

@@ -8,9 +8,10 @@ use Rattle.words.specs.Answers.{given, ◌then◌}
 use Rattle.lamps.specs.LampBounds.{union_from}
 use Rattle.lamps.proofs.LampBoundsLaws.{union_from-next, union_from-end}
 use Rattle.lamps.proofs.lamp_bounds.union_rest.Goals as goal
+use Rattle.lamps.proofs.lamp_bounds.union_rest.Goals.{After-grown}
 
 -- one triangle more
-next : (c : goal.After-grown)
+next : (c : After-grown)
     → union_from c.args.emission_max
     c.args.scale
     c.args.two_sided
@@ -28,9 +29,9 @@ next c =
     let loop = c.loop-k in
     let args = c.args in
     rw (
-      loop.invariant.2,
-      union_from-next args.emission_max args.scale args.two_sided args.triangles.now (13 * loop.k)
-          (args.n - loop.k) loop.result
+      c.loop-k.invariant.2,
+      union_from-next args.emission_max args.scale args.two_sided args.triangles.now (13 * c.loop-k.k)
+          (args.n - c.loop-k.k) c.loop-k.result
           (omega arith),
       ← c.triangle_at.ensures,
       ← c.grown.ensures,
@@ -54,6 +55,6 @@ loop-k-preserved c = let k = c.loop-k.k in
 pub returns : goal.returns
 returns c = let loop = c.loop-k in
     let args = c.args in
-    sym (loop.invariant.2 ∙ union_from-end args.emission_max args.scale args.two_sided args.triangles.now
-    (13 * loop.k) (args.n - loop.k)
-    (given loop.result) (omega arith))
+    sym (c.loop-k.invariant.2 ∙ union_from-end args.emission_max args.scale args.two_sided args.triangles.now
+    (13 * c.loop-k.k) (args.n - c.loop-k.k)
+    (given c.loop-k.result) (omega arith))

@@ -23,25 +23,25 @@ loop-i-init c = let list = c.args.list.now in (
 
 pub returns-in-Refused : goal.returns-in-Refused
 returns-in-Refused c = let loop = c.loop-i in
-    rw (placed-refused c.args.list.now loop.invariant.2.1
-    (number c.in-Refused.why) (omega (arith, loop.invariant.0))
+    rw (placed-refused c.args.list.now c.loop-i.invariant.2.1
+    (number c.in-Refused.why) (omega (arith, c.loop-i.invariant.0))
     (sym c.next.ensures ∙ ap step c.in-Refused.is))
 
 pub loop-i-preserved : goal.loop-i-preserved
 loop-i-preserved c = let loop = c.loop-i in
     let list = c.args.list.now in
-    let done = loop.invariant.2.0 in
+    let done = c.loop-i.invariant.2.0 in
     let r = c.in-Read.reading in
-    let z : 0 + length done ≡ loop.i = omega (arith, loop.invariant.2.1.size) in (
-      loop.invariant.0,
-      loop.invariant.1,
+    let z : 0 + length done ≡ c.loop-i.i = omega (arith, c.loop-i.invariant.2.1.size) in (
+      c.loop-i.invariant.0,
+      c.loop-i.invariant.1,
       (
         done ++ r ∷ [],
-        walked_one (lamp_walk list) r loop.invariant.2.1 (omega (arith, loop.invariant.0))
+        walked_one (lamp_walk list) r c.loop-i.invariant.2.1 (omega (arith, c.loop-i.invariant.0))
             (sym c.next.ensures ∙
             ap step c.in-Read.is),
         c.still_placed-placed.ensures ∙
-            rw (loop.invariant.2.2, c.lamp_handle.ensures, in_place-snoc 0 done r, z),
+            rw (c.loop-i.invariant.2.2, c.lamp_handle.ensures, in_place-snoc 0 done r, z),
       ),
     )
 
@@ -49,25 +49,25 @@ pub returns-then-placed : goal.returns-then-placed
 returns-then-placed c = let loop = c.loop-i in
     rw (
       placed-all c.args.list.now
-          loop.invariant.2.1
-          (omega (arith, loop.invariant.0)) (eq-eqb _ _ c.if-cursor-list.true),
-      ← loop.invariant.2.2,
+          c.loop-i.invariant.2.1
+          (omega (arith, c.loop-i.invariant.0)) (eq-eqb _ _ c.if-cursor-list.true),
+      ← c.loop-i.invariant.2.2,
       c.if-placed.true,
     )
-    (ap given (omega (arith, loop.invariant.0, loop.invariant.2.1.size, loop.invariant.2.1.within)))
+    (ap given (omega (arith, c.loop-i.invariant.0, c.loop-i.invariant.2.1.size, c.loop-i.invariant.2.1.within)))
 
 pub returns-then-cursor-list : goal.returns-then-cursor-list
 returns-then-cursor-list c = let loop = c.loop-i in
     rw (
       placed-all c.args.list.now
-          loop.invariant.2.1
-          (omega (arith, loop.invariant.0)) (eq-eqb _ _ c.if-cursor-list.true),
-      ← loop.invariant.2.2,
+          c.loop-i.invariant.2.1
+          (omega (arith, c.loop-i.invariant.0)) (eq-eqb _ _ c.if-cursor-list.true),
+      ← c.loop-i.invariant.2.2,
       c.if-placed.false,
     )
 
 pub returns : goal.returns
 returns c = let loop = c.loop-i in
     rw (placed_ragged c.args.list.now
-    loop.invariant.2.1
-    (omega (arith, loop.invariant.0)) (ne_eqb _ _ c.if-cursor-list.false))
+    c.loop-i.invariant.2.1
+    (omega (arith, c.loop-i.invariant.0)) (ne_eqb _ _ c.if-cursor-list.false))

@@ -5,12 +5,12 @@ use Rattle.light_bounds.specs.Cones.{axis_or, joined}
 use Rattle.light_bounds.specs.Vecmath.{dot, cross, normalize, rotate}
 use Rattle.light_bounds.specs.declared.vecmath.Vec3.{Vec3}
 use Rattle.light_bounds.proofs.cones.join.Goals as goal
+use Rattle.light_bounds.proofs.cones.join.Goals.{After-dot}
 
-parallel : (c : goal.After-dot) → (let s = c.args in dot (cross s.a s.b)
+parallel : (c : After-dot) → (let s = c.args in dot (cross s.a s.b)
     (cross s.a s.b)) ≡ c.dot.result
 
 parallel c = sym (c.dot.ensures ∙ ap (λ (v : Vec3). dot v v) c.before.cross.ensures)
-
 
 pub returns-then-theta_o : goal.returns-then-theta_o
 unfolding joined
@@ -24,7 +24,7 @@ returns-then-dot c = rw (c.if-theta_o.false, parallel (goal.at.returns-then-dot 
 pub returns : goal.returns
 unfolding joined
 returns c = let a = c.args in
-    let turned = c.rotate.ensures ∙ ap (λ (v : Vec3). rotate a.a v (a.theta-o ⊖ a.theta-a))
+    let turned = c.rotate.ensures ∙ ap (λ (v : Vec3). rotate a.a v (a.theta_o ⊖ a.theta_a))
     (c.unit_or_z.ensures ∙ ap axis_or
     (c.normalize.ensures ∙
     ap normalize c.cross-axis.ensures)) in

@@ -6,12 +6,13 @@ use Rattle.light_bounds.specs.Cones.{bound_subtended_directions}
 use Rattle.light_bounds.specs.Vecmath.{dot, minus, vec_length}
 use Rattle.light_bounds.specs.declared.vecmath.Vec3.{Vec3}
 use Rattle.light_bounds.proofs.cones.subtended.Goals as goal
+use Rattle.light_bounds.proofs.cones.subtended.Goals.{After-dot-d2, Start}
 
-size : (c : goal.Start) → vec_length (diagonal c.args.bounds) ≡ c.args.diagonal_length
+size : (c : Start) → vec_length (diagonal c.args.bounds) ≡ c.args.diagonal_length
 size c = sym c.requires
 
 -- the raw squared distance to the centre
-distance : (c : goal.After-dot-d2) → (let s = c.args in dot (minus (centroid s.bounds) s.p)
+distance : (c : After-dot-d2) → (let s = c.args in dot (minus (centroid s.bounds) s.p)
     (minus (centroid s.bounds) s.p)) ≡ c.dot-d2.result
 distance c =
     let p = c.args.p in

@@ -7,27 +7,28 @@ use Rattle.trig.specs.Trig.{acos}
 use Rattle.light_bounds.specs.Cones.{union_direction_cones}
 use Rattle.light_bounds.specs.Vecmath.{angle_between}
 use Rattle.light_bounds.proofs.cones.union_by_angles.Goals as goal
+use Rattle.light_bounds.proofs.cones.union_by_angles.Goals.{After-acos-theta_a, After-acos-theta_b, After-angle_between-theta_d, After-min, After-min-2}
 
 -- the three angles
-theta-a : (c : goal.After-acos-theta_a) → acos (clamp c.args.cos_a minus_one onef) ≡ c.acos-theta_a.result
+theta-a : (c : After-acos-theta_a) → acos (clamp c.args.cos_a minus_one onef) ≡ c.acos-theta_a.result
 unfolding neg of_bits
 theta-a c = sym (c.acos-theta_a.ensures ∙ ap acos c.clamp.ensures)
 
-theta-b : (c : goal.After-acos-theta_b) →
+theta-b : (c : After-acos-theta_b) →
     acos (clamp c.args.cos_b minus_one onef) ≡ c.acos-theta_b.result
 unfolding neg of_bits
 theta-b c = sym (c.acos-theta_b.ensures ∙ ap acos c.clamp-2.ensures)
 
-theta-d : (c : goal.After-angle_between-theta_d) → (let s = c.args in angle_between
+theta-d : (c : After-angle_between-theta_d) → (let s = c.args in angle_between
     s.a s.b) ≡ c.angle_between-theta_d.result
 theta-d c = sym c.angle_between-theta_d.ensures
 
 -- the two sums, at most half a turn
-first : (c : goal.After-min) →
+first : (c : After-min) →
     fmin (c.angle_between-theta_d.result ⊕ c.acos-theta_b.result) pi ≡ c.min.result
 first c = sym c.min.ensures
 
-second : (c : goal.After-min-2) → fmin (c.angle_between-theta_d.result ⊕
+second : (c : After-min-2) → fmin (c.angle_between-theta_d.result ⊕
     c.acos-theta_a.result) pi ≡ c.min-2.result
 second c = sym c.min-2.ensures
 

@@ -35,8 +35,7 @@ all-directions a b cos_b = rw whole-turn (rw (cut (angle_between a b ⊕ acos (c
 
 pub returns-then-word_of_f32-eq3212836864 : goal.returns-then-word_of_f32-eq3212836864
 unfolding of_bits
-returns-then-word_of_f32-eq3212836864 c = let s = c in
-    let is : s.args.cos-a ≡ minus_one =
-    sym (of_bits-to_bits binary32 s.args.cos-a (subst T (sym s.well-formed.1.0.1) tt)) ∙
+returns-then-word_of_f32-eq3212836864 c = let is : c.args.cos_a ≡ minus_one =
+    sym (of_bits-to_bits binary32 c.args.cos_a (subst T (sym c.well_formed.1.0.1) tt)) ∙
     ap (of_bits binary32) (sym c.word_of_f32.ensures ∙ c.if-word_of_f32-eq3212836864.true) in
-    rw is (sym (all-directions s.args.a s.args.b s.args.cos-b))
+    rw is (sym (all-directions c.args.a c.args.b c.args.cos_b))

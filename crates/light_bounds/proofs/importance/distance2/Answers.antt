@@ -5,13 +5,11 @@ use Rattle.light_bounds.proofs.RootLaws.{far}
 use Rattle.light_bounds.proofs.importance.distance2.Goals as goal
 
 pub returns-then-dot-raw : goal.returns-then-dot-raw
-returns-then-dot-raw c = let raw = c in
-    let a = raw.before.args in
-    raw.dot.ensures
+returns-then-dot-raw c = let a = c.args in
+    c.dot-raw.ensures
     ∙ sym (far a.record a.delta
-    (rw (← c.diagonal-across.ensures, ← c.dot.ensures, ← raw.dot.ensures) c.if-dot-raw.true))
+    (rw (← c.diagonal-across.ensures, ← c.dot.ensures, ← c.dot-raw.ensures) c.if-dot-raw.true))
 
 pub returns : goal.returns
 unfolding distance2
-returns c = let across = c in
-    rw (← across.before.dot.ensures, ← across.diagonal.ensures, ← c.length.ensures) c.max.ensures
+returns c = rw (← c.dot-raw.ensures, ← c.diagonal-across.ensures, ← c.length.ensures) c.max.ensures

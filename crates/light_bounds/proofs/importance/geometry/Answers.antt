@@ -7,9 +7,10 @@ use Rattle.light_bounds.specs.Importance.{geometry}
 use Rattle.light_bounds.specs.Vecmath.{minus}
 use Rattle.light_bounds.specs.declared.vecmath.Vec3.{Vec3}
 use Rattle.light_bounds.proofs.importance.geometry.Goals as goal
+use Rattle.light_bounds.proofs.importance.geometry.Goals.{After-sub-delta}
 
 -- from the centre to the point
-delta : (c : goal.After-sub-delta) → (let s = c.args in minus s.query.p (centroid s.record.bounds)) ≡
+delta : (c : After-sub-delta) → (let s = c.args in minus s.query.p (centroid s.record.bounds)) ≡
     c.sub-delta.result
 delta c =
     sym (c.sub-delta.ensures ∙ ap (λ (v : Vec3). minus c.args.query.p v)
@@ -21,13 +22,11 @@ returns-then-d2 c = rw (delta (goal.at.returns-then-d2 c).After-sub-delta, ← c
 
 pub returns-in-Unit : goal.returns-in-Unit
 unfolding geometry ◌then◌
-returns-in-Unit c = let tested = c in
-    rw (delta tested.before.before, ← tested.before.distance2.ensures, tested.if1.false)
+returns-in-Unit c = rw (delta (goal.at.returns-in-Unit c).After-sub-delta, ← c.distance2-d2.ensures, c.if-d2.false)
     (rw (← c.normalize.ensures, c.in-Unit.is)
     c.toward.ensures)
 
 pub returns-in-Refused : goal.returns-in-Refused
 unfolding geometry ◌then◌
-returns-in-Refused c = let tested = c in
-    rw (delta tested.before.before, ← tested.before.distance2.ensures, tested.if1.false)
+returns-in-Refused c = rw (delta (goal.at.returns-in-Refused c).After-sub-delta, ← c.distance2-d2.ensures, c.if-d2.false)
     (rw (← c.normalize.ensures, c.in-Refused.is))

@@ -4,10 +4,8 @@ use lib.Ieee.{Float, lt}
 use Rattle.light_bounds.proofs.importance.is_plain.Goals as goal
 
 pub returns-then-record : goal.returns-then-record
-returns-then-record c = let tested = c in
-    let told = tested.before.before in
-    rw (told.enum_told.given.1, tested.if1.true)
-    (ap (λ (w : Float). lt told.before.before.args.record.cos_theta_o w) c.cos_w.ensures)
+returns-then-record c = rw (c.in-Nothing.is, c.if-record.true)
+    (ap (λ (w : Float). lt c.args.record.cos_theta_o w) c.cos_w.ensures)
 
 pub returns-else-record : goal.returns-else-record
 returns-else-record c = rw (c.in-Nothing.is, c.if-record.false)

@@ -12,4 +12,4 @@ returns-then-cos_x-cos_b c = rw c.if-cos_x-cos_b.true
 pub returns-else-cos_x-cos_b : goal.returns-else-cos_x-cos_b
 unfolding cos_sub_clamped
 returns-else-cos_x-cos_b c = let a = c.args in
-    rw c.if-cos_x-cos_b.false (ap (λ (s : Float). a.cos-x ⊗ a.cos-b ⊕ a.sin-x ⊗ s) c.sine.ensures)
+    rw c.if-cos_x-cos_b.false (ap (λ (s : Float). a.cos_x ⊗ a.cos_b ⊕ a.sin_x ⊗ s) c.sine.ensures)

@@ -16,11 +16,9 @@ subtended-cos_b-requires c = c.length.ensures ∙ ap vec_length c.diagonal.ensur
 
 pub returns-then-cos_p-record : goal.returns-then-cos_p-record
 unfolding toward
-returns-then-cos_p-record c = let angle = c in
-    rw (← angle.before.subtended.ensures, ← angle.smallest-angle.ensures, c.if-cos_p-record.true)
+returns-then-cos_p-record c = rw (← c.subtended-cos_b.ensures, ← c.smallest_angle-cos_p.ensures, c.if-cos_p-record.true)
 
 pub returns : goal.returns
 unfolding toward
-returns c = let angle = c in
-    rw (← angle.before.subtended.ensures, ← angle.smallest-angle.ensures, c.if-cos_p-record.false)
+returns c = rw (← c.subtended-cos_b.ensures, ← c.smallest_angle-cos_p.ensures, c.if-cos_p-record.false)
     c.with_unit.ensures

@@ -8,12 +8,10 @@ returns-then-dot c = rw (← c.dot.ensures, c.if-dot.true)
 
 pub returns-in-Unit : goal.returns-in-Unit
 unfolding unit_normal
-returns-in-Unit c = let tested = c in
-    rw (← tested.before.dot.ensures, tested.if1.false)
+returns-in-Unit c = rw (← c.dot.ensures, c.if-dot.false)
     (rw (← c.normalize.ensures, c.in-Unit.is))
 
 pub returns-in-Refused : goal.returns-in-Refused
 unfolding unit_normal
-returns-in-Refused c = let tested = c in
-    rw (← tested.before.dot.ensures, tested.if1.false)
+returns-in-Refused c = rw (← c.dot.ensures, c.if-dot.false)
     (rw (← c.normalize.ensures, c.in-Refused.is))

@@ -14,8 +14,8 @@ pub returns-in-Unit : goal.returns-in-Unit
 unfolding with_held
 returns-in-Unit c = let a = c.args in
     rw c.in-Unit.is
-    (ap (λ (k : Float). given (facing a.cos-p a.d2 k))
-    (c.facing.ensures ∙ ap (λ (k : Float). normal_factor k a.cos-b) c.dot.ensures))
+    (ap (λ (k : Float). given (facing a.cos_p a.d2 k))
+    (c.facing.ensures ∙ ap (λ (k : Float). normal_factor k a.cos_b) c.dot.ensures))
 
 pub returns-in-Lengthless : goal.returns-in-Lengthless
 unfolding with_held

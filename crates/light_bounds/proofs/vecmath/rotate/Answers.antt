@@ -7,18 +7,10 @@ use Rattle.light_bounds.proofs.vecmath.rotate.Goals as goal
 
 pub returns : goal.returns
 unfolding rotate
-returns c = let c8 = c in
-    let c7 = c8.before in
-    let c6 = c7.before in
-    let c5 = c6.before in
-    let c4 = c5.before in
-    let c3 = c4.before in
-    let c2 = c3.before in
-    let c1 = c2.before in
-    let a = c1.before.args in
+returns c = let a = c.args in
     c.add-2.ensures
     ∙ ap₂ plus
-    (c6.add.ensures ∙ ap₂ plus (c3.scale-vector.ensures ∙ ap (scaled a.v) c2.cos.ensures)
-    (c5.scale-vector2.ensures ∙ ap₂ scaled c4.cross.ensures c1.sin.ensures))
-    (c8.scale-vector3.ensures ∙ ap (scaled a.axis)
-    (ap₂ (λ (d k : Float). d ⊗ (onef ⊖ k)) c7.dot.ensures c2.cos.ensures))
+    (c.add.ensures ∙ ap₂ plus (c.scale_vector.ensures ∙ ap (scaled a.v) c.cos-c.ensures)
+    (c.scale_vector-2.ensures ∙ ap₂ scaled c.cross.ensures c.sin-s.ensures))
+    (c.scale_vector-3.ensures ∙ ap (scaled a.axis)
+    (ap₂ (λ (d k : Float). d ⊗ (onef ⊖ k)) c.dot.ensures c.cos-c.ensures))

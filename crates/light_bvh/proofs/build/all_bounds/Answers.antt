@@ -18,13 +18,13 @@ loop-all-preserved c = let loop = c.loop-all in
     let powered = c.is_powered.ensures in (
       omega arith,
       ⊎_elim (λ w. ap all_bounds_of w.3 ∙ w.2.ensures ∙
-          rw (loop.invariant.1, w.1.ensures) (sym (all_in block loop.i (sym powered ∙ w.0.taken))))
-          (λ w. ap all_bounds_of w.1 ∙ loop.invariant.1 ∙ sym (all-out block loop.i (sym powered ∙ w.0.left)))
+          rw (c.loop-all.invariant.1, w.1.ensures) (sym (all_in block c.loop-all.i (sym powered ∙ w.0.taken))))
+          (λ w. ap all_bounds_of w.1 ∙ c.loop-all.invariant.1 ∙ sym (all-out block c.loop-all.i (sym powered ∙ w.0.left)))
           c.if-is_powered.branch,
     )
 
 pub returns : goal.returns
 returns c = let loop = c.loop-all in
     let args = c.args in
-    let e : loop.i ≡ args.m = omega arith in
-    loop.invariant.1 ∙ ap (λ (k : ℕ). all_bounds args.block.now k) e
+    let e : c.loop-all.i ≡ args.m = omega arith in
+    c.loop-all.invariant.1 ∙ ap (λ (k : ℕ). all_bounds args.block.now k) e

@@ -12,17 +12,18 @@ use Rattle.light_rows.specs.Block.{block_words, block_handles}
 use Rattle.light_bvh.specs.Build.{is_short, build_check}
 use Rattle.light_bvh.proofs.BuildLaws.{build-checked, outcome-early, outcome_late, outcome-rows}
 use Rattle.light_bvh.proofs.build.build_light_bvh.Goals as goal
+use Rattle.light_bvh.proofs.build.build_light_bvh.Goals.{In-Count}
 
-abbrev rows : goal.In-Count → ℕ
+abbrev rows : In-Count → ℕ
 rows c = c.in-Count.m
 
-checked : (c : goal.In-Count)
+checked : (c : In-Count)
     → (let args = c.args in
     build_check args.lights args.block.now (length args.nodes.now) (length args.table.now)
     (length args.work.now) ≡ given (rows c))
 checked c = sym c.check_build.ensures ∙ ap counted c.in-Count.is
 
-facts : (c : goal.In-Count)
+facts : (c : In-Count)
     → (let args = c.args in
     (rows c ≡ get_or args.block.now 0 0) × (rows c ≤ max_lamps) × (length args.block.now ≡ block_words (rows c))
     × (block_handles args.block.now ≡ given (rows c))
@@ -43,32 +44,25 @@ pub zero_reserves-requires : goal.zero_reserves-requires
 zero_reserves-requires c = (facts (goal.at.zero_reserves-requires c).In-Count).1
 
 pub returns-in-Valid : goal.returns-in-Valid
-returns-in-Valid c = let built = c in
-    let told = built.before.before.before.before in
-    let at = told.before.before.before in
-    let args = c.args in
-    let told' = built.build-rows.ensures in
-    outcome-rows args.lights args.block.now args.nodes.now args.table.now args.work.now (rows at)
-    (checked at)
-    (sym told.before.before.check-records.ensures ∙ ap validity told.enum_told.given.1) told'.0
-    told'.1.0 told'.1.1.0
-    told'.1.1.1
+returns-in-Valid c = let args = c.args in
+    let told' = c.build_rows.ensures in
+    outcome-rows args.lights args.block.now args.nodes.now args.table.now args.work.now (rows (goal.at.returns-in-Valid c).In-Count)
+    (checked (goal.at.returns-in-Valid c).In-Count)
+    (sym c.check_records.ensures ∙ ap validity c.in-Valid.is) told'.result_value
+    told'.nodes_after told'.table_after
+    told'.work_after
 
 pub returns-in-Refused-check_records : goal.returns-in-Refused-check_records
-returns-in-Refused-check_records c = let zeroed = c in
-    let told = zeroed.before.before.before.before.before in
-    let at = told.before.before.before in
-    let args = c.args in
-    let told' = zeroed.zero-reserves.ensures in
-    outcome_late args.lights args.block.now args.nodes.now args.table.now args.work.now (rows at)
-    (checked at)
-    (number told.why.given.0.0)
-    (sym told.before.before.check-records.ensures ∙ ap validity told.why.given.1) told'.0 told'.1.0
-    told'.1.1
+returns-in-Refused-check_records c = let args = c.args in
+    let told' = c.zero_reserves.ensures in
+    outcome_late args.lights args.block.now args.nodes.now args.table.now args.work.now (rows (goal.at.returns-in-Refused-check_records c).In-Count)
+    (checked (goal.at.returns-in-Refused-check_records c).In-Count)
+    (number c.in-Refused-check_records.why)
+    (sym c.check_records.ensures ∙ ap validity c.in-Refused-check_records.is) told'.nodes_after told'.table_after
+    told'.work_after
 
 pub returns-in-Refused : goal.returns-in-Refused
-returns-in-Refused c = let told = c in
-    let args = told.before.before.before.before.before.args in
+returns-in-Refused c = let args = c.args in
     outcome-early args.lights args.block.now args.nodes.now args.table.now args.work.now
     (number c.in-Refused.why)
-    (sym told.check-build.ensures ∙ ap counted c.in-Refused.is)
+    (sym c.check_build.ensures ∙ ap counted c.in-Refused.is)

@@ -9,6 +9,7 @@ use Rattle.light_bvh.proofs.BuildLaws.{reserves-fit}
 use Rattle.light_bvh.proofs.RowTrays.{Gathered, gathered, end_of, asks, Lent, table-size, nodes-size, work-size}
 use Rattle.light_bvh.proofs.RowTrays.{rows_none, rows_lost, rows-tree, rows-boxed}
 use Rattle.light_bvh.proofs.build.build_rows.Goals as goal
+use Rattle.light_bvh.proofs.build.build_rows.Goals.{After-all_bounds, After-gather_handles-k, After-slice_known-7-1, After-table_leaves, Else-k-eq0}
 
 -- ---- the places: the handles are gathered, some there are, the tree is tried
 
@@ -17,7 +18,7 @@ abbrev start : tie.After-gather-handles → tie.Start
 start c = c.before.before.before.before.before.before
 
 
-got : (c : goal.After-gather_handles-k) → let args = (start c).args in
+got : (c : After-gather_handles-k) → let args = (start c).args in
     Gathered args.block.now args.m args.nodes.now args.table.now args.work.now
     c.gather_handles-k.new.1.1.0
     c.gather_handles-k.result
@@ -26,7 +27,7 @@ got c =
     gathered _ _ _ _ _ _ _ pre.0 pre.1.0 pre.1.1.0 pre.1.1.1 c.gather_handles-k.ensures.value
     c.gather_handles-k.ensures.handles_after
 
-lent : (c : goal.After-slice_known-7-1) → let s =
+lent : (c : After-slice_known-7-1) → let s =
     gather c in let args = (start s).args in let last = c.build_subtree.new in
     Lent args.block.now args.m args.nodes.now args.table.now args.work.now
     s.gather-handles.last.1.1.0
@@ -42,22 +43,22 @@ lent c =
     }
 
 -- the numbers of it
-numbers : (c : goal.Else-k-eq0) → let k =
+numbers : (c : Else-k-eq0) → let k =
     c.gather_handles-k.result in let m = (start c).args.m in (0 < k) × (k ≤ m) × (m ≤ 4096)
 numbers c = let g = got c in (omega (arith, c.if-k-eq0.false), g.within, g.few)
 
 -- behind the table's leaves
-few : (c : goal.After-table_leaves) → let s =
+few : (c : After-table_leaves) → let s =
     tested c
     in
     (start c).args.m ≤ 4096
 few c = (numbers c).2
 
-same-table : (c : goal.After-all_bounds)
+same-table : (c : After-all_bounds)
     → length c.table_leaves.new.1.1.0 ≡ length (start (gather (tested c))).args.table.now
 same-table c = c.table_leaves.auto.1.1.0 ∙ c.fill_words-in-Built.auto.0 ∙ table-size (lent c)
 
-same_work : (c : goal.After-all_bounds)
+same_work : (c : After-all_bounds)
     → length c.zero_words-in-Built.new.0 ≡
     length (start (gather (tested c))).args.work.now
 same_work c = c.zero_words-in-Built.auto.0 ∙ work-size (lent c)
@@ -66,18 +67,15 @@ same_work c = c.zero_words-in-Built.auto.0 ∙ work-size (lent c)
 pub gather_handles-k-requires : goal.gather_handles-k-requires
 gather_handles-k-requires c = let pre = c.requires in
     let args = c.args in (
-      pre.0,
+      pre.m_bound,
       (reserves-fit args.m (length args.nodes.now) (length args.table.now)
-          (length args.work.now) pre.1.1.1).1,
+          (length args.work.now) pre.work_value).1,
     )
 
 pub returns-then-k-eq0 : goal.returns-then-k-eq0
-returns-then-k-eq0 c = let filled = c in
-    let zeroed = filled.before.before.before.before.before.before.before.before in
-    let tested = zeroed.before.before.before.before in
-    let told = zeroed.zero-reserves.ensures in
-    rows_none (got tested.before.before.before) tested.if1.true told.0 told.1.0
-    filled.fill-words.ensures told.1.1
+returns-then-k-eq0 c = let told = c.zero_reserves.ensures in
+    rows_none (got (goal.at.returns-then-k-eq0 c).After-gather_handles-k) c.if-k-eq0.true told.nodes_after told.table_after
+    c.fill_words.ensures told.work_after
 
 pub overflow_mul-end : goal.overflow_mul-end
 overflow_mul-end c = omega (arith, numbers c)
@@ -86,7 +84,7 @@ pub overflow_mul-end-2 : goal.overflow_mul-end-2
 overflow_mul-end-2 c = omega (arith, numbers c)
 
 pub slice_bounds-build_subtree-end : goal.slice_bounds-build_subtree-end
-slice_bounds-build_subtree-end c = let g = got (goal.at.slice_bounds-build_subtree-end c).After-gather_handles-k in
+slice_bounds-build_subtree-end c = let g = got c in
     let e : c.gather_handles-k.result ≤ length c.gather_handles-k.new.1.1.0 = omega (arith, g.within, g.room-table, g.same) in
     e
 
@@ -103,7 +101,7 @@ slice_bounds-build_subtree-end-3 c = let s = gather c in
     e
 
 pub build_subtree-requires : goal.build_subtree-requires
-build_subtree-requires c = let s = c in asks (got (goal.at.build_subtree-requires c).After-gather_handles-k) (numbers s).0
+build_subtree-requires c = asks (got (goal.at.build_subtree-requires c).After-gather_handles-k) (numbers (goal.at.build_subtree-requires c).Else-k-eq0).0
 
 pub overflow_sub-m : goal.overflow_sub-m
 overflow_sub-m c = omega (arith, numbers (goal.at.overflow_sub-m c).Else-k-eq0)
@@ -112,11 +110,9 @@ pub overflow_mul-k : goal.overflow_mul-k
 overflow_mul-k c = omega (arith, numbers (goal.at.overflow_mul-k c).Else-k-eq0)
 
 pub table_leaves-requires : goal.table_leaves-requires
-table_leaves-requires c = let zeroed = c in
-    let s = zeroed.before.before.before.before in
-    let n = numbers c in
-    let e : end_of (gather c).gather-handles.result ≤ length zeroed.zero-words.new.0 =
-    omega (arith, zeroed.zero-words.auto.0, nodes-size (lent s), (lent s).gathered.room-nodes) in
+table_leaves-requires c = let n = numbers c in
+    let e : end_of (gather c).gather-handles.result ≤ length c.zero_words.new.0 =
+    omega (arith, c.zero_words.auto.0, nodes-size (lent (goal.at.table_leaves-requires c).After-slice_known-7-1), (lent (goal.at.table_leaves-requires c).After-slice_known-7-1).gathered.room-nodes) in
     record { n_bound = omega arith; n_in_bounds = e }
 
 pub overflow_mul-m-in-Built-2 : goal.overflow_mul-m-in-Built-2
@@ -132,13 +128,12 @@ pub shape_of-work-in-Bounds : goal.shape_of-work-in-Bounds
 shape_of-work-in-Bounds c = same_work (goal.at.shape_of-work-in-Bounds c).After-all_bounds
 
 pub returns-in-Bounds : goal.returns-in-Bounds
-returns-in-Bounds c = let boxed = c in
-    let told = (tried c).build-subtree.ensures in
+returns-in-Bounds c = let told = (tried c).build-subtree.ensures in
     rows-tree (lent (goal.at.returns-in-Bounds c).After-slice_known-7-1) told.0 c.in-Built.is told.1
     c.zero_words.ensures
     c.fill_words-in-Built.ensures c.table_leaves.ensures
-    boxed.before.before.before.zero-words2.ensures _
-    (sym (ap all_bounds_of c.in-Bounds.is) ∙ boxed.all-bounds.ensures)
+    c.zero_words-in-Built.ensures _
+    (sym (ap all_bounds_of c.in-Bounds.is) ∙ c.all_bounds.ensures)
 
 pub shape_of-table-in-Absent : goal.shape_of-table-in-Absent
 shape_of-table-in-Absent c = same-table (goal.at.shape_of-table-in-Absent c).After-all_bounds
@@ -147,14 +142,10 @@ pub shape_of-work-in-Absent : goal.shape_of-work-in-Absent
 shape_of-work-in-Absent c = same_work (goal.at.shape_of-work-in-Absent c).After-all_bounds
 
 pub returns-in-Absent : goal.returns-in-Absent
-returns-in-Absent c = let boxed = c in
-    absurd (rows-boxed (lent (goal.at.returns-in-Absent c).After-slice_known-7-1)
-    (sym (ap all_bounds_of c.in-Absent.is) ∙ boxed.all-bounds.ensures))
+returns-in-Absent c = absurd (rows-boxed (lent (goal.at.returns-in-Absent c).After-slice_known-7-1)
+    (sym (ap all_bounds_of c.in-Absent.is) ∙ c.all_bounds.ensures))
 
 pub returns-in-Lost : goal.returns-in-Lost
-returns-in-Lost c = let zeroed = c in
-    let told = zeroed.zero-reserves2.ensures in
-    let lost = zeroed.before.before.before.before in
-    let s = lost.before.before in
-    rows_lost (lent s) c.build_subtree.ensures.result_value lost.enum-told3.given.1 told.0 told.1.0
-    told.1.1
+returns-in-Lost c = let told = c.zero_reserves-in-Lost.ensures in
+    rows_lost (lent (goal.at.returns-in-Lost c).After-slice_known-7-1) c.build_subtree.ensures.result_value c.in-Lost.is told.nodes_after told.table_after
+    told.work_after

@@ -18,20 +18,18 @@ returns-then-lights-m c = rw (
     )
 
 pub check_reserves-requires : goal.check_reserves-requires
-check_reserves-requires c = let at = c in
-    let block = at.before.before.before.before.args.block.now in
+check_reserves-requires c = let block = c.args.block.now in
     let (is, few, _) = layout-count block _
-    (sym at.before.before.check-layout.ensures ∙ ap counted at.m.given.1) in
+    (sym c.check_layout.ensures ∙ ap counted c.in-Count.is) in
     let is' = handles-count block _
     (sym c.check_handles.ensures ∙ ap counted c.in-Count-check_handles.is) in
     omega (arith, is, few, is')
 
 pub returns-in-Count-check_handles : goal.returns-in-Count-check_handles
 unfolding build_check ◌then◌
-returns-in-Count-check_handles c = let at = c in
-    rw (
-      ← at.before.before.check-layout.ensures,
-      at.m.given.1,
+returns-in-Count-check_handles c = rw (
+      ← c.check_layout.ensures,
+      c.in-Count.is,
       eq-eqb _ _
           c.if-lights-m.false,
     )
@@ -40,10 +38,9 @@ returns-in-Count-check_handles c = let at = c in
 
 pub returns-in-Refused-check_handles : goal.returns-in-Refused-check_handles
 unfolding build_check ◌then◌
-returns-in-Refused-check_handles c = let at = c in
-    rw (
-      ← at.before.before.check-layout.ensures,
-      at.m.given.1,
+returns-in-Refused-check_handles c = rw (
+      ← c.check_layout.ensures,
+      c.in-Count.is,
       eq-eqb _ _
           c.if-lights-m.false,
     )

@@ -15,25 +15,23 @@ unfolding validated
 loop-i-init c = (omega arith, refl)
 
 pub loop-i-preserved : goal.loop-i-preserved
-loop-i-preserved c = let at = c in
-    let block = at.before.before.args.block.now in
+loop-i-preserved c = let block = c.args.block.now in
     let one = ap validate (sym c.light.ensures) ∙ sym c.validate.ensures
     ∙ ap validity c.in-Valid.is in (
       omega arith,
-      validated-next block at.loop.i at.loop.invariant.1 one,
+      validated-next block c.loop-i.i c.loop-i.invariant.1 one,
     )
 
 pub returns-in-Refused : goal.returns-in-Refused
-returns-in-Refused c = let at = c in
-    let args = at.before.before.args in
+returns-in-Refused c = let args = c.args in
     let one = ap validate (sym c.light.ensures) ∙
     sym c.validate.ensures
     ∙ ap validity c.in-Refused.is in
-    sym (validated-refused args.block.now args.m at.loop.i (number c.in-Refused.why)
-    (omega arith) at.loop.invariant.1 one)
+    sym (validated-refused args.block.now args.m c.loop-i.i (number c.in-Refused.why)
+    (omega arith) c.loop-i.invariant.1 one)
 
 pub returns : goal.returns
 returns c = let loop = c.loop-i in
     let args = c.args in
-    let e : loop.i ≡ args.m = omega arith in
-    sym (subst (λ (k : ℕ). validated args.block.now k ≡ given tt) e loop.invariant.1)
+    let e : c.loop-i.i ≡ args.m = omega arith in
+    sym (subst (λ (k : ℕ). validated args.block.now k ≡ given tt) e c.loop-i.invariant.1)

@@ -1,16 +1,11 @@
 -- `light_bvh::build::zero_reserves`: three calls, and no row has no node. Assumes nothing.
 use mathlib.Core.Path.{◌≡◌, ◌∙◌}
-use mathlib.Core.Logic.{⊎_elim}
 use native.Mathlib.Omega.{arith}
 use Rattle.light_bvh.specs.Build.{nodes_reserve}
 use Rattle.light_bvh.proofs.build.zero_reserves.Goals as goal
+use Rattle.light_bvh.proofs.build.zero_reserves.Goals.{else-m-eq0, then-m-eq0}
 
 pub returns : goal.returns
-returns c = let third = c in
-    let second = third.before.before.before.before in
-    let first = second.before.before.before.before in
-    let join = first.before.before in
-    let m = join.before.before.before.before.args.m in
-    let e : join.if1.end ≡ nodes_reserve m = ⊎_elim (λ w. omega (arith, w.0.taken, w.1))
-    (λ w. omega (arith, w.0.left, w.1)) join.if1.branch in
-    record { nodes_after = first.zero-words.ensures ∙ rw e; table_after = second.zero-words2.ensures; work_after = third.zero-words3.ensures }
+returns c = let m = c.args.m in
+    let e : c.if-m-eq0.end ≡ nodes_reserve m = elim c.if-m-eq0.branch [ then-m-eq0 w ↦ omega (arith, w.0.taken, w.1) | else-m-eq0 w ↦ omega (arith, w.0.left, w.1) ] in
+    record { nodes_after = c.zero_words.ensures ∙ rw e; table_after = c.zero_words-2.ensures; work_after = c.zero_words-3.ensures }

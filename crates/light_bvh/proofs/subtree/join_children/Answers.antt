@@ -5,8 +5,7 @@ use Rattle.light_bvh.proofs.LostLaws.{union_lost}
 use Rattle.light_bvh.proofs.subtree.join_children.Goals as goal
 
 pub returns-in-Bounds : goal.returns-in-Bounds
-returns-in-Bounds c = let arm = c in
-    rw (sym arm.before.before.union-children.ensures ∙ ap bounded arm.bounds.given.1)
+returns-in-Bounds c = rw (sym c.union_children.ensures ∙ ap bounded c.in-Bounds.is)
     (record { result_value = refl; nodes_after = c.write_interior.ensures.words_after })
 
 pub returns-in-Refused : goal.returns-in-Refused

@@ -8,20 +8,15 @@ use Rattle.light_bvh.proofs.SubtreeLaws.{parted-is}
 use Rattle.light_bvh.proofs.subtree.part_stretch.Goals as goal
 
 pub returns-in-Cut : goal.returns-in-Cut
-returns-in-Cut c = let parting = c in
-    let split = parting.before.before.before.before in
-    let start = split.before.before.before.before.before.before.before in
-    let ws = start.args.block.now in
-    let hs = start.args.handles.now in
-    let e : choose_split ws hs ≡ given split.split.given.0.0 =
-    sym split.before.before.choose-split.ensures ∙ ap chosen split.split.given.1 in
-    let told = parting.partition-handles.ensures in
-    parted-is ws hs _ (length start.args.work.now) e start.requires _ _ told.0 told.1.0
+returns-in-Cut c = let ws = c.args.block.now in
+    let hs = c.args.handles.now in
+    let e : choose_split ws hs ≡ given c.in-Cut.split =
+    sym c.choose_split.ensures ∙ ap chosen c.in-Cut.is in
+    let told = c.partition_handles.ensures in
+    parted-is ws hs _ (length c.args.work.now) e c.requires _ _ told.result_value told.handles_after
 
 pub returns-in-Lost : goal.returns-in-Lost
 unfolding split_count split_handles ◌then◌
-returns-in-Lost c = let choosing = c in
-    let start = choosing.before.before.before.before.before in
-    let e : choose_split start.args.block.now start.args.handles.now ≡ refused 10 =
-    sym choosing.choose-split.ensures ∙ ap chosen c.in-Lost.is in
+returns-in-Lost c = let e : choose_split c.args.block.now c.args.handles.now ≡ refused 10 =
+    sym c.choose_split.ensures ∙ ap chosen c.in-Lost.is in
     record { result_value = rw e; handles_after = rw e }

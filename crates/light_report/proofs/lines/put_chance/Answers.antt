@@ -9,8 +9,9 @@ use Rattle.text.specs.AsCoded.Puts.{Put}
 use Rattle.text.proofs.PutLaws.{put-fits, put_then, put_one, length_hex}
 use Rattle.light_report.specs.Lines.{chance_bytes}
 use Rattle.light_report.proofs.lines.put_chance.Goals as goal
+use Rattle.light_report.proofs.lines.put_chance.Goals.{After-put_hex}
 
-module _ (c : goal.After-put_hex) where
+module _ (c : After-put_hex) where
   abbrev start : tie.Start
   start = c
 
@@ -37,6 +38,5 @@ shape_of-out c = ap length (returns c).0.is ∙ simp length-sets
 
 pub returns : goal.returns
 unfolding chance_bytes
-returns c = let put = c in
-    rw (← put.before.word-of-f32.ensures)
-    (record { put = put_then (put_one (start put).args.out.now (start put).args.at 32) (digits put); value = end put })
+returns c = rw (← c.word_of_f32.ensures)
+    (record { put = put_then (put_one (start c).args.out.now (start c).args.at 32) (digits c); value = end c })

@@ -9,8 +9,9 @@ use Rattle.text.specs.AsCoded.Puts.{Put}
 use Rattle.text.proofs.PutLaws.{put-fits, put_then, put_one, decimal-short}
 use Rattle.light_report.specs.Lines.{line_bytes}
 use Rattle.light_report.proofs.lines.put_lamp.Goals as goal
+use Rattle.light_report.proofs.lines.put_lamp.Goals.{After-put_chance-end, After-put_chance-named_at, After-put_decimal}
 
-module _ (c : goal.After-put_decimal) where
+module _ (c : After-put_decimal) where
   abbrev start : tie.Start
   start = c
 
@@ -24,7 +25,7 @@ module _ (c : goal.After-put_decimal) where
   few = omega (arith, handle.past, decimal-short start.args.handle)
 
 
-module _ (c : goal.After-put_chance-named_at) where
+module _ (c : After-put_chance-named_at) where
   abbrev number : tie.After-put-decimal
   number = c
 
@@ -37,7 +38,7 @@ module _ (c : goal.After-put_chance-named_at) where
   )
 
 
-module _ (c : goal.After-put_chance-end) where
+module _ (c : After-put_chance-end) where
   abbrev first : tie.After-put-chance
   first = c
 
@@ -68,8 +69,8 @@ shape_of-out c = ap length (returns c).0.is ∙ simp length-sets
 
 pub returns : goal.returns
 unfolding line_bytes
-returns c = let last = c in (
-      put_then (put_then (put_then (handle (number (first last))) (first last).put-chance.ensures.0)
-          last.put-chance2.ensures.0) (put_one _ _ 10),
-      short last,
+returns c = (
+      put_then (put_then (put_then (handle (number (first c))) (first c).put-chance.ensures.0)
+          c.put_chance-end.ensures.put) (put_one _ _ 10),
+      short c,
     )

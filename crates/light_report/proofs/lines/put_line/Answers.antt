@@ -7,8 +7,9 @@ use Rattle.text.specs.AsCoded.Puts.{Put}
 use Rattle.text.proofs.PutLaws.{put-fits, refusal-short}
 use Rattle.light_report.specs.Lines.{none_bytes, line_bytes}
 use Rattle.light_report.proofs.lines.put_line.Goals as goal
+use Rattle.light_report.proofs.lines.put_line.Goals.{After-put_refused, After-put_text}
 
-module _ (c : goal.After-put_text) where
+module _ (c : After-put_text) where
   abbrev start : tie.Start
   start = c
 
@@ -17,7 +18,7 @@ module _ (c : goal.After-put_text) where
   none = put-fits (omega (arith, start.pre)) c.put_text.ensures.out_after c.put_text.ensures.value
 
 
-module _ (c : goal.After-put_refused) where
+module _ (c : After-put_refused) where
   abbrev why : tie.After-shown2
   why = c
 
@@ -36,18 +37,16 @@ module _ (c : goal.After-put_refused) where
 
 pub returns-in-Lamp : goal.returns-in-Lamp
 returns-in-Lamp c = let put = c.put_lamp.ensures in
-    rw c.in-Lamp.is (record { out_after = put.0.is; value = put.0.past; upper_bound = put.1 })
+    rw c.in-Lamp.is (record { out_after = put.put.is; value = put.put.past; upper_bound = put.upper_bound })
 
 pub returns-in-Nothing : goal.returns-in-Nothing
 unfolding line_bytes
-returns-in-Nothing c = let put = c in
-    rw put.before.before.before.enum_told.given.1
-    (record { out_after = (none put).is; value = (none put).past; upper_bound = omega (arith, (none put).past) })
+returns-in-Nothing c = rw c.in-Nothing.is
+    (record { out_after = (none c).is; value = (none c).past; upper_bound = omega (arith, (none c).past) })
 
 pub returns-in-Refused : goal.returns-in-Refused
 unfolding line_bytes
-returns-in-Refused c = let put = c in
-    rw (why put).shown2.given.1 (record { out_after = (line put).is; value = (line put).past; upper_bound = short put })
+returns-in-Refused c = rw (why c).shown2.given.1 (record { out_after = (line c).is; value = (line c).past; upper_bound = short c })
 
 -- LEFT (λ c. omega (arith, (none c.before.before).past, (start c.before.before).pre))
 

@@ -9,11 +9,10 @@ pub loop-i-init : goal.loop-i-init
 loop-i-init c = reported-none c.requires
 
 pub loop-i-preserved : goal.loop-i-preserved
-loop-i-preserved c = let at-loop = c in
-    let i = at-loop.loop.i in
+loop-i-preserved c = let i = c.loop-i.i in
     let whole : 28 * i + 28 - 28 * i ≡ 28 = omega arith in
     let put = rw whole at c.put_group-at.ensures in
-    reported-next (omega arith) at-loop.loop.invariant put.0 put.1
+    reported-next (omega arith) c.loop-i.invariant put.0 put.1
 
 pub returns-then-groups-eq0 : goal.returns-then-groups-eq0
 returns-then-groups-eq0 c = reported-all (omega arith) c.if-groups-eq0.true c.loop-i.invariant
@@ -21,4 +20,4 @@ returns-then-groups-eq0 c = reported-all (omega arith) c.if-groups-eq0.true c.lo
 pub returns : goal.returns
 returns c = let put = c.put_line.ensures in
     reported-part (omega arith) c.if-groups-eq0.false c.loop-i.invariant
-    (record { is = put.0; past = put.1.0 }) put.1.1
+    (record { is = put.out_after; past = put.value }) put.upper_bound

@@ -18,9 +18,9 @@ loop-i-init c = (c.word_or_zero-m.ensures, omega arith, refl)
 pub loop-i-preserved : goal.loop-i-preserved
 loop-i-preserved c = let loop = c.loop-i in
     let block = c.args.block.now in (
-      loop.invariant.0,
+      c.loop-i.invariant.0,
       omega arith,
-      rw (below_next (handle_at block) loop.i, loop.invariant.2)
+      rw (below_next (handle_at block) c.loop-i.i, c.loop-i.invariant.2)
           (eq-eqb _ _ (sym c.label.ensures ∙ c.if-label-i.true)),
     )
 
@@ -28,13 +28,13 @@ pub returns-else-label-i : goal.returns-else-label-i
 unfolding block_handles
 returns-else-label-i c = let loop = c.loop-i in
     let block = c.args.block.now in
-    rw (below_false (handle_at block) (get_or block 0 0) loop.i (omega (arith, loop.invariant.0))
+    rw (below_false (handle_at block) (get_or block 0 0) c.loop-i.i (omega (arith, c.loop-i.invariant.0))
     (ne_eqb _ _ (λ e. c.if-label-i.false (c.label.ensures ∙ e))))
 
 pub returns : goal.returns
 unfolding block_handles
 returns c = let loop = c.loop-i in
     let block = c.args.block.now in
-    let e : loop.i ≡ get_or block 0 0 = omega (arith, loop.invariant.0) in
-    rw (subst (λ (k : ℕ). below (handle_at block) k ≡ true) e loop.invariant.2)
-    (ap given (c.wide.ensures ∙ loop.invariant.0))
+    let e : c.loop-i.i ≡ get_or block 0 0 = omega (arith, c.loop-i.invariant.0) in
+    rw (subst (λ (k : ℕ). below (handle_at block) k ≡ true) e c.loop-i.invariant.2)
+    (ap given (c.wide.ensures ∙ c.loop-i.invariant.0))

@@ -15,20 +15,16 @@ check_sides-requires c = c.if-block-block_words.true ∙ c.block_words.ensures
 
 pub returns-then-block-block_words : goal.returns-then-block-block_words
 unfolding block_layout
-returns-then-block-block_words c = let words = c in
-    let test = words.before.before in
-    let block = test.before.before.before.args.block.now in
-    let m = words.before.word-or-zero.ensures in
+returns-then-block-block_words c = let block = c.args.block.now in
+    let m = c.word_or_zero-m.ensures in
     let size : length block ≡ block_words (get_or block 0 0) =
-    omega (arith, m, words.Block-words.ensures, c.if-block-block_words.true) in
-    rw (← test.before.crowded.ensures, test.if1.false) (rw (eq-eqb _ _ size, ← m) c.check_sides.ensures)
+    omega (arith, m, c.block_words.ensures, c.if-block-block_words.true) in
+    rw (← c.crowded.ensures, c.if-crowded.false) (rw (eq-eqb _ _ size, ← m) c.check_sides.ensures)
 
 pub returns : goal.returns
 unfolding block_layout
-returns c = let words = c in
-    let test = words.before.before in
-    let block = test.before.before.before.args.block.now in
-    let m = words.before.word-or-zero.ensures in
-    rw (← test.before.crowded.ensures, test.if1.false)
+returns c = let block = c.args.block.now in
+    let m = c.word_or_zero-m.ensures in
+    rw (← c.crowded.ensures, c.if-crowded.false)
     (rw (ne_eqb (length block) (block_words (get_or block 0 0))
-    (λ e. c.if-block-block_words.false (omega (arith, e, m, words.Block-words.ensures)))))
+    (λ e. c.if-block-block_words.false (omega (arith, e, m, c.block_words.ensures)))))

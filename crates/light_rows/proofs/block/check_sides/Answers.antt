@@ -17,26 +17,24 @@ unfolding below
 loop-i-init c = (c.requires, omega arith, refl)
 
 pub loop-i-preserved : goal.loop-i-preserved
-loop-i-preserved c = let place = c in
-    let loop = place.before.before.loop in
-    let block = place.before.before.before.before.args.block.now in
+loop-i-preserved c = let loop = c.loop-i in
+    let block = c.args.block.now in
     let known = c.is_side.ensures
-    ∙ ap (λ (k : ℕ). side_known (get_or block (side_place k) 0)) place.record-place.ensures in (
-      loop.invariant.0,
+    ∙ ap (λ (k : ℕ). side_known (get_or block (side_place k) 0)) c.record_place.ensures in (
+      c.loop-i.invariant.0,
       omega arith,
-      rw (below_next (side_at block) loop.i, loop.invariant.2) (sym known ∙ c.if-is_side.true),
+      rw (below_next (side_at block) c.loop-i.i, c.loop-i.invariant.2) (sym known ∙ c.if-is_side.true),
     )
 
 pub returns-else-is_side : goal.returns-else-is_side
-returns-else-is_side c = let place = c in
-    let args = place.before.before.before.before.args in
+returns-else-is_side c = let args = c.args in
     let block = args.block.now in
     let known = c.is_side.ensures
-    ∙ ap (λ (k : ℕ). side_known (get_or block (side_place k) 0)) place.record-place.ensures in
-    rw (below_false (side_at block) args.m place.before.before.loop.i (omega arith) (sym known ∙ c.if-is_side.false))
+    ∙ ap (λ (k : ℕ). side_known (get_or block (side_place k) 0)) c.record_place.ensures in
+    rw (below_false (side_at block) args.m c.loop-i.i (omega arith) (sym known ∙ c.if-is_side.false))
 
 pub returns : goal.returns
 returns c = let loop = c.loop-i in
     let args = c.args in
-    let e : loop.i ≡ args.m = omega arith in
-    rw (subst (λ (k : ℕ). below (side_at args.block.now) k ≡ true) e loop.invariant.2) (ap given c.wide.ensures)
+    let e : c.loop-i.i ≡ args.m = omega arith in
+    rw (subst (λ (k : ℕ). below (side_at args.block.now) k ≡ true) e c.loop-i.invariant.2) (ap given c.wide.ensures)

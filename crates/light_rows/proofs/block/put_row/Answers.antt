@@ -10,18 +10,14 @@ use Rattle.light_rows.specs.Laws.RecordPlaces.{written_at-sets}
 use Rattle.light_rows.proofs.block.put_row.Goals as goal
 
 pub shape_of-block : goal.shape_of-block
-shape_of-block c = let put = c in
-    let first = put.before.before.before in
-    put.write-record.auto.0 ∙ length-set first.before.before.args.block.now first.Block-words.result _
+shape_of-block c = c.write_record.auto.0 ∙ length-set c.args.block.now c.block_words.result _
 
 pub returns : goal.returns
-returns c = let put = c in
-    let first = put.before.before.before in
-    let args = first.before.before.args in
+returns c = let args = c.args in
     let row = args.row in
     let words = set args.block.now (handle_place row) row in
     let behind : record_place row ≡ suc (handle_place row) = omega arith in
-    put.write-record.ensures
-    ∙ rw (put.before.record-place.ensures, first.Block-words.ensures)
+    c.write_record.ensures
+    ∙ rw (c.record_place.ensures, c.block_words.ensures)
     (written_at-sets words (record_place row) args.«record» (rw length-set (omega arith))
     ∙ ap (λ (k : ℕ). sets words k (record_list args.«record»)) behind)

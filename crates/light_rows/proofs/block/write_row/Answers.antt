@@ -8,8 +8,9 @@ use lib.ListN.{length}
 use Rattle.light_rows.specs.Block.{bounds_words, handle_place}
 use Rattle.light_rows.specs.AsCoded.BlockRow.{row_written}
 use Rattle.light_rows.proofs.block.write_row.Goals as goal
+use Rattle.light_rows.proofs.block.write_row.Goals.{After-fits}
 
-module _ (c : goal.After-fits) where
+module _ (c : After-fits) where
   -- the test is the definition's
   abbrev block : List ℕ
   block = c.args.block.now
@@ -23,8 +24,7 @@ put_row-requires c = leb-true _ _ (fit c ∙ c.if-fits.true)
 
 pub returns-then-fits : goal.returns-then-fits
 unfolding row_written
-returns-then-fits c = let test = c in
-    rw (fit test.before ∙ test.if1.true) c.put_row.ensures
+returns-then-fits c = rw (fit c ∙ c.if-fits.true) c.put_row.ensures
 
 pub returns-else-fits : goal.returns-else-fits
 unfolding row_written

@@ -16,8 +16,7 @@ pub shape_of-words : goal.shape_of-words
 shape_of-words c = ap length (returns c) ∙ simp length-sets
 
 pub returns : goal.returns
-returns c = let start = c in
-    let args = start.args in
+returns c = let args = c.args in
     c.write_record.ensures
     ∙ put-node-parts args.words.now args.at args.head args.links.right_child args.links.parent
-    args.bounds start.requires
+    args.bounds c.requires

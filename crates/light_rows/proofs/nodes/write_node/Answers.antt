@@ -15,9 +15,7 @@ returns-then-number-ge-HEAD_ROOM c = let args = c.args in
     rw (too_wide args.words.now args.place args.number c.if-number-ge-HEAD_ROOM.true) (record { value = refl; words_after = refl })
 
 pub returns : goal.returns
-returns c = let put = c in
-    let room = put.before.before in
-    let args = room.before.before.before.args in
-    let own : handle_of args.number ≡ args.number = omega (arith, room.if2.false) in
-    rw (row_fits_lem args.words.now args.place args.number room.before.if1.false room.if2.false, own)
-    (record { value = refl; words_after = put.put-node.ensures })
+returns c = let args = c.args in
+    let own : handle_of args.number ≡ args.number = omega (arith, c.if-number-ge-HEAD_ROOM.false) in
+    rw (row_fits_lem args.words.now args.place args.number c.if-words-place.false c.if-number-ge-HEAD_ROOM.false, own)
+    (record { value = refl; words_after = c.put_node.ensures })

@@ -5,6 +5,5 @@ use Rattle.light_rows.proofs.query_words.query_of_bytes.Goals as goal
 
 pub returns : goal.returns
 unfolding query_of vec_at
-returns c = let p = c in
-    rw (p.before.before.Float-at.ensures, p.before.float-at2.ensures, p.float-at3.ensures)
+returns c = rw (c.float_at.ensures, c.float_at-2.ensures, c.float_at-3.ensures)
     (rw (c.float_at-4.ensures, c.float_at-5.ensures, c.float_at-6.ensures))

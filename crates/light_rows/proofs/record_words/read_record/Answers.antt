@@ -5,10 +5,9 @@ use Rattle.light_rows.specs.Laws.RecordPlaces.{record_at-is, record_at-past}
 use Rattle.light_rows.proofs.record_words.read_record.Goals as goal
 
 pub returns-then-fits : goal.returns-then-fits
-returns-then-fits c = let test = c in
-    let args = test.before.before.before.args in
+returns-then-fits c = let args = c.args in
     c.judged.ensures 1 ∙ ap (judged_row 1) c.row_at.ensures
-    ∙ sym (record_at-is 1 args.words.now args.at (sym test.before.fits2.ensures ∙ test.if1.true))
+    ∙ sym (record_at-is 1 args.words.now args.at (sym c.fits.ensures ∙ c.if-fits.true))
 
 pub returns : goal.returns
 returns c = let args = c.args in

@@ -10,9 +10,10 @@ use Rattle.light_rows.specs.AsCoded.RecordRow.{judged_row}
 use Rattle.light_rows.specs.Laws.RecordPlaces.{record_at-is, record_at-past, row-part}
 use Rattle.light_rows.specs.RecordWords.{record_words}
 use Rattle.light_rows.proofs.record_words.read_record_bytes.Goals as goal
+use Rattle.light_rows.proofs.record_words.read_record_bytes.Goals.{Then-fits}
 
 -- there are words enough
-fit : (c : goal.Then-fits) → c.args.at + record_words
+fit : (c : Then-fits) → c.args.at + record_words
     ≤ length c.args.bytes.now / 4
 fit c = leb-true _ _ (sym c.fits.ensures ∙ c.if-fits.true)
 
@@ -32,13 +33,12 @@ pub slice_bounds-row_in-end : goal.slice_bounds-row_in-end
 slice_bounds-row_in-end c = omega (arith, fit c)
 
 pub returns-then-fits : goal.returns-then-fits
-returns-then-fits c = let test = c in
-    let args = test.before.before.before.args in
+returns-then-fits c = let args = c.args in
     let size : 4 * args.at + 4 * record_words - 4 * args.at ≡ 4 * record_words = omega arith in
     c.judged.ensures 12
-    ∙ ap (judged_row 12) (rw size at c.row_in.ensures ∙ row-part args.bytes.now args.at (fit test))
+    ∙ ap (judged_row 12) (rw size at c.row_in.ensures ∙ row-part args.bytes.now args.at (fit (goal.at.returns-then-fits c).Then-fits))
     ∙ sym (record_at-is 12 (words_of args.bytes.now) args.at
-    (rw length-words_of (sym test.before.fits2.ensures ∙ test.if1.true)))
+    (rw length-words_of (sym c.fits.ensures ∙ c.if-fits.true)))
 
 pub returns : goal.returns
 returns c = let args = c.args in

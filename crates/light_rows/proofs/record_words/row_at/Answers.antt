@@ -8,8 +8,6 @@ returns-then-words-at c = let args = c.args in
     rw c.triple_at-min.ensures (sym (row_at-past args.words.now args.at c.if-words-at.true))
 
 pub returns : goal.returns
-returns c = let phi = c in
-    let box = phi.before.before in
-    rw (box.before.before.triple-at.ensures, box.triple-at2.ensures, phi.before.triple-at3.ensures)
-    (rw (phi.word-or-zero.ensures, c.word_or_zero-2.ensures)
+returns c = rw (c.triple_at-min.ensures, c.triple_at.ensures, c.triple_at-2.ensures)
+    (rw (c.word_or_zero.ensures, c.word_or_zero-2.ensures)
     (rw (c.word_or_zero-3.ensures, c.word_or_zero-4.ensures)))

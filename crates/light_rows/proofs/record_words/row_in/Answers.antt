@@ -2,7 +2,5 @@
 use Rattle.light_rows.proofs.record_words.row_in.Goals as goal
 
 pub returns : goal.returns
-returns c = let phi = c in
-    let box = phi.before.before in
-    rw (box.before.triple-in.ensures, box.triple-in2.ensures, phi.before.triple-in3.ensures)
-    (rw (phi.word_at.ensures, c.word_at-2.ensures, c.word_at-3.ensures, c.word_at-4.ensures))
+returns c = rw (c.triple_in.ensures, c.triple_in-2.ensures, c.triple_in-3.ensures)
+    (rw (c.word_at.ensures, c.word_at-2.ensures, c.word_at-3.ensures, c.word_at-4.ensures))

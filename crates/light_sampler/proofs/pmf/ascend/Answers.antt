@@ -11,64 +11,52 @@ unfolding of_bits
 loop-entries-init c = (c.node_at-here.ensures, λ q h. refl)
 
 pub returns-then-parent : goal.returns-then-parent
-returns-then-parent c = let at = c in
-    let loop = at.before.before.loop in
-    let stands = ap parent_of (sym loop.invariant.0) ∙ sym at.parent_of.ensures ∙
+returns-then-parent c = let loop = c.loop-entries in
+    let stands = ap parent_of (sym c.loop-entries.invariant.0) ∙ sym c.parent_of.ensures ∙
     ap above_of c.in-Parent.is in
-    let start = at.before.before.before.before in
-    sym (ascend-root _ _ _ _ _ at.before.loop-test.true stands c.if-parent.true) ∙
-    loop.invariant.1 _ start.prepare.ensures
+    sym (ascend-root _ _ _ _ _ c.loop-entries-test.true stands c.if-parent.true) ∙
+    c.loop-entries.invariant.1 _ c.prepare-held.ensures
 
 pub rise-requires : goal.rise-requires
 rise-requires c = c.node_at-above.ensures
 
 pub loop-entries-preserved : goal.loop-entries-preserved
-loop-entries-preserved c = let above = c in
-    let inner = above.before in
-    let at = inner.before.before.before.before in
-    let loop = at.before.before.loop in
-    let stands = ap parent_of (sym loop.invariant.0) ∙ sym at.parent_of.ensures ∙
-    ap above_of inner.before.before.parent.given.1 in (
-      above.node-at2.ensures,
+loop-entries-preserved c = let loop = c.loop-entries in
+    let stands = ap parent_of (sym c.loop-entries.invariant.0) ∙ sym c.parent_of.ensures ∙
+    ap above_of c.in-Parent.is in (
+      c.node_at-above.ensures,
       λ q h.
           let step = rise-held _ _ q h _ _ ∙ sym c.rise.ensures ∙
           ap factor_of c.in-Part.is in
-          sym (ascend-part _ _ _ _ _ at.before.loop-test.true stands inner.if1.false step) ∙ loop.invariant.1 q h,
+          sym (ascend-part _ _ _ _ _ c.loop-entries-test.true stands c.if-parent.false step) ∙ c.loop-entries.invariant.1 q h,
     )
 
 pub returns-in-Nought : goal.returns-in-Nought
 unfolding of_bits
-returns-in-Nought c = let inner = c in
-    let at = inner.before.before.before.before in
-    let loop = at.before.before.loop in
-    let start = at.before.before.before.before in
-    let stands = ap parent_of (sym loop.invariant.0) ∙ sym at.parent_of.ensures ∙
-    ap above_of inner.before.before.parent.given.1 in
-    let step = rise-held _ _ _ start.prepare.ensures _ _ ∙ sym c.rise.ensures ∙
+returns-in-Nought c = let loop = c.loop-entries in
+    let stands = ap parent_of (sym c.loop-entries.invariant.0) ∙ sym c.parent_of.ensures ∙
+    ap above_of c.in-Parent.is in
+    let step = rise-held _ _ _ c.prepare-held.ensures _ _ ∙ sym c.rise.ensures ∙
     ap factor_of c.in-Nought.is in
-    sym (ascend-nought _ _ _ _ _ at.before.loop-test.true stands inner.if1.false step) ∙
-    loop.invariant.1 _ start.prepare.ensures
+    sym (ascend-nought _ _ _ _ _ c.loop-entries-test.true stands c.if-parent.false step) ∙
+    c.loop-entries.invariant.1 _ c.prepare-held.ensures
 
 pub returns-in-Refused : goal.returns-in-Refused
-returns-in-Refused c = let inner = c in
-    let at = inner.before.before.before.before in
-    let loop = at.before.before.loop in
-    let start = at.before.before.before.before in
-    let stands = ap parent_of (sym loop.invariant.0) ∙ sym at.parent_of.ensures ∙
-    ap above_of inner.before.before.parent.given.1 in
+returns-in-Refused c = let loop = c.loop-entries in
+    let stands = ap parent_of (sym c.loop-entries.invariant.0) ∙ sym c.parent_of.ensures ∙
+    ap above_of c.in-Parent.is in
     let step =
-    rise-held _ _ _ start.prepare.ensures _ _ ∙ sym c.rise.ensures ∙
+    rise-held _ _ _ c.prepare-held.ensures _ _ ∙ sym c.rise.ensures ∙
     ap factor_of c.in-Refused.is in
-    sym (ascend-refused _ _ _ _ _ at.before.loop-test.true stands inner.if1.false step) ∙
-    loop.invariant.1 _ start.prepare.ensures
+    sym (ascend-refused _ _ _ _ _ c.loop-entries-test.true stands c.if-parent.false step) ∙
+    c.loop-entries.invariant.1 _ c.prepare-held.ensures
 
 pub returns-in-Unknown : goal.returns-in-Unknown
-returns-in-Unknown c = let at = c in
-    let loop = at.before.before.loop in
-    let stands = ap parent_of (sym loop.invariant.0) ∙ sym at.parent_of.ensures ∙
+returns-in-Unknown c = let loop = c.loop-entries in
+    let stands = ap parent_of (sym c.loop-entries.invariant.0) ∙ sym c.parent_of.ensures ∙
     ap above_of c.in-Unknown.is in
-    sym (ascend_unknown _ _ _ _ _ at.before.loop-test.true stands)
-    ∙ loop.invariant.1 _ at.before.before.before.before.prepare.ensures
+    sym (ascend_unknown _ _ _ _ _ c.loop-entries-test.true stands)
+    ∙ c.loop-entries.invariant.1 _ c.prepare-held.ensures
 
 pub returns : goal.returns
 returns c = sym (ascend-spent _ _ _ _ _ c.loop-entries-test.false) ∙

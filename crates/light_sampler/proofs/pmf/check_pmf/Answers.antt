@@ -10,14 +10,12 @@ returns-then-table-gt-MAX_LAMPS c = rw (lt-ltb _ _ c.if-table-gt-MAX_LAMPS.true)
 
 pub returns-then-table-eq0 : goal.returns-then-table-eq0
 unfolding pmf_check ◌then◌
-returns-then-table-eq0 c = let n = c in
-    rw (le-ltb _ _ n.before.before.before.if1.false, ← n.before.before.node-count.ensures, n.n.given.1)
+returns-then-table-eq0 c = rw (le-ltb _ _ c.if-table-gt-MAX_LAMPS.false, ← c.node_count.ensures, c.in-Count.is)
     (rw (eq-eqb _ _ c.if-table-eq0.true))
 
 pub returns-else-table-eq0 : goal.returns-else-table-eq0
 unfolding pmf_check ◌then◌
-returns-else-table-eq0 c = let n = c in
-    rw (le-ltb _ _ n.before.before.before.if1.false, ← n.before.before.node-count.ensures, n.n.given.1)
+returns-else-table-eq0 c = rw (le-ltb _ _ c.if-table-gt-MAX_LAMPS.false, ← c.node_count.ensures, c.in-Count.is)
     (rw (ne_eqb _ _ c.if-table-eq0.false))
 
 pub returns-in-Refused : goal.returns-in-Refused

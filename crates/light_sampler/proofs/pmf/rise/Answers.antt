@@ -5,17 +5,13 @@ use Rattle.light_sampler.proofs.pmf.rise.Goals as goal
 
 pub returns-in-Both : goal.returns-in-Both
 unfolding rise ◌then◌
-returns-in-Both c = let weights = c in
-    let fork = weights.before.before in
-    rw (← fork.before.before.before.requires, fork.above.given.1)
-    (rw (← weights.weigh-children.ensures, c.in-Both.is) c.part_of.ensures)
+returns-in-Both c = rw (← c.requires, c.in-Interior.is)
+    (rw (← c.weigh_children.ensures, c.in-Both.is) c.part_of.ensures)
 
 pub returns-in-Refused : goal.returns-in-Refused
 unfolding rise ◌then◌
-returns-in-Refused c = let weights = c in
-    let fork = weights.before.before in
-    rw (← fork.before.before.before.requires, fork.above.given.1)
-    (rw (← weights.weigh-children.ensures, c.in-Refused.is))
+returns-in-Refused c = rw (← c.requires, c.in-Interior.is)
+    (rw (← c.weigh_children.ensures, c.in-Refused.is))
 
 pub returns-in-Leaf : goal.returns-in-Leaf
 unfolding rise ◌then◌

@@ -11,27 +11,24 @@ use Rattle.light_sampler.specs.AsCoded.Turns.{way_of, turned}
 use Rattle.light_sampler.proofs.WalkLaws.{turn-held, node-within, descend-spent, descend-leaf, descend_unknown}
 use Rattle.light_sampler.proofs.WalkLaws.{descend-refused, descend-neither, descend-left, descend-right}
 use Rattle.light_sampler.proofs.sample.descend.Goals as goal
+use Rattle.light_sampler.proofs.sample.descend.Goals.{In-Interior}
 
 -- an interior node stands within the bytes, which are fewer than 2^63
-near : (c : goal.In-Interior) → c.loop-entries.place < 2 ^ 60
+near : (c : In-Interior) → c.loop-entries.place < 2 ^ 60
 near c =
-    let at = c in
-    let start = at.before.before.before.before.before in
-    let bytes = start.args.nodes.now in
-    let within = node-within (words_of bytes) at.before.before.loop.place
-    (sym at.Node-at.ensures ∙ ap node c.in-Interior.is) in
-    omega (arith, within, length-words_of bytes, start.well-formed.0)
+    let bytes = c.args.nodes.now in
+    let within = node-within (words_of bytes) c.loop-entries.place
+    (sym c.node_at.ensures ∙ ap node c.in-Interior.is) in
+    omega (arith, within, length-words_of bytes, c.well_formed.0)
 
 pub loop-entries-init : goal.loop-entries-init
 unfolding of_bits
 loop-entries-init c q h = refl
 
 pub returns-in-Leaf : goal.returns-in-Leaf
-returns-in-Leaf c = let at = c in
-    let start = at.before.before.before in
-    let stands = sym at.Node-at.ensures ∙ ap node c.in-Leaf.is in
-    sym (descend-leaf _ _ _ _ _ _ at.before.loop-test.true stands)
-    ∙ at.before.before.loop.invariant _ start.prepare.ensures
+returns-in-Leaf c = let stands = sym c.node_at.ensures ∙ ap node c.in-Leaf.is in
+    sym (descend-leaf _ _ _ _ _ _ c.loop-entries-test.true stands)
+    ∙ c.loop-entries.invariant _ c.prepare-held.ensures
 
 pub turn-requires : goal.turn-requires
 turn-requires c = near c
@@ -40,53 +37,41 @@ pub overflow_add-place : goal.overflow_add-place
 overflow_add-place c = omega (arith, near (goal.at.overflow_add-place c).In-Interior)
 
 pub loop-entries-preserved-in-Left : goal.loop-entries-preserved-in-Left
-loop-entries-preserved-in-Left c q h = let turn = c in
-    let at = turn.before.before.before.before in
-    let stands = sym at.Node-at.ensures ∙ ap node turn.before.before.right.given.1 in
+loop-entries-preserved-in-Left c q h = let stands = sym c.node_at.ensures ∙ ap node c.in-Interior.is in
     let way =
-    turn-held _ _ q h _ _ _ ∙ sym turn.turn.ensures ∙ ap way_of c.in-On.is
+    turn-held _ _ q h _ _ _ ∙ sym c.turn.ensures ∙ ap way_of c.in-On.is
     ∙ ap (λ t. given (turned t)) c.in-Left.is in
-    sym (descend-left _ _ _ _ _ _ at.before.loop-test.true stands way) ∙ at.before.before.loop.invariant q h
+    sym (descend-left _ _ _ _ _ _ c.loop-entries-test.true stands way) ∙ c.loop-entries.invariant q h
 
 pub loop-entries-preserved : goal.loop-entries-preserved
-loop-entries-preserved c q h = let turn = c in
-    let at = turn.before.before.before.before in
-    let stands = sym at.Node-at.ensures ∙ ap node turn.before.before.right.given.1 in
+loop-entries-preserved c q h = let stands = sym c.node_at.ensures ∙ ap node c.in-Interior.is in
     let way =
-    turn-held _ _ q h _ _ _ ∙ sym turn.turn.ensures ∙ ap way_of c.in-On.is
+    turn-held _ _ q h _ _ _ ∙ sym c.turn.ensures ∙ ap way_of c.in-On.is
     ∙ ap (λ t. given (turned t)) c.in-Right.is in
-    sym (descend-right _ _ _ _ _ _ at.before.loop-test.true stands way)
-    ∙ at.before.before.loop.invariant q h
+    sym (descend-right _ _ _ _ _ _ c.loop-entries-test.true stands way)
+    ∙ c.loop-entries.invariant q h
 
 pub returns-in-Neither : goal.returns-in-Neither
-returns-in-Neither c = let turn = c in
-    let at = turn.before.before.before.before in
-    let start = at.before.before.before in
-    let stands = sym at.Node-at.ensures ∙ ap node turn.before.before.right.given.1 in
+returns-in-Neither c = let stands = sym c.node_at.ensures ∙ ap node c.in-Interior.is in
     let way =
-    turn-held _ _ _ start.prepare.ensures _ _ _ ∙ sym turn.turn.ensures
+    turn-held _ _ _ c.prepare-held.ensures _ _ _ ∙ sym c.turn.ensures
     ∙ ap way_of c.in-On.is
     ∙ ap (λ t. given (turned t)) c.in-Neither.is in
-    sym (descend-neither _ _ _ _ _ _ at.before.loop-test.true stands way)
-    ∙ at.before.before.loop.invariant _ start.prepare.ensures
+    sym (descend-neither _ _ _ _ _ _ c.loop-entries-test.true stands way)
+    ∙ c.loop-entries.invariant _ c.prepare-held.ensures
 
 pub returns-in-Refused : goal.returns-in-Refused
-returns-in-Refused c = let turn = c in
-    let at = turn.before.before.before.before in
-    let start = at.before.before.before in
-    let stands = sym at.Node-at.ensures ∙ ap node turn.before.before.right.given.1 in
+returns-in-Refused c = let stands = sym c.node_at.ensures ∙ ap node c.in-Interior.is in
     let way =
-    turn-held _ _ _ start.prepare.ensures _ _ _ ∙ sym turn.turn.ensures
+    turn-held _ _ _ c.prepare-held.ensures _ _ _ ∙ sym c.turn.ensures
     ∙ ap way_of c.in-Refused.is in
-    sym (descend-refused _ _ _ _ _ _ at.before.loop-test.true stands way)
-    ∙ at.before.before.loop.invariant _ start.prepare.ensures
+    sym (descend-refused _ _ _ _ _ _ c.loop-entries-test.true stands way)
+    ∙ c.loop-entries.invariant _ c.prepare-held.ensures
 
 pub returns-in-Unknown : goal.returns-in-Unknown
-returns-in-Unknown c = let at = c in
-    let start = at.before.before.before in
-    let stands = sym at.Node-at.ensures ∙ ap node c.in-Unknown.is in
-    sym (descend_unknown _ _ _ _ _ _ at.before.loop-test.true stands)
-    ∙ at.before.before.loop.invariant _ start.prepare.ensures
+returns-in-Unknown c = let stands = sym c.node_at.ensures ∙ ap node c.in-Unknown.is in
+    sym (descend_unknown _ _ _ _ _ _ c.loop-entries-test.true stands)
+    ∙ c.loop-entries.invariant _ c.prepare-held.ensures
 
 pub returns : goal.returns
 returns c = sym (descend-spent _ _ _ _ _ _ c.loop-entries-test.false) ∙ c.loop-entries.invariant _ c.prepare-held.ensures

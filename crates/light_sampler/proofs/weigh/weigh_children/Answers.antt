@@ -5,14 +5,12 @@ use Rattle.light_sampler.proofs.weigh.weigh_children.Goals as goal
 
 pub returns-in-Importance-weigh_at : goal.returns-in-Importance-weigh_at
 unfolding weights ◌then◌
-returns-in-Importance-weigh_at c = let x = c in
-    rw (← x.before.before.weigh-at.ensures, x.x.given.1)
+returns-in-Importance-weigh_at c = rw (← c.weigh_at.ensures, c.in-Importance.is)
     (rw (← c.weigh_at-in-Importance.ensures, c.in-Importance-weigh_at.is))
 
 pub returns-in-Refused-weigh_at : goal.returns-in-Refused-weigh_at
 unfolding weights ◌then◌
-returns-in-Refused-weigh_at c = let x = c in
-    rw (← x.before.before.weigh-at.ensures, x.x.given.1)
+returns-in-Refused-weigh_at c = rw (← c.weigh_at.ensures, c.in-Importance.is)
     (rw (← c.weigh_at-in-Importance.ensures, c.in-Refused-weigh_at.is))
 
 pub returns-in-Refused : goal.returns-in-Refused

@@ -9,9 +9,10 @@ use Rattle.light_split.specs.Buckets.{Bucket, fill_buckets, empty_buckets}
 use Rattle.light_split.specs.AsCoded.Slots.{slot_list, ranged}
 use Rattle.light_split.proofs.BucketLaws.{blank, slots_at, slots_set, slots-none, fill-next, fill_end}
 use Rattle.light_split.proofs.buckets.fill_buckets.Goals as goal
+use Rattle.light_split.proofs.buckets.fill_buckets.Goals.{After-join_to, In-Bucket}
 
 -- one record more
-next : (c : goal.After-join_to)
+next : (c : After-join_to)
     → (let args = c.args in
     let loop = c.loop-i in
     fill_buckets args.block.now args.ends args.dimension empty_buckets args.handles.now ≡
@@ -35,7 +36,7 @@ next c =
     )
 
 -- the turn's test, far back
-more : (c : goal.In-Bucket)
+more : (c : In-Bucket)
     → c.loop-i.i
     < length c.args.handles.now
 more c = c.loop-i-test.true
@@ -48,7 +49,7 @@ unfolding ◌then◌
 returns-in-Lost c = rw (next (goal.at.returns-in-Lost c).After-join_to, c.in-Lost.is)
 
 pub overflow_add-i : goal.overflow_add-i
-overflow_add-i c = omega (arith, more c, c.well-formed)
+overflow_add-i c = omega (arith, more c, c.well_formed)
 
 pub loop-i-smaller : goal.loop-i-smaller
 loop-i-smaller c = omega (arith, more c)
@@ -57,12 +58,12 @@ pub loop-i-preserved : goal.loop-i-preserved
 unfolding ◌then◌
 loop-i-preserved c = let loop = c.loop-i in
     let k = c.bucket_of-bucket.result in (
-      simp length-set loop.invariant.0,
-      loop.invariant.1,
+      simp length-set c.loop-i.invariant.0,
+      c.loop-i.invariant.1,
       rw (
         next (goal.at.loop-i-preserved c).After-join_to,
         c.in-Bucket.is,
-        slots_set loop.buckets.slots k
+        slots_set c.loop-i.buckets.slots k
             c.in-Bucket.slot,
       ),
     )
@@ -70,6 +71,6 @@ loop-i-preserved c = let loop = c.loop-i in
 pub returns : goal.returns
 returns c = let loop = c.loop-i in
     let args = c.args in
-    rw loop.invariant.1 (sym (fill_end args.block.now args.ends args.dimension
-    (slot_list loop.buckets.slots) args.handles.now loop.i
-    (omega arith)) ∙ loop.invariant.2)
+    rw c.loop-i.invariant.1 (sym (fill_end args.block.now args.ends args.dimension
+    (slot_list c.loop-i.buckets.slots) args.handles.now c.loop-i.i
+    (omega arith)) ∙ c.loop-i.invariant.2)

@@ -12,17 +12,16 @@ unfolding div neg of_bits
 loop-i-init c = (omega arith, refl)
 
 pub loop-i-preserved : goal.loop-i-preserved
-loop-i-preserved c = let at = c in
-    let args = at.before.before.before.args in (
+loop-i-preserved c = let args = c.args in (
       omega arith,
       rw c.widen-ends.ensures
-          (sym (folded-next (widen args.block.now) at.loop.ends args.handles.now at.loop.i
-          (omega arith)) ∙ at.loop.invariant.1),
+          (sym (folded-next (widen args.block.now) c.loop-i.ends args.handles.now c.loop-i.i
+          (omega arith)) ∙ c.loop-i.invariant.1),
     )
 
 pub returns : goal.returns
 unfolding centroid_ends
 returns c = let loop = c.loop-i in
     let args = c.args in
-    sym (folded-all (widen args.block.now) loop.ends args.handles.now loop.i (omega arith)) ∙
-    loop.invariant.1
+    sym (folded-all (widen args.block.now) c.loop-i.ends args.handles.now c.loop-i.i (omega arith)) ∙
+    c.loop-i.invariant.1

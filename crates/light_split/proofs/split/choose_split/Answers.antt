@@ -6,22 +6,20 @@ use Rattle.light_split.proofs.split.choose_split.Goals as goal
 
 pub returns-in-Found : goal.returns-in-Found
 unfolding ◌then◌ div of_bits
-returns-in-Found c = let at = c in
-    let args = at.before.before.before.before.before.args in
+returns-in-Found c = let args = c.args in
     rw (
       choose_axes args.block.now args.handles.now,
-      ← at.before.before.centroid-ends.ensures,
-      ← at.before.combined-bounds.ensures,
+      ← c.centroid_ends-ends.ensures,
+      ← c.combined_bounds-parent.ensures,
     )
-    (rw (← at.three-axes.ensures, c.in-Found.is))
+    (rw (← c.three_axes.ensures, c.in-Found.is))
 
 pub returns-in-Lost : goal.returns-in-Lost
 unfolding ◌then◌ div of_bits
-returns-in-Lost c = let at = c in
-    let args = at.before.before.before.before.before.args in
+returns-in-Lost c = let args = c.args in
     rw (
       choose_axes args.block.now args.handles.now,
-      ← at.before.before.centroid-ends.ensures,
-      ← at.before.combined-bounds.ensures,
+      ← c.centroid_ends-ends.ensures,
+      ← c.combined_bounds-parent.ensures,
     )
-    (rw (← at.three-axes.ensures, c.in-Lost.is))
+    (rw (← c.three_axes.ensures, c.in-Lost.is))

@@ -15,7 +15,7 @@ loop-i-init c = let args = c.args in
     (omega arith, rw c.light_box-combined.ensures (combined-first args.block.now args.handles.now (omega arith)))
 
 pub overflow_add-i : goal.overflow_add-i
-overflow_add-i c = omega (arith, c.well-formed.1.0.0)
+overflow_add-i c = omega (arith, c.well_formed.1.0.0)
 
 pub loop-i-preserved : goal.loop-i-preserved
 loop-i-preserved c = let args = c.args in

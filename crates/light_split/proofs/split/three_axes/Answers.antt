@@ -4,23 +4,19 @@ use Rattle.light_split.proofs.split.three_axes.Goals as goal
 
 pub returns-in-Found-axis : goal.returns-in-Found-axis
 unfolding ◌then◌
-returns-in-Found-axis c = let second = c in
-    let first = second.before.before.before.before in
-    rw (
-      ← first.axis.ensures,
-      second.before.before.best.given.1,
-      ← second.axis2.ensures,
+returns-in-Found-axis c = rw (
+      ← c.axis.ensures,
+      c.in-Found.is,
+      ← c.axis-in-Found.ensures,
       c.in-Found-axis.is,
     ) c.axis-in-Found-axis.ensures
 
 pub returns-in-Lost-axis : goal.returns-in-Lost-axis
 unfolding ◌then◌
-returns-in-Lost-axis c = let second = c in
-    let first = second.before.before.before.before in
-    rw (
-      ← first.axis.ensures,
-      second.before.before.best.given.1,
-      ← second.axis2.ensures,
+returns-in-Lost-axis c = rw (
+      ← c.axis.ensures,
+      c.in-Found.is,
+      ← c.axis-in-Found.ensures,
       c.in-Lost-axis.is,
     )
 

@@ -10,8 +10,9 @@ use Rattle.light_rows.specs.Nodes.{max_nodes, node_count}
 use Rattle.packed_bvh.specs.Packed.{pack_check}
 use Rattle.packed_bvh.proofs.PackLaws.{count-known, reserve-small}
 use Rattle.packed_bvh.proofs.pack.check_pack.Goals as goal
+use Rattle.packed_bvh.proofs.pack.check_pack.Goals.{After-reserve, In-Count}
 
-module _ (c : goal.In-Count) where
+module _ (c : In-Count) where
   abbrev start : tie.Start
   start = c
 
@@ -23,7 +24,7 @@ module _ (c : goal.In-Count) where
 
 
 -- what is left is the room's test
-told : (c : goal.After-reserve) → let args = (start c.before).args in pack_check args.nodes.now args.room
+told : (c : After-reserve) → let args = (start c.before).args in pack_check args.nodes.now args.room
     ≡ cond (ltb args.room (4 * c.reserve.result)) (refused 3) (given c.in-Count.n)
 unfolding pack_check ◌then◌
 told c = rw (count c, ← c.reserve.ensures)

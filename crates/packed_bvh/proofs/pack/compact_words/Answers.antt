@@ -34,24 +34,20 @@ pair-requires-4 c = let low = small c.quantize_axis.ensures (quantize-axis-small
 
 pub returns : goal.returns
 unfolding compact_words encode_octahedral
-returns c = let directions = c in
-    let maxima = directions.before.before.before in
-    let mixed = maxima.before.before.before in
-    let minima = mixed.before.before.before in
-    rw (
-      minima.pair.ensures,
-      minima.before.before.quantize-down.ensures,
-      minima.before.quantize-down2.ensures,
-      mixed.pair2.ensures,
-      mixed.before.before.quantize-down3.ensures,
-      mixed.before.quantize-up.ensures,
-      maxima.pair3.ensures,
-      maxima.before.before.quantize-up2.ensures,
-      maxima.before.quantize-up3.ensures,
-      directions.pair4.ensures,
-      directions.before.before.quantize-axis.ensures,
-      directions.before.quantize-axis2.ensures,
-      minima.before.before.before.octahedral.ensures,
+returns c = rw (
+      c.pair.ensures,
+      c.quantize_down.ensures,
+      c.quantize_down-2.ensures,
+      c.pair-2.ensures,
+      c.quantize_down-3.ensures,
+      c.quantize_up.ensures,
+      c.pair-3.ensures,
+      c.quantize_up-2.ensures,
+      c.quantize_up-3.ensures,
+      c.pair-4.ensures,
+      c.quantize_axis.ensures,
+      c.quantize_axis-2.ensures,
+      c.octahedral-octahedral_direction.ensures,
       c.word_of_f32.ensures,
       c.cone_word.ensures,
     ) refl

@@ -6,14 +6,12 @@ use Rattle.packed_bvh.proofs.pack.pack_bounds.Goals as goal
 
 pub returns-in-Words : goal.returns-in-Words
 unfolding pack_bounds ◌then◌
-returns-in-Words c = let at = c in
-    rw (← at.before.before.normalize-by-division.ensures, at.d.given.1, c.in-Words.is)
+returns-in-Words c = rw (← c.normalize_by_division.ensures, c.in-Unit.is, c.in-Words.is)
     (ap given c.compact_words.ensures)
 
 pub returns-in-Refused-place : goal.returns-in-Refused-place
 unfolding pack_bounds ◌then◌
-returns-in-Refused-place c = let at = c in
-    rw (← at.before.before.normalize-by-division.ensures, at.d.given.1, c.in-Refused-place.is)
+returns-in-Refused-place c = rw (← c.normalize_by_division.ensures, c.in-Unit.is, c.in-Refused-place.is)
 
 pub returns-in-Refused : goal.returns-in-Refused
 unfolding pack_bounds ◌then◌

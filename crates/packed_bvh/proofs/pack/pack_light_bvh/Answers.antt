@@ -17,16 +17,17 @@ use Rattle.packed_bvh.proofs.PackLaws.{agreed-refused, agreed-nothing, agreed-la
 use Rattle.packed_bvh.proofs.PackLaws.{agreed-nodes, outcome-early, outcome_late, outcome-agreed}
 use Rattle.packed_bvh.proofs.PackLaws.{outcome-nothing}
 use Rattle.packed_bvh.proofs.pack.pack_light_bvh.Goals as goal
+use Rattle.packed_bvh.proofs.pack.pack_light_bvh.Goals.{Else-k-eq0, In-Count}
 
-abbrev count : goal.In-Count → ℕ
+abbrev count : In-Count → ℕ
 count c = c.in-Count.n
 
-checked : (c : goal.In-Count)
+checked : (c : In-Count)
     → pack_check c.args.nodes.now (length c.args.out.now) ≡ given (count c)
 checked c = sym c.check_pack.ensures ∙ ap counted c.in-Count.is
 
 -- few enough nodes, and their words fit
-fits : (c : goal.In-Count)
+fits : (c : In-Count)
     → (count c ≤ max_nodes) × (4 * packed_reserve (count c) ≤ length c.args.out.now)
 fits c =
     let (few, room, reserve) =
@@ -36,109 +37,83 @@ fits c =
 some_of : (n : ℕ) → (n ≡ 0 → ⊥) → 0 < n
 some_of n h = omega (arith, h)
 
-abbrev box-at : goal.Else-k-eq0 → Bounds3
+abbrev box-at : Else-k-eq0 → Bounds3
 box-at c = c.in-Bounds.all
 
 -- a box, and no nodes
 pub returns-then-n-eq0 : goal.returns-then-n-eq0
-returns-then-n-eq0 c = let box = c in
-    let at = box.before.before in
-    let args = c.args in
+returns-then-n-eq0 c = let args = c.args in
     let out = args.out.now in
-    rw box.all-bounds.given.1
-    (outcome_late args.nodes.now args.k (some box.all-bounds.given.0.0) out (count at) (checked at) 12
-    (agreed-empty (count at) args.k box.all-bounds.given.0.0 c.if-n-eq0.true) refl
-    (filled_none out (count at) c.if-n-eq0.true))
+    rw c.in-Bounds.is
+    (outcome_late args.nodes.now args.k (some c.in-Bounds.all) out (count (goal.at.returns-then-n-eq0 c).In-Count) (checked (goal.at.returns-then-n-eq0 c).In-Count) 12
+    (agreed-empty (count (goal.at.returns-then-n-eq0 c).In-Count) args.k c.in-Bounds.all c.if-n-eq0.true) refl
+    (filled_none out (count (goal.at.returns-then-n-eq0 c).In-Count) c.if-n-eq0.true))
 
 -- a refusal zeroes the reserve, which fits: with no lamps, with a box that is refused, with no box
 pub refuse-requires : goal.refuse-requires
-refuse-requires c = let box = c in
-    fits box.before.before.before
+refuse-requires c = fits (goal.at.refuse-requires c).In-Count
 
 -- a box and nodes, and no lamps
 pub returns-then-k-eq0 : goal.returns-then-k-eq0
-returns-then-k-eq0 c = let zeroed = c in
-    let then2 = zeroed.before.before in
-    let box = then2.before.before.before in
-    let at = box.before.before in
-    let args = c.args in
-    rw box.all-bounds.given.1
-    (outcome_late args.nodes.now args.k (some box.all-bounds.given.0.0) args.out.now (count at)
-    (checked at) 12
-    (agreed-dark (count at) args.k box.all-bounds.given.0.0 then2.before.if1.false then2.if2.true)
-    zeroed.refuse.ensures.0
-    zeroed.refuse.ensures.1)
+returns-then-k-eq0 c = let args = c.args in
+    rw c.in-Bounds.is
+    (outcome_late args.nodes.now args.k (some c.in-Bounds.all) args.out.now (count (goal.at.returns-then-k-eq0 c).In-Count)
+    (checked (goal.at.returns-then-k-eq0 c).In-Count) 12
+    (agreed-dark (count (goal.at.returns-then-k-eq0 c).In-Count) args.k c.in-Bounds.all c.if-n-eq0.false c.if-k-eq0.true)
+    c.refuse.ensures.result_value
+    c.refuse.ensures.out_after)
 
 pub pack_nodes-requires : goal.pack_nodes-requires
-pack_nodes-requires c = let check = c in
-    let at = boxed check.before in
-    record { n_bound = (fits at).0; n_nonzero = some_of (count at) check.before.before.if1.false; n_in_bounds = (fits at).1 }
+pack_nodes-requires c = let at = boxed c in
+    record { n_bound = (fits at).0; n_nonzero = some_of (count at) c.if-n-eq0.false; n_in_bounds = (fits at).1 }
 
 pub refuse-requires-in-Refused-check : goal.refuse-requires-in-Refused-check
-refuse-requires-in-Refused-check c = let check = c in
-    fits (goal.at.refuse-requires-in-Refused-check c).In-Count
+refuse-requires-in-Refused-check c = fits (goal.at.refuse-requires-in-Refused-check c).In-Count
 
 -- nothing at all
 pub returns-then-k-eq0-2 : goal.returns-then-k-eq0-2
-returns-then-k-eq0-2 c = let absent = c in
-    let at = absent.before.before in
-    let args = c.args in
-    rw absent.enum-told2.given.1
-    (outcome-nothing args.nodes.now args.k none args.out.now (count at) (checked at)
+returns-then-k-eq0-2 c = let args = c.args in
+    rw c.in-Absent.is
+    (outcome-nothing args.nodes.now args.k none args.out.now (count (goal.at.returns-then-k-eq0-2 c).In-Count) (checked (goal.at.returns-then-k-eq0-2 c).In-Count)
     c.if-n-eq0-2.true
-    (agreed-nothing (count at) args.k c.if-n-eq0-2.true c.if-k-eq0-2.true))
+    (agreed-nothing (count (goal.at.returns-then-k-eq0-2 c).In-Count) args.k c.if-n-eq0-2.true c.if-k-eq0-2.true))
 
 pub refuse-requires-in-Absent : goal.refuse-requires-in-Absent
-refuse-requires-in-Absent c = let absent = c in
-    fits absent.before.before
+refuse-requires-in-Absent c = fits (goal.at.refuse-requires-in-Absent c).In-Count
 
 -- the nodes
 pub returns-in-Valid : goal.returns-in-Valid
-returns-in-Valid c = let done = c in
-    let told = done.before.before in
-    let check = told.before.before in
-    let neither = check.before in
-    let at = boxed neither in
+returns-in-Valid c = let at = boxed c in
     let args = c.args in
-    let all = box-at neither in
-    rw neither.before.before.before.all-bounds.given.1
+    let all = box-at c in
+    rw c.in-Bounds.is
     (outcome-agreed args.nodes.now args.k (some all) args.out.now (count at) (checked at) (some all)
-    (agreed-valid (count at) args.k all neither.before.if1.false neither.if2.false
-    (sym check.check.ensures ∙ ap validity
-    told.enum_told.given.1)) done.pack-nodes.ensures.0 done.pack-nodes.ensures.1)
+    (agreed-valid (count at) args.k all c.if-n-eq0.false c.if-k-eq0.false
+    (sym c.check.ensures ∙ ap validity
+    c.in-Valid.is)) c.pack_nodes.ensures.result_value c.pack_nodes.ensures.out_after)
 
 -- a box that is refused
 pub returns-in-Refused-check : goal.returns-in-Refused-check
-returns-in-Refused-check c = let zeroed = c in
-    let told = zeroed.before.before.before in
-    let check = told.before.before in
-    let neither = check.before in
-    let at = boxed neither in
+returns-in-Refused-check c = let at = boxed c in
     let args = c.args in
-    let why = number told.why.given.0.0 in
-    rw neither.before.before.before.all-bounds.given.1
-    (outcome_late args.nodes.now args.k (some (box-at neither)) args.out.now (count at) (checked at) why
-    (agreed-refused (count at) args.k (box-at neither) neither.before.if1.false neither.if2.false why
-    (sym check.check.ensures ∙ ap validity
-    told.why.given.1)) zeroed.refuse2.ensures.0 zeroed.refuse2.ensures.1)
+    let why = number c.in-Refused-check.why in
+    rw c.in-Bounds.is
+    (outcome_late args.nodes.now args.k (some (box-at (goal.at.returns-in-Refused-check c).Else-k-eq0)) args.out.now (count at) (checked at) why
+    (agreed-refused (count at) args.k (box-at (goal.at.returns-in-Refused-check c).Else-k-eq0) c.if-n-eq0.false c.if-k-eq0.false why
+    (sym c.check.ensures ∙ ap validity
+    c.in-Refused-check.is)) c.refuse-in-Refused-check.ensures.result_value c.refuse-in-Refused-check.ensures.out_after)
 
 -- no box, and nodes or lamps
 pub returns-after-n-eq0-2 : goal.returns-after-n-eq0-2
-returns-after-n-eq0-2 c = let zeroed = c in
-    let joined = zeroed.before.before in
-    let absent = joined.before in
-    let at = absent.before.before in
-    let args = c.args in
-    rw absent.enum-told2.given.1
-    (outcome_late args.nodes.now args.k none args.out.now (count at) (checked at) 12
-    (⊎_elim (λ w. agreed-lamps (count at) args.k w.0.taken w.1.left)
-    (λ w. agreed-nodes (count at) args.k w.left) joined.if3.branch)
-    zeroed.refuse3.ensures.0 zeroed.refuse3.ensures.1)
+returns-after-n-eq0-2 c = let args = c.args in
+    rw c.in-Absent.is
+    (outcome_late args.nodes.now args.k none args.out.now (count (goal.at.returns-after-n-eq0-2 c).In-Count) (checked (goal.at.returns-after-n-eq0-2 c).In-Count) 12
+    (⊎_elim (λ w. agreed-lamps (count (goal.at.returns-after-n-eq0-2 c).In-Count) args.k w.0.taken w.1.left)
+    (λ w. agreed-nodes (count (goal.at.returns-after-n-eq0-2 c).In-Count) args.k w.left) c.if-n-eq0-2.branch)
+    c.refuse-in-Absent.ensures.result_value c.refuse-in-Absent.ensures.out_after)
 
 -- the first checks
 pub returns-in-Refused : goal.returns-in-Refused
-returns-in-Refused c = let told = c in
-    let count = told.before.before in
-    let args = count.before.before.before.args in
-    outcome-early args.nodes.now args.k _ args.out.now (number told.why2.given.0.0)
-    (sym count.check-pack.ensures ∙ ap counted told.why2.given.1)
+returns-in-Refused c = let args = c.args in
+    outcome-early args.nodes.now args.k _ args.out.now (number c.in-Refused.why)
+    (sym c.check_pack.ensures ∙ ap counted c.in-Refused.is)

@@ -7,24 +7,22 @@ use Rattle.packed_bvh.proofs.PackLaws.{node-placed, node-refused}
 use Rattle.packed_bvh.proofs.pack.pack_node.Goals as goal
 
 pub returns-in-Leaf : goal.returns-in-Leaf
-returns-in-Leaf c = let at = c in
-    let args = at.before.before.before.before.args in
-    let words = at.handle.given.0 in
+returns-in-Leaf c = let args = c.args in
+    let words = c.handle-1.given.0 in
     let n = leaf words.0 words.1.0 in
     c.pack_placed.ensures
     ∙ rw c.place_leaf.ensures
     (sym (node-placed args.count args.all (words_of args.nodes.now) args.index n
-    (sym at.before.before.Node-at.ensures ∙ ap node at.handle.given.1)))
+    (sym c.node_at.ensures ∙ ap node c.in-Leaf.is)))
 
 pub returns-in-Interior : goal.returns-in-Interior
-returns-in-Interior c = let at = c in
-    let args = at.before.before.before.before.args in
-    let words = at.left.given.0 in
+returns-in-Interior c = let args = c.args in
+    let words = c.left-1.given.0 in
     let n = interior words.0 words.1.0 words.1.1.0 in
     c.pack_placed-in-Interior.ensures
     ∙ rw c.place_interior.ensures
     (sym (node-placed args.count args.all (words_of args.nodes.now) args.index n
-    (sym at.before.before.Node-at.ensures ∙ ap node at.left.given.1)))
+    (sym c.node_at.ensures ∙ ap node c.in-Interior.is)))
 
 pub returns-in-Unknown : goal.returns-in-Unknown
 returns-in-Unknown c = let args = c.args in

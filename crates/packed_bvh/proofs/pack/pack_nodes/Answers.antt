@@ -11,12 +11,13 @@ use Rattle.packed_bvh.specs.AsCoded.PackedParts.{compact_list, node_packed}
 use Rattle.packed_bvh.proofs.PackLaws.{packing-none, packing-one, packing-length, reserve-some}
 use Rattle.packed_bvh.proofs.PackLaws.{reserve-small, outcome-refused, outcome-given}
 use Rattle.packed_bvh.proofs.pack.pack_nodes.Goals as goal
+use Rattle.packed_bvh.proofs.pack.pack_nodes.Goals.{At-loop-i, In-loop-i, Start}
 
-reserve : (s : goal.Start) → packed_reserve c.args.n ≡ packed_place c.args.n
-reserve s = reserve-some c.args.n c.requires.1.0
+reserve : (s : Start) → packed_reserve c.args.n ≡ packed_place c.args.n
+reserve s = reserve-some c.args.n c.requires.n_nonzero
 
 -- the lent bytes keep their length, so there is room for every node
-room : (c : goal.At-loop-i) → 4 * packed_place c.args.n ≤ length c.loop-i.out
+room : (c : At-loop-i) → 4 * packed_place c.args.n ≤ length c.loop-i.out
 room c =
     let s = start c in
     omega (
@@ -28,17 +29,15 @@ room c =
     )
 
 -- a turn: the node's place, and the limit
-turn : (c : goal.In-loop-i)
+turn : (c : In-loop-i)
     → (c.loop-i.i < c.args.n) × (c.args.n ≤ 8191)
-turn c = (c.loop-i-test.true, c.requires.0)
+turn c = (c.loop-i-test.true, c.requires.n_bound)
 
 pub write_header-requires : goal.write_header-requires
-write_header-requires c = let s = c in
-    omega (arith, reserve s, s.requires.1.1, s.requires.1.0)
+write_header-requires c = omega (arith, reserve (goal.at.write_header-requires c).Start, c.requires.n_in_bounds, c.requires.n_nonzero)
 
 pub loop-i-init : goal.loop-i-init
-loop-i-init c = let s = c in
-    (omega arith, packing-none s.args.all (words_of s.args.nodes.now) s.args.n _)
+loop-i-init c = (omega arith, packing-none c.args.all (words_of c.args.nodes.now) c.args.n _)
 
 pub pack_node-requires : goal.pack_node-requires
 pack_node-requires c = omega (arith, turn c)
@@ -59,61 +58,52 @@ pub loop-i-smaller : goal.loop-i-smaller
 loop-i-smaller c = omega (arith, turn (goal.at.loop-i-smaller c).In-loop-i)
 
 pub loop-i-preserved : goal.loop-i-preserved
-loop-i-preserved c = let write = c in
-    let words = write.before.before.before in
-    let in-loop = writing write.before in
+loop-i-preserved c = let in-loop = writing c in
     let args = c.args in
-    let told = sym words.before.before.pack-node.ensures ∙ ap node_packed words.c.given.1 in (
+    let told = sym c.pack_node.ensures ∙ ap node_packed c.in-Words.is in (
       omega (arith, turn in-loop),
-      packing-one args.all (words_of args.nodes.now) args.n (compact_list words.c.given.0.0)
-          in-loop.before.loop.inv.1 told refl write.write-compact.ensures,
+      packing-one args.all (words_of args.nodes.now) args.n (compact_list c.in-Words.c)
+          in-loop.before.loop.inv.1 told refl c.write_compact.ensures,
     )
 
 pub reserve-requires : goal.reserve-requires
-reserve-requires c = let in-loop = c in
-    c.requires.0
+reserve-requires c = c.requires.n_bound
 
 pub overflow_mul-reserve : goal.overflow_mul-reserve
 overflow_mul-reserve c = let s = start c in
     omega (arith, c.reserve.ensures, reserve-small s.args.n s.pre.0)
 
 pub zero_bytes-requires : goal.zero_bytes-requires
-zero_bytes-requires c = let at = c in
-    omega (arith, c.reserve.ensures, reserve (goal.at.zero_bytes-requires c).Start, room at)
+zero_bytes-requires c = omega (arith, c.reserve.ensures, reserve (goal.at.zero_bytes-requires c).Start, room (goal.at.zero_bytes-requires c).At-loop-i)
 
 pub shape_of-out-in-Refused : goal.shape_of-out-in-Refused
-shape_of-out-in-Refused c = let zeroed = c in
-    let args = c.args in
-    zeroed.zero-bytes.auto.0 ∙ packing-length args.all (words_of args.nodes.now) args.n c.loop-i.inv.1
+shape_of-out-in-Refused c = let args = c.args in
+    c.zero_bytes.auto.0 ∙ packing-length args.all (words_of args.nodes.now) args.n c.loop-i.inv.1
     ∙ c.write_header.kept.0
 
 pub returns-in-Refused : goal.returns-in-Refused
-returns-in-Refused c = let zeroed = c in
-    let why = zeroed.before.before.before.before in
-    let in-loop = refusing zeroed.before in
+returns-in-Refused c = let in-loop = refusing c in
     let at = in-loop.before in
     let s = start at in
-    let told = sym why.before.before.pack-node.ensures ∙ ap node_packed why.why.given.1 in
+    let told = sym c.pack_node.ensures ∙ ap node_packed c.in-Refused.is in
     outcome-refused s.args.all (words_of s.args.nodes.now) s.args.n s.args.out.now s.pre.1.0
     s.pre.1.1
-    at.before.before.before.write-header.ensures at.loop.inv.1 (number why.why.given.0.0)
+    at.before.before.before.write-header.ensures at.loop.inv.1 (number c.in-Refused.why)
     (turn in-loop).0 told
-    (rw (← zeroed.before.reserve.ensures) zeroed.zero-bytes.ensures)
+    (rw (← c.reserve.ensures) c.zero_bytes.ensures)
 
 pub reserve-requires-2 : goal.reserve-requires-2
-reserve-requires-2 c = c.requires.0
+reserve-requires-2 c = c.requires.n_bound
 
 pub shape_of-out : goal.shape_of-out
-shape_of-out c = let at = c in
-    let args = c.args in
-    packing-length args.all (words_of args.nodes.now) args.n at.loop.invariant.1
-    ∙ at.before.before.before.write-header.auto.0
+shape_of-out c = let args = c.args in
+    packing-length args.all (words_of args.nodes.now) args.n c.loop-i.invariant.1
+    ∙ c.write_header.auto.0
 
 pub returns : goal.returns
-returns c = let at = c in
-    let s = start at in
+returns c = let s = start c in
     rw c.reserve-2.ensures
     (outcome-given s.args.all (words_of s.args.nodes.now) s.args.n s.args.out.now s.pre.1.0
     s.pre.1.1
-    at.before.before.before.write-header.ensures at.loop.invariant.1
-    (omega (arith, at.loop.invariant.0, c.loop-i-test.false)))
+    c.write_header.ensures c.loop-i.invariant.1
+    (omega (arith, c.loop-i.invariant.0, c.loop-i-test.false)))

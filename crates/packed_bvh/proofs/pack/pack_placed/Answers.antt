@@ -7,9 +7,10 @@ use Rattle.light_rows.specs.RecordWords.{found}
 use Rattle.words.specs.Answers.{◌then◌}
 use Rattle.packed_bvh.specs.AsCoded.PackedParts.{pack_placed, pack_bounds, placed}
 use Rattle.packed_bvh.proofs.pack.pack_placed.Goals as goal
+use Rattle.packed_bvh.proofs.pack.pack_placed.Goals.{After-validate}
 
 -- the record is there: what is left is its check, and packing behind it
-module _ (c : goal.After-validate) where
+module _ (c : After-validate) where
   abbrev at : tie.After-bounds
   at = c
 
@@ -25,14 +26,12 @@ module _ (c : goal.After-validate) where
 
 pub returns-in-Valid : goal.returns-in-Valid
 unfolding ◌then◌
-returns-in-Valid c = let call = c in
-    rw (told call, sym call.validate.ensures ∙ ap validity c.in-Valid.is)
+returns-in-Valid c = rw (told c, sym c.validate.ensures ∙ ap validity c.in-Valid.is)
     c.pack_bounds.ensures
 
 pub returns-in-Refused : goal.returns-in-Refused
 unfolding ◌then◌
-returns-in-Refused c = let call = c in
-    rw (told call, sym call.validate.ensures ∙ ap validity c.in-Refused.is)
+returns-in-Refused c = rw (told c, sym c.validate.ensures ∙ ap validity c.in-Refused.is)
 
 pub returns-in-Nothing : goal.returns-in-Nothing
 unfolding pack_placed ◌then◌

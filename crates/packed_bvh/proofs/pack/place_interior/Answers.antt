@@ -12,15 +12,13 @@ returns-then-right-gt-INDEX_MAX c = rw (lt-ltb _ _ c.if-right-gt-INDEX_MAX.true)
 
 pub returns-then-left-index : goal.returns-then-left-index
 unfolding placing payload_check parent_check left_check ◌then◌
-returns-then-left-index c = let passed = c in
-    let narrow = le-ltb _ _ passed.before.if1.false in
-    rw (narrow, ← passed.is-parent.ensures, c.if-is_parent.true, eq-eqb _ _ c.if-left-index.true)
+returns-then-left-index c = let narrow = le-ltb _ _ c.if-right-gt-INDEX_MAX.false in
+    rw (narrow, ← c.is_parent.ensures, c.if-is_parent.true, eq-eqb _ _ c.if-left-index.true)
 
 pub returns-else-left-index : goal.returns-else-left-index
 unfolding placing payload_check parent_check left_check ◌then◌
-returns-else-left-index c = let passed = c in
-    let narrow = le-ltb _ _ passed.before.if1.false in
-    rw (narrow, ← passed.is-parent.ensures, c.if-is_parent.true, ne_eqb _ _ c.if-left-index.false)
+returns-else-left-index c = let narrow = le-ltb _ _ c.if-right-gt-INDEX_MAX.false in
+    rw (narrow, ← c.is_parent.ensures, c.if-is_parent.true, ne_eqb _ _ c.if-left-index.false)
 
 pub returns-else-is_parent : goal.returns-else-is_parent
 unfolding placing payload_check parent_check ◌then◌

@@ -5,12 +5,10 @@ use Rattle.packed_bvh.proofs.PackLaws.{reserve-small}
 use Rattle.packed_bvh.proofs.pack.refuse.Goals as goal
 
 pub overflow_mul-reserve : goal.overflow_mul-reserve
-overflow_mul-reserve c = let start = c in
-    omega (arith, c.reserve.ensures, reserve-small start.args.n start.requires.0)
+overflow_mul-reserve c = omega (arith, c.reserve.ensures, reserve-small c.args.n c.requires.n_bound)
 
 pub zero_bytes-requires : goal.zero_bytes-requires
-zero_bytes-requires c = let start = c in
-    omega (arith, c.reserve.ensures, start.requires.1)
+zero_bytes-requires c = omega (arith, c.reserve.ensures, c.requires.n_in_bounds)
 
 pub returns : goal.returns
 returns c = record { result_value = refl; out_after = rw (← c.reserve.ensures) c.zero_bytes.ensures }

@@ -10,26 +10,17 @@ pub shape_of-out : goal.shape_of-out
 shape_of-out c = ap length (returns c) ∙ simp length-sets
 
 pub returns : goal.returns
-returns c = let s8 = c in
-    let s7 = s8.before.before.before.before in
-    let s6 = s7.before.before.before.before.before in
-    let s5 = s6.before.before.before.before.before in
-    let s4 = s5.before.before.before.before.before in
-    let s3 = s4.before.before.before.before in
-    let s2 = s3.before.before.before.before.before in
-    let s1 = s2.before.before.before.before.before in
-    let start = s1.before.before.before.before in
-    let w1 = words-one (words-none start.args.out.now 0) s1.set_word.ensures
-    s1.before.word-of-f32.ensures refl (omega (arith, start.requires)) in
-    let w2 = words-one w1 s2.set-word2.ensures s2.before.word-of-f322.ensures refl (omega (arith, start.requires))
+returns c = let w1 = words-one (words-none c.args.out.now 0) c.set_word.ensures
+    c.word_of_f32.ensures refl (omega (arith, c.requires)) in
+    let w2 = words-one w1 c.set_word-2.ensures c.word_of_f32-2.ensures refl (omega (arith, c.requires))
     in
-    let w3 = words-one w2 s3.set-word3.ensures s3.before.word-of-f323.ensures refl (omega (arith, start.requires))
+    let w3 = words-one w2 c.set_word-3.ensures c.word_of_f32-3.ensures refl (omega (arith, c.requires))
     in
-    let w4 = words-one w3 s4.set-word4.ensures refl refl (omega (arith, start.requires)) in
-    let w5 = words-one w4 s5.set-word5.ensures s5.before.word-of-f324.ensures refl (omega (arith, start.requires))
+    let w4 = words-one w3 c.set_word-4.ensures refl refl (omega (arith, c.requires)) in
+    let w5 = words-one w4 c.set_word-5.ensures c.word_of_f32-4.ensures refl (omega (arith, c.requires))
     in
-    let w6 = words-one w5 s6.set-word6.ensures s6.before.word-of-f325.ensures refl (omega (arith, start.requires))
+    let w6 = words-one w5 c.set_word-6.ensures c.word_of_f32-5.ensures refl (omega (arith, c.requires))
     in
-    let w7 = words-one w6 s7.set-word7.ensures s7.before.word-of-f326.ensures refl (omega (arith, start.requires))
+    let w7 = words-one w6 c.set_word-7.ensures c.word_of_f32-6.ensures refl (omega (arith, c.requires))
     in
-    (words-one w7 s8.set-word8.ensures refl refl (omega (arith, start.requires))).is
+    (words-one w7 c.set_word-8.ensures refl refl (omega (arith, c.requires))).is

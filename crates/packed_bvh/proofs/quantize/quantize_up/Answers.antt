@@ -9,8 +9,9 @@ use Rattle.ieee.specs.Whole.{to_u32}
 use Rattle.packed_bvh.specs.Quantize.{steps_of, quantize_bounds}
 use Rattle.packed_bvh.proofs.QuantizeCuts.{cut_small, up-cut}
 use Rattle.packed_bvh.proofs.quantize.quantize_up.Goals as goal
+use Rattle.packed_bvh.proofs.quantize.quantize_up.Goals.{After-to_u32-n}
 
-module _ (c : goal.After-to_u32-n) where
+module _ (c : After-to_u32-n) where
   cut : c.to_u32-n.result ≡ to_u32
       (steps_of c.args.value c.args.min
       c.args.max)

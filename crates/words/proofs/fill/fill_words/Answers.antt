@@ -1,15 +1,15 @@
 -- `words::fill::fill_words` meets its contract. The loop's invariant: the places from the first up to `i` hold the
 -- value, and the others are as they came. Assumes nothing.
-use mathlib.Core.Logic.{⊎_elim}
 use native.Mathlib.Omega.{arith}
 use Rattle.words.proofs.FillLaws.{filling-none, filling-one, filling-all}
 use Rattle.words.proofs.fill.fill_words.Goals as goal
+use Rattle.words.proofs.fill.fill_words.Goals.{then-to-s, else-to-s, then-from-end, else-from-end}
 
 pub loop-i-init : goal.loop-i-init
 loop-i-init c = (
-  ⊎_elim (λ w. omega arith) (λ w. omega arith) c.if-to-s.branch,
-  ⊎_elim (λ w. omega arith) (λ w. omega arith) c.if-from-end.branch,
-  ⊎_elim (λ w. omega arith) (λ w. omega arith) c.if-from-end.branch,
+  elim c.if-to-s.branch [ then-to-s w ↦ omega arith | else-to-s w ↦ omega arith ],
+  elim c.if-from-end.branch [ then-from-end w ↦ omega arith | else-from-end w ↦ omega arith ],
+  elim c.if-from-end.branch [ then-from-end w ↦ omega arith | else-from-end w ↦ omega arith ],
   filling-none,
 )
 

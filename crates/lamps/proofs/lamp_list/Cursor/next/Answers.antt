@@ -5,8 +5,9 @@ use borrow.Author.Tests.{eq-eqb, ne_eqb}
 use Rattle.words.specs.Heads.{kind_of}
 use Rattle.lamps.specs.LampList.{lamp_at}
 use Rattle.lamps.proofs.lamp_list.Cursor.next.Goals as goal
+use Rattle.lamps.proofs.lamp_list.Cursor.next.Goals.{After-kind_of-kind}
 
-kind : (c : goal.After-kind_of-kind) →
+kind : (c : After-kind_of-kind) →
     kind_of (get_or c.args.list.now c.args.self.at 0) ≡
     c.kind_of-kind.result
 kind c = sym (c.kind_of-kind.ensures ∙ ap kind_of c.word_or_zero.ensures)
