@@ -40,10 +40,10 @@ returns-then-bins-m c = let args = c.args in
 
 pub build-requires : goal.build-requires
 build-requires c = (
-      room (goal.at.build-requires c).Else-work-m,
-      c.total.ensures ∙
-          total-is _ _ _ (sym c.in-Of.is ∙ c.add_up-s.ensures),
-    )
+  room (goal.at.build-requires c).Else-work-m,
+  c.total.ensures ∙
+      total-is _ _ _ (sym c.in-Of.is ∙ c.add_up-s.ensures),
+)
 
 pub returns-in-Of : goal.returns-in-Of
 unfolding tray

@@ -12,9 +12,7 @@ use Rattle.light_c.proofs.light_build.Goals.{After-build_light_bvh}
 -- ---- the place where the build has returned
 
 abbrev start : tie.After-build-light-bvh → tie.Start
-
 start c = c.before.before.before.before.before.before.before.before.before.before
-
 
 room : (c : After-build_light_bvh) → answer_reserve ≤ length (start c).args.answer.now
 room c = c.if-answer-lt-ANSWER_WORDS.false

@@ -23,9 +23,9 @@ bounds-answer-6 c = simp length-set (omega arith)
 
 pub returns : goal.returns
 returns c = rw (
-      ← c.word_of_f32.ensures,
-      ← c.word_of_f32-2.ensures,
-    )
+  ← c.word_of_f32.ensures,
+  ← c.word_of_f32-2.ensures,
+)
     (rw (
       ← c.word_of_f32-3.ensures,
       ← c.word_of_f32-4.ensures,

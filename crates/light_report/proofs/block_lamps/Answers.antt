@@ -10,10 +10,10 @@ returns-then-input-lt4 c = rw (lt-ltb _ 4 c.if-input-lt4.true)
 pub returns-then-lamps-gt-REPORT_LAMPS : goal.returns-then-lamps-gt-REPORT_LAMPS
 unfolding block_lamps
 returns-then-lamps-gt-REPORT_LAMPS c = rw (
-      le-ltb _ 4 c.if-input-lt4.false,
-      ← c.word_at.ensures,
-      ← c.wide-lamps.ensures,
-    )
+  le-ltb _ 4 c.if-input-lt4.false,
+  ← c.word_at.ensures,
+  ← c.wide-lamps.ensures,
+)
     (rw (lt-ltb _ _ c.if-lamps-gt-REPORT_LAMPS.true))
 
 pub returns-then-input-lamps : goal.returns-then-input-lamps

@@ -38,7 +38,6 @@ module _ (c : After-build_light_bvh) where
   table = c.build_light_bvh.ensures.table_after ∙ ap
       (λ (t : Answer LightBVH). tray table_written (get_or block 0 0) t start.args.table.now) sized
 
-
 pub returns-in-Tree : goal.returns-in-Tree
 unfolding powered
 returns-in-Tree c = record { result_value = rw (← sized c, ← c.build_light_bvh.ensures.result_value, c.in-Tree.is); nodes_after = nodes c; table_after = table c }

@@ -32,7 +32,6 @@ module _ (c : After-take_tree) where
   header = rw (fitting-all start.args.out.now 0 header_bytes (omega (arith, start.pre.1.2))) at
       said.put-text.ensures
 
-
 -- a tree with so many lamps and so many of them powered
 module _ (c : In-Tree-2) where
   abbrev call : tie.After-take-tree
@@ -49,7 +48,6 @@ module _ (c : In-Tree-2) where
 
   few : (k ≤ m) × (m ≤ report_lamps)
   few = sizes-few (start call).args.front.now m k sized
-
 
 -- its nodes' bytes
 module _ (c : After-put_words-nodes_end) where
@@ -72,7 +70,6 @@ module _ (c : After-put_words-nodes_end) where
       (words ∙ nodes-front front (m lamps) (k lamps) (sized lamps) _ _ _ (call lamps).take-tree.ensures.1.0)
       room c.put_words-nodes_end.ensures
 
-
 module _ (c : After-put_words-table_end) where
   abbrev before : tie.After-put-words
   before = c
@@ -91,7 +88,6 @@ module _ (c : After-put_words-table_end) where
       (words ∙ table-front front (m at) (k at) (sized at) _ _ _ (call at).take-tree.ensures.1.1)
       room c.put_words-table_end.ensures
 
-
 -- of a bad block
 module _ (c : After-put_refused) where
   abbrev why : tie.After-why
@@ -109,7 +105,6 @@ module _ (c : After-put_refused) where
       ended-first (tree call-2) _ none (start call-2).args.out.now (said call-2).put-text.result
       c.put_refused.result
       (start call-2).pre.1.2 (header call-2) c.put_refused.ensures
-
 
 pub returns-in-Tree : goal.returns-in-Tree
 returns-in-Tree c = let at = lamps (before c) in

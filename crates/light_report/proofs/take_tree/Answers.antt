@@ -23,7 +23,6 @@ module _ (c : In-Count-2) where
   count : block_lamps input ≡ given c.in-Count.lamps
   count = sym c.block_lamps.ensures ∙ ap counted c.in-Count.is
 
-
 pub make_tree-requires : goal.make_tree-requires
 make_tree-requires c = let (word, few, there) = lamps-there (input c) _ (count c) in
     let (block, nodes, table, work) = (start c).requires in
@@ -32,18 +31,18 @@ make_tree-requires c = let (word, few, there) = lamps-there (input c) _ (count c
 pub returns-in-Count-make_tree : goal.returns-in-Count-make_tree
 unfolding report_tree ◌then◌
 returns-in-Count-make_tree c = rw (count c) (
-      sizes-given _ _ _ (rw c.in-Count-make_tree.is at c.make_tree.ensures.result_value),
-      rw (front-word (input c) (block_bytes c.in-Count.lamps) (omega arith)) at
-          c.make_tree.ensures.1,
-    )
+  sizes-given _ _ _ (rw c.in-Count-make_tree.is at c.make_tree.ensures.result_value),
+  rw (front-word (input c) (block_bytes c.in-Count.lamps) (omega arith)) at
+      c.make_tree.ensures.1,
+)
 
 pub returns-in-Refused-make_tree : goal.returns-in-Refused-make_tree
 unfolding report_tree ◌then◌
 returns-in-Refused-make_tree c = rw (count c) (
-      sizes-refused _ _ (rw c.in-Refused-make_tree.is at c.make_tree.ensures.result_value),
-      rw (front-word (input c) (block_bytes c.in-Count.lamps) (omega arith)) at
-          c.make_tree.ensures.1,
-    )
+  sizes-refused _ _ (rw c.in-Refused-make_tree.is at c.make_tree.ensures.result_value),
+  rw (front-word (input c) (block_bytes c.in-Count.lamps) (omega arith)) at
+      c.make_tree.ensures.1,
+)
 
 pub returns-in-Refused : goal.returns-in-Refused
 unfolding report_tree ◌then◌ sizes

@@ -28,7 +28,6 @@ module _ (c : After-open_front) where
   table : length (table_bytes tree) ≤ length start.args.table-bytes.now
   table = omega (arith, (tree-room start.args.front.now tree refl).1, start.pre.0.1)
 
-
 module _ (c : In-Groups-2) where
   abbrev call : tie.After-open-front
   call = c
@@ -38,14 +37,12 @@ module _ (c : In-Groups-2) where
       × (c.in-Groups.table_end ≡ length (table_bytes (tree call)))
   long = groups-are (tree call) _ _ _ (sym c.in-Groups.is ∙ call.open-front.ensures.opened)
 
-
 module _ (c : In-Ended-2) where
   abbrev call-2 : tie.After-open-front
   call-2 = c
 
   long-2 : c.in-Ended.lines ≡ length (first_lines (tree call-2))
   long-2 = ended_is (tree call-2) _ (sym c.in-Ended.is ∙ call-2.open-front.ensures.opened)
-
 
 pub slice_bounds-write_first-end : goal.slice_bounds-write_first-end
 slice_bounds-write_first-end c = omega (arith, (long c).0, first (call c), (call c).open-front.auto.1.1.1.0)
@@ -62,12 +59,12 @@ slice_bounds-write_groups-end-then-write_first c = omega (arith, (long c).2, tab
 
 pub write_groups-requires : goal.write_groups-requires
 write_groups-requires c = let left = (call at).open-front.ensures in (
-      (
-        handed (start (call c)).args.node-bytes.now _ _ (nodes (call c)) left.nodes-laid (long c).1,
-        handed (start (call c)).args.table-bytes.now _ _ (table (call c)) left.table-laid (long c).2,
-      ),
-      rw (call c).open-front.auto.1.1.1.0 (start (call c)).pre.1.1,
-    )
+  (
+    handed (start (call c)).args.node-bytes.now _ _ (nodes (call c)) left.nodes-laid (long c).1,
+    handed (start (call c)).args.table-bytes.now _ _ (table (call c)) left.table-laid (long c).2,
+  ),
+  rw (call c).open-front.auto.1.1.1.0 (start (call c)).pre.1.1,
+)
 
 pub slice_bounds-write_first-end-in-Ended : goal.slice_bounds-write_first-end-in-Ended
 slice_bounds-write_first-end-in-Ended c = omega (arith, long-2 c, first (call-2 c), (call-2 c).open-front.auto.1.1.1.0)

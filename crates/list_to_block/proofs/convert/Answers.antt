@@ -30,7 +30,6 @@ module _ (c : After-build_light_bounds) where
   room : 0 + length bytes ≤ length start.args.out.now
   room = omega (arith, block_room_lem list block_room, start.pre.1)
 
-
 module _ (c : In-Count) where
   abbrev call : tie.After-build-light-bounds
   call = c
@@ -44,7 +43,6 @@ module _ (c : In-Count) where
       block-bytes (list call) _ (start call).pre.0 _ _ m (sym (ap counted c.in-Count.is) ∙ built.0)
       built.1
 
-
 pub overflow_mul-end : goal.overflow_mul-end
 overflow_mul-end c = record { fits = omega (arith, (block c).0) }
 
@@ -52,7 +50,7 @@ pub overflow_add-end : goal.overflow_add-end
 overflow_add-end c = record { fits = omega (arith, (block c).0) }
 
 pub slice_bounds-put_words-end : goal.slice_bounds-put_words-end
-slice_bounds-put_words-end c = omega ( arith, (block c).0, (call c).build-light-bounds.kept.1.0, (start (call c)).pre.0, )
+slice_bounds-put_words-end c = omega (arith, (block c).0, (call c).build-light-bounds.kept.1.0, (start (call c)).pre.0)
 
 pub returns-in-Count : goal.returns-in-Count
 returns-in-Count c = rw (sub-zero (block_words (m c)), (block c).1, fitting-all _ 0 (bytes (call c)) (room (call c))) at

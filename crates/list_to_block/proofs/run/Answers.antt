@@ -30,7 +30,6 @@ module _ (c : After-answer-end) where
             read.read-list.result.stray,
       )
 
-
 pub slice_bounds-write-end-2 : goal.slice_bounds-write-end-2
 slice_bounds-write-end-2 c = omega (arith, room c, c.answer-end.ensures.value, c.answer-end.auto.1.1.1.0)
 

@@ -28,10 +28,10 @@ above c {b} t h =
 pub returns-then-size-2 : goal.returns-then-size-2
 unfolding asin of_bits
 returns-then-size-2 c = rw (
-      sized c.args.x one64 c.abs-size.ensures c.if-size.true,
-      sized c.args.x half
-          c.abs-size.ensures c.if-size-2.true,
-    )
+  sized c.args.x one64 c.abs-size.ensures c.if-size.true,
+  sized c.args.x half
+      c.abs-size.ensures c.if-size-2.true,
+)
     (c.narrow.ensures ∙ ap narrow (c.arc.ensures ∙ ap arc c.widen.ensures))
 
 pub returns-then-x : goal.returns-then-x

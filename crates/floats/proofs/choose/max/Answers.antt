@@ -12,7 +12,7 @@ test : (c : Joined-x) →
 test c = elim c.if-x.branch [ then-x w ↦ rw (w.1, w.0.taken) | else-x w ↦ rw (w.1, w.0.left) ]
 
 pub returns-then-x-y : goal.returns-then-x-y
-returns-then-x-y c = rw ( fmax_tests c.args.x c.args.y, ← test c, c.if-x-y.true, )
+returns-then-x-y c = rw (fmax_tests c.args.x c.args.y, ← test c, c.if-x-y.true)
 
 pub returns-else-x-y : goal.returns-else-x-y
 returns-else-x-y c = rw (fmax_tests c.args.x c.args.y, ← test c, c.if-x-y.false)

@@ -12,7 +12,7 @@ test : (c : Joined-x) →
 test c = elim c.if-x.branch [ then-x w ↦ rw (w.1, w.0.taken) | else-x w ↦ rw (w.1, w.0.left) ]
 
 pub returns-then-y-x : goal.returns-then-y-x
-returns-then-y-x c = rw ( fmin_tests c.args.x c.args.y, ← test c, c.if-y-x.true, )
+returns-then-y-x c = rw (fmin_tests c.args.x c.args.y, ← test c, c.if-y-x.true)
 
 pub returns-else-y-x : goal.returns-else-y-x
 returns-else-y-x c = rw (fmin_tests c.args.x c.args.y, ← test c, c.if-y-x.false)

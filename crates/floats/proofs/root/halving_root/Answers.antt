@@ -22,12 +22,12 @@ overflow_mul-middle c = record { fits = square-fits (c.loop-range.low + c.loop-r
 
 pub loop-range-preserved-then-middle-n : goal.loop-range-preserved-then-middle-n
 loop-range-preserved-then-middle-n c = let at = c.loop-range in (
-      c.if-middle-n.true,
-      same_end c.args.n c.loop-range.low c.loop-range.range
-          c.loop-range.invariant.1,
-      omega arith,
-      omega arith,
-    )
+  c.if-middle-n.true,
+  same_end c.args.n c.loop-range.low c.loop-range.range
+      c.loop-range.invariant.1,
+  omega arith,
+  omega arith,
+)
 
 pub loop-range-preserved : goal.loop-range-preserved
 loop-range-preserved c = (c.loop-range.invariant.0, c.if-middle-n.false, omega arith, omega arith)

@@ -36,7 +36,7 @@ pub overflow_sub-q-then-square-n-2 : goal.overflow_sub-q-then-square-n-2
 overflow_sub-q-then-square-n-2 c = above c
 
 pub overflow_mul-q-then-square-n-2 : goal.overflow_mul-q-then-square-n-2
-overflow_mul-q-then-square-n-2 c = omega ( arith, square-fits (c.guess-q.result - 1) (omega (arith, c.guess-q.ensures)), )
+overflow_mul-q-then-square-n-2 c = omega (arith, square-fits (c.guess-q.result - 1) (omega (arith, c.guess-q.ensures)))
 
 pub overflow_sub-result : goal.overflow_sub-result
 overflow_sub-result c = above (goal.at.overflow_sub-result c).Then-square-n-2

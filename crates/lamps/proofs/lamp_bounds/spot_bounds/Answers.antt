@@ -15,10 +15,10 @@ returns-then-are_cosines c = rw (← c.validate_emission.ensures, c.in-Valid.is)
 pub returns-else-are_cosines : goal.returns-else-are_cosines
 unfolding spot_bounds ◌then◌
 returns-else-are_cosines c = rw (
-      ← c.validate_emission.ensures,
-      c.in-Valid.is,
-      ← c.are_cosines.ensures,
-    )
+  ← c.validate_emission.ensures,
+  c.in-Valid.is,
+  ← c.are_cosines.ensures,
+)
     (rw c.if-are_cosines.false)
 
 pub returns-in-Refused : goal.returns-in-Refused

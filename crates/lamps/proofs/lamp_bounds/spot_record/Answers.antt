@@ -20,7 +20,7 @@ returns-in-Refused-normalize c = rw (← c.point_box-bounds.ensures)
 pub returns-in-Refused : goal.returns-in-Refused
 unfolding spot_record ◌then◌
 returns-in-Refused c = rw (
-      ← c.point_box-bounds.ensures,
-      ← c.check.ensures,
-      c.in-Refused.is,
-    )
+  ← c.point_box-bounds.ensures,
+  ← c.check.ensures,
+  c.in-Refused.is,
+)

@@ -5,7 +5,7 @@ use Rattle.lamps.proofs.lamp_bounds.triangle_at.Goals as goal
 pub returns : goal.returns
 unfolding triangle_at
 returns c = rw (
-      ← c.vec_at.ensures,
-      ← c.vec_at-2.ensures,
-    )
+  ← c.vec_at.ensures,
+  ← c.vec_at-2.ensures,
+)
     (rw (← c.vec_at-3.ensures, ← c.vec_at-4.ensures, ← c.f32_of_word.ensures))

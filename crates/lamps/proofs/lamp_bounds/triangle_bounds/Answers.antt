@@ -5,8 +5,8 @@ use Rattle.lamps.proofs.lamp_bounds.triangle_bounds.Goals as goal
 pub returns : goal.returns
 unfolding triangle_bounds
 returns c = rw (
-      ← c.lesser.ensures,
-      ← c.lesser-2.ensures,
-      ← c.greater.ensures,
-      ← c.greater-2.ensures,
-    )
+  ← c.lesser.ensures,
+  ← c.lesser-2.ensures,
+  ← c.greater.ensures,
+  ← c.greater-2.ensures,
+)

@@ -6,9 +6,9 @@ use Rattle.lamps.proofs.lamp_bounds.triangle_record.Goals as goal
 pub returns-then-has_no_area : goal.returns-then-has_no_area
 unfolding triangle_record ◌then◌
 returns-then-has_no_area c = rw (
-      ← c.triangle_bounds-bounds.ensures,
-      ← c.check.ensures,
-    )
+  ← c.triangle_bounds-bounds.ensures,
+  ← c.check.ensures,
+)
     (rw (c.in-Valid.is, ← c.has_no_area.ensures, c.if-has_no_area.true))
 
 pub returns-else-has_no_area : goal.returns-else-has_no_area
@@ -25,7 +25,7 @@ returns-else-has_no_area c = rw (← c.triangle_bounds-bounds.ensures)
 pub returns-in-Refused : goal.returns-in-Refused
 unfolding triangle_record ◌then◌
 returns-in-Refused c = rw (
-      ← c.triangle_bounds-bounds.ensures,
-      ← c.check.ensures,
-      c.in-Refused.is,
-    )
+  ← c.triangle_bounds-bounds.ensures,
+  ← c.check.ensures,
+  c.in-Refused.is,
+)

@@ -16,10 +16,10 @@ use Rattle.lamps.proofs.lamp_list.check_lamps.Goals as goal
 pub loop-i-init : goal.loop-i-init
 unfolding in_place
 loop-i-init c = let list = c.args.list.now in (
-      c.wide-m.ensures ∙ c.word_or_zero.ensures,
-      omega (arith, c.wide-m.ensures, c.word_or_zero.type-inv),
-      ([], rw c.new-cursor.ensures (walked_none (lamp_walk list) (get_or list 0 0) 1), refl),
-    )
+  c.wide-m.ensures ∙ c.word_or_zero.ensures,
+  omega (arith, c.wide-m.ensures, c.word_or_zero.type-inv),
+  ([], rw c.new-cursor.ensures (walked_none (lamp_walk list) (get_or list 0 0) 1), refl),
+)
 
 pub returns-in-Refused : goal.returns-in-Refused
 returns-in-Refused c = let loop = c.loop-i in

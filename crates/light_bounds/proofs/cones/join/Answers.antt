@@ -9,7 +9,6 @@ use Rattle.light_bounds.proofs.cones.join.Goals.{After-dot}
 
 parallel : (c : After-dot) → (let s = c.args in dot (cross s.a s.b)
     (cross s.a s.b)) ≡ c.dot.result
-
 parallel c = sym (c.dot.ensures ∙ ap (λ (v : Vec3). dot v v) c.before.cross.ensures)
 
 pub returns-then-theta_o : goal.returns-then-theta_o

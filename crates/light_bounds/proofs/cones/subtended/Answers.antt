@@ -26,19 +26,19 @@ returns-then-d2-radius c = rw (size (goal.at.returns-then-d2-radius c).Start, di
 pub returns-then-d2 : goal.returns-then-d2
 unfolding bound_subtended_directions neg of_bits
 returns-then-d2 c = rw (
-      size (goal.at.returns-then-d2 c).Start,
-      distance
-          c,
-      c.if-d2-radius.false,
-      c.if-d2.true,
-    )
+  size (goal.at.returns-then-d2 c).Start,
+  distance
+      c,
+  c.if-d2-radius.false,
+  c.if-d2.true,
+)
 
 pub returns : goal.returns
 unfolding bound_subtended_directions
 returns c = rw (
-      size (goal.at.returns c).Start,
-      distance
-          c,
-      c.if-d2-radius.false,
-    )
+  size (goal.at.returns c).Start,
+  distance
+      c,
+  c.if-d2-radius.false,
+)
     (rw c.if-d2.false c.safe_sqrt.ensures)

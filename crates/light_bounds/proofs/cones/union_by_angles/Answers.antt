@@ -35,21 +35,21 @@ second c = sym c.min-2.ensures
 pub returns-then-min-theta_a : goal.returns-then-min-theta_a
 unfolding union_direction_cones
 returns-then-min-theta_a c = rw (
-      theta-a (goal.at.returns-then-min-theta_a c).After-acos-theta_a,
-      theta-b (goal.at.returns-then-min-theta_a c).After-acos-theta_b,
-      theta-d
-          c,
-      first (goal.at.returns-then-min-theta_a c).After-min,
-    )
+  theta-a (goal.at.returns-then-min-theta_a c).After-acos-theta_a,
+  theta-b (goal.at.returns-then-min-theta_a c).After-acos-theta_b,
+  theta-d
+      c,
+  first (goal.at.returns-then-min-theta_a c).After-min,
+)
     (rw c.if-min-theta_a.true)
 
 pub returns-then-min-theta_b : goal.returns-then-min-theta_b
 unfolding union_direction_cones
 returns-then-min-theta_b c = rw (
-      theta-a (goal.at.returns-then-min-theta_b c).After-acos-theta_a,
-      theta-b
-          c,
-    )
+  theta-a (goal.at.returns-then-min-theta_b c).After-acos-theta_a,
+  theta-b
+      c,
+)
     (rw (
       theta-d (goal.at.returns-then-min-theta_b c).After-angle_between-theta_d,
       first
@@ -62,10 +62,10 @@ returns-then-min-theta_b c = rw (
 pub returns : goal.returns
 unfolding union_direction_cones
 returns c = rw (
-      theta-a (goal.at.returns c).After-acos-theta_a,
-      theta-b
-          c,
-    )
+  theta-a (goal.at.returns c).After-acos-theta_a,
+  theta-b
+      c,
+)
     (rw (
       theta-d (goal.at.returns c).After-angle_between-theta_d,
       first

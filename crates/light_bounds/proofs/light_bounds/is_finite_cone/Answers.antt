@@ -21,11 +21,11 @@ returns-else-is_finite-2 c = rw (← c.is_finite_vec.ensures, c.if-is_finite_vec
 
 pub returns-else-is_finite : goal.returns-else-is_finite
 returns-else-is_finite c = rw (
-      ← c.is_finite_vec.ensures,
-      c.if-is_finite_vec.true,
-      ← c.is_finite.ensures,
-      c.if-is_finite.false,
-    )
+  ← c.is_finite_vec.ensures,
+  c.if-is_finite_vec.true,
+  ← c.is_finite.ensures,
+  c.if-is_finite.false,
+)
 
 pub returns-else-is_finite_vec : goal.returns-else-is_finite_vec
 returns-else-is_finite_vec c = rw (← c.is_finite_vec.ensures, c.if-is_finite_vec.false)

@@ -14,9 +14,7 @@ use Rattle.light_bvh.proofs.build.build_rows.Goals.{After-all_bounds, After-gath
 -- ---- the places: the handles are gathered, some there are, the tree is tried
 
 abbrev start : tie.After-gather-handles → tie.Start
-
 start c = c.before.before.before.before.before.before
-
 
 got : (c : After-gather_handles-k) → let args = (start c).args in
     Gathered args.block.now args.m args.nodes.now args.table.now args.work.now

@@ -11,11 +11,11 @@ use Rattle.light_bvh.proofs.build.check_build.Goals as goal
 pub returns-then-lights-m : goal.returns-then-lights-m
 unfolding build_check ◌then◌
 returns-then-lights-m c = rw (
-      ← c.check_layout.ensures,
-      c.in-Count.is,
-      ne_eqb _ _
-          c.if-lights-m.true,
-    )
+  ← c.check_layout.ensures,
+  c.in-Count.is,
+  ne_eqb _ _
+      c.if-lights-m.true,
+)
 
 pub check_reserves-requires : goal.check_reserves-requires
 check_reserves-requires c = let block = c.args.block.now in
@@ -28,22 +28,22 @@ check_reserves-requires c = let block = c.args.block.now in
 pub returns-in-Count-check_handles : goal.returns-in-Count-check_handles
 unfolding build_check ◌then◌
 returns-in-Count-check_handles c = rw (
-      ← c.check_layout.ensures,
-      c.in-Count.is,
-      eq-eqb _ _
-          c.if-lights-m.false,
-    )
+  ← c.check_layout.ensures,
+  c.in-Count.is,
+  eq-eqb _ _
+      c.if-lights-m.false,
+)
     (rw (← c.check_handles.ensures, c.in-Count-check_handles.is)
     c.check_reserves.ensures)
 
 pub returns-in-Refused-check_handles : goal.returns-in-Refused-check_handles
 unfolding build_check ◌then◌
 returns-in-Refused-check_handles c = rw (
-      ← c.check_layout.ensures,
-      c.in-Count.is,
-      eq-eqb _ _
-          c.if-lights-m.false,
-    )
+  ← c.check_layout.ensures,
+  c.in-Count.is,
+  eq-eqb _ _
+      c.if-lights-m.false,
+)
     (rw (← c.check_handles.ensures, c.in-Refused-check_handles.is))
 
 pub returns-in-Refused : goal.returns-in-Refused

@@ -10,8 +10,11 @@ loop-handles-init c = gathering-none c.args.block.now c.args.m c.args.handles.no
 
 pub loop-handles-preserved : goal.loop-handles-preserved
 loop-handles-preserved c = let loop = c.loop-handles in
-    elim c.if-is_powered.branch [ then-is_powered w ↦ rw (w.1, w.2) (gathering_in c.loop-handles.invariant (omega arith)
-    (sym c.is_powered.ensures ∙ w.0.taken)) | else-is_powered w ↦ rw (w.1, w.2) (gathering-out c.loop-handles.invariant (omega arith) (sym c.is_powered.ensures ∙ w.0.left)) ]
+    elim c.if-is_powered.branch [
+      | then-is_powered w ↦ rw (w.1, w.2) (gathering_in c.loop-handles.invariant (omega arith)
+          (sym c.is_powered.ensures ∙ w.0.taken))
+      | else-is_powered w ↦ rw (w.1, w.2) (gathering-out c.loop-handles.invariant (omega arith) (sym c.is_powered.ensures ∙ w.0.left))
+    ]
 
 pub shape_of-handles : goal.shape_of-handles
 shape_of-handles c = c.loop-handles.invariant.same

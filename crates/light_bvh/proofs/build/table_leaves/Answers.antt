@@ -25,29 +25,32 @@ loop-head-preserved c = let loop = c.loop-head in
     let place : c.head_at-head.result ≡ get_or nodes (node_place i) 0 = c.head_at-head.ensures in
     let kind : kind_of (get_or nodes (node_place i) 0) ≡ c.kind_of.result =
     sym (c.kind_of.ensures ∙ ap kind_of place) in
-    elim c.if-kind_of-eq1.branch [ then-kind_of-eq1 w ↦ let h : w.2.result ≡ handle_of (get_or nodes (node_place i) 0) = w.2.ensures ∙ w.1.ensures ∙ ap handle_of place in
-    rw w.4 (
-      omega arith,
-      length-set c.loop-head.table w.2.result i ∙ c.loop-head.invariant.1,
-      ap (λ (l : List ℕ). set l w.2.result i) c.loop-head.invariant.2 ∙ ap (λ (k : ℕ). set (tabled_below nodes i table) k i) h
-          ∙ sym (tabled-leaf nodes i table (kind ∙ w.0.taken)),
-    ) | else-kind_of-eq1 v ↦ ⊎_elim
-    (λ w.
-    let h : w.2.result ≡ handle_of (get_or nodes (node_place i) 0) = w.2.ensures ∙ w.1.ensures ∙ ap handle_of place in
-    let past : length c.loop-head.table ≤ handle_of (get_or nodes (node_place i) 0) = omega (arith, h, w.3.left) in
-    rw w.4 (
-      omega arith,
-      c.loop-head.invariant.1,
-      c.loop-head.invariant.2 ∙
-          sym (tabled-past nodes i table (kind ∙ w.0.taken) (rw c.loop-head.invariant.2 c past)),
-    ))
-    (λ w. rw w.1 (
-      omega arith,
-      c.loop-head.invariant.1,
-      c.loop-head.invariant.2 ∙
-          sym (tabled-other nodes i table (λ e. w.0.left (sym kind ∙ e))),
-    ))
-    v ]
+    elim c.if-kind_of-eq1.branch [
+      | then-kind_of-eq1 w ↦ let h : w.2.result ≡ handle_of (get_or nodes (node_place i) 0) = w.2.ensures ∙ w.1.ensures ∙ ap handle_of place in
+          rw w.4 (
+            omega arith,
+            length-set c.loop-head.table w.2.result i ∙ c.loop-head.invariant.1,
+            ap (λ (l : List ℕ). set l w.2.result i) c.loop-head.invariant.2 ∙ ap (λ (k : ℕ). set (tabled_below nodes i table) k i) h
+                ∙ sym (tabled-leaf nodes i table (kind ∙ w.0.taken)),
+          )
+      | else-kind_of-eq1 v ↦ ⊎_elim
+          (λ w.
+          let h : w.2.result ≡ handle_of (get_or nodes (node_place i) 0) = w.2.ensures ∙ w.1.ensures ∙ ap handle_of place in
+          let past : length c.loop-head.table ≤ handle_of (get_or nodes (node_place i) 0) = omega (arith, h, w.3.left) in
+          rw w.4 (
+            omega arith,
+            c.loop-head.invariant.1,
+            c.loop-head.invariant.2 ∙
+                sym (tabled-past nodes i table (kind ∙ w.0.taken) (rw c.loop-head.invariant.2 c past)),
+          ))
+          (λ w. rw w.1 (
+            omega arith,
+            c.loop-head.invariant.1,
+            c.loop-head.invariant.2 ∙
+                sym (tabled-other nodes i table (λ e. w.0.left (sym kind ∙ e))),
+          ))
+          v
+    ]
 
 pub shape_of-table : goal.shape_of-table
 shape_of-table c = c.loop-head.invariant.1

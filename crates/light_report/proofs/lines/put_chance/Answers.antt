@@ -29,7 +29,6 @@ module _ (c : After-put_hex) where
   end : start.args.at + 1 + c.put_hex.result ≡ start.args.at + 9
   end = omega (arith, digits.past, length_hex c.word_of_f32.result)
 
-
 pub overflow_add-result : goal.overflow_add-result
 overflow_add-result c = omega (arith, end c, (start c).pre)
 

@@ -24,7 +24,6 @@ module _ (c : After-put_decimal) where
   few : c.put_decimal.result ≤ 10
   few = omega (arith, handle.past, decimal-short start.args.handle)
 
-
 module _ (c : After-put_chance-named_at) where
   abbrev number : tie.After-put-decimal
   number = c
@@ -37,7 +36,6 @@ module _ (c : After-put_chance-named_at) where
         (arith, (start number).pre, number.put-decimal.kept.0, c.put_chance-named_at.auto.0),
   )
 
-
 module _ (c : After-put_chance-end) where
   abbrev first : tie.After-put-chance
   first = c
@@ -48,12 +46,11 @@ module _ (c : After-put_chance-end) where
   room : c.put_chance-end.result + 1 ≤ length c.put_chance-end.new.0
   room = omega (arith, short, (drawn first).1, c.put_chance-end.auto.0)
 
-
 pub overflow_add-drawn_at : goal.overflow_add-drawn_at
 overflow_add-drawn_at c = omega (arith, few c, (start c).pre)
 
 pub put_chance-named_at-requires : goal.put_chance-named_at-requires
-put_chance-named_at-requires c = omega ( arith, few c, (start c).requires, c.put_decimal.auto.0, )
+put_chance-named_at-requires c = omega (arith, few c, (start c).requires, c.put_decimal.auto.0)
 
 pub put_chance-end-requires : goal.put_chance-end-requires
 put_chance-end-requires c = omega (arith, (drawn c).0, (drawn c).1)
@@ -70,7 +67,7 @@ shape_of-out c = ap length (returns c).0.is ∙ simp length-sets
 pub returns : goal.returns
 unfolding line_bytes
 returns c = (
-      put_then (put_then (put_then (handle (number (first c))) (first c).put-chance.ensures.0)
-          c.put_chance-end.ensures.put) (put_one _ _ 10),
-      short c,
-    )
+  put_then (put_then (put_then (handle (number (first c))) (first c).put-chance.ensures.0)
+      c.put_chance-end.ensures.put) (put_one _ _ 10),
+  short c,
+)

@@ -17,7 +17,6 @@ module _ (c : After-put_text) where
       (start.args.at + c.put_text.result)
   none = put-fits (omega (arith, start.pre)) c.put_text.ensures.out_after c.put_text.ensures.value
 
-
 module _ (c : After-put_refused) where
   abbrev why : tie.After-shown2
   why = c
@@ -33,7 +32,6 @@ module _ (c : After-put_refused) where
 
   short : start-2.args.at + c.put_refused.result ≤ start-2.args.at + 29
   short = omega (arith, line.past, refusal-short (number why.shown2.given.0.0))
-
 
 pub returns-in-Lamp : goal.returns-in-Lamp
 returns-in-Lamp c = let put = c.put_lamp.ensures in

@@ -21,7 +21,7 @@ returns-else-table-eq0 c = rw (le-ltb _ _ c.if-table-gt-MAX_LAMPS.false, ← c.n
 pub returns-in-Refused : goal.returns-in-Refused
 unfolding pmf_check ◌then◌
 returns-in-Refused c = rw (
-      le-ltb _ _ c.if-table-gt-MAX_LAMPS.false,
-      ← c.node_count.ensures,
-      c.in-Refused.is,
-    )
+  le-ltb _ _ c.if-table-gt-MAX_LAMPS.false,
+  ← c.node_count.ensures,
+  c.in-Refused.is,
+)

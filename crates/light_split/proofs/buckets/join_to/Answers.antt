@@ -10,10 +10,10 @@ use Rattle.light_split.proofs.buckets.join_to.Goals as goal
 pub returns-in-Bounds : goal.returns-in-Bounds
 unfolding join_to ◌then◌
 returns-in-Bounds c = rw (
-      c.if-slot.true,
-      ← c.union.ensures,
-      c.in-Bounds.is,
-    )
+  c.if-slot.true,
+  ← c.union.ensures,
+  c.in-Bounds.is,
+)
 
 pub returns-in-Refused : goal.returns-in-Refused
 unfolding join_to ◌then◌

@@ -5,8 +5,8 @@ use Rattle.light_split.proofs.buckets.kr.Goals as goal
 pub returns : goal.returns
 unfolding kr
 returns c = rw (
-      ← c.max.ensures,
-      ← c.max-2.ensures,
-      ← c.max-3.ensures,
-      ← c.component.ensures,
-    )
+  ← c.max.ensures,
+  ← c.max-2.ensures,
+  ← c.max-3.ensures,
+  ← c.component.ensures,
+)

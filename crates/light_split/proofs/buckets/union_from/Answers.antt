@@ -33,8 +33,11 @@ unfolding ◌then◌
 loop-i-preserved c = let loop = c.loop-i in
     let ss = c.args.t1.slots in
     let h : c.loop-i.i < length ss = omega (arith, twelve (goal.at.loop-i-preserved c).Start) in
-    elim c.if-slot.branch [ then-slot w ↦ rw (w.5, ← c.loop-i.invariant, union-filled (slot_of c.loop-i.result) ss c.loop-i.i h w.0.taken)
-    (rw (← w.1.ensures, w.3.given.1)) | else-slot w ↦ rw (w.1, ← c.loop-i.invariant, union-empty (slot_of c.loop-i.result) ss c.loop-i.i h w.0.left) ]
+    elim c.if-slot.branch [
+      | then-slot w ↦ rw (w.5, ← c.loop-i.invariant, union-filled (slot_of c.loop-i.result) ss c.loop-i.i h w.0.taken)
+          (rw (← w.1.ensures, w.3.given.1))
+      | else-slot w ↦ rw (w.1, ← c.loop-i.invariant, union-empty (slot_of c.loop-i.result) ss c.loop-i.i h w.0.left)
+    ]
 
 pub returns : goal.returns
 returns c = let loop = c.loop-i in

@@ -13,11 +13,11 @@ loop-i-init c = (omega arith, refl)
 
 pub loop-i-preserved : goal.loop-i-preserved
 loop-i-preserved c = let args = c.args in (
-      omega arith,
-      rw c.widen-ends.ensures
-          (sym (folded-next (widen args.block.now) c.loop-i.ends args.handles.now c.loop-i.i
-          (omega arith)) ∙ c.loop-i.invariant.1),
-    )
+  omega arith,
+  rw c.widen-ends.ensures
+      (sym (folded-next (widen args.block.now) c.loop-i.ends args.handles.now c.loop-i.i
+      (omega arith)) ∙ c.loop-i.invariant.1),
+)
 
 pub returns : goal.returns
 unfolding centroid_ends

@@ -18,9 +18,12 @@ loop-i-preserved c = let args = c.args in
     let complement = goes-right args.block.now args.ends args.split in
     let read = parting-read complement c.loop-i.invariant in
     let told = sym c.goes_left.ensures in
-    elim c.if-goes_left.branch [ then-goes_left w ↦ rw (w.1, w.2, w.3, w.4)
-    (parting-left complement c.loop-i.invariant _ read (omega arith) (told ∙ w.0.taken)) | else-goes_left w ↦ rw (w.1, w.2, w.3, w.4)
-    (parting-right complement c.loop-i.invariant _ read (omega arith) (told ∙ w.0.left)) ]
+    elim c.if-goes_left.branch [
+      | then-goes_left w ↦ rw (w.1, w.2, w.3, w.4)
+          (parting-left complement c.loop-i.invariant _ read (omega arith) (told ∙ w.0.taken))
+      | else-goes_left w ↦ rw (w.1, w.2, w.3, w.4)
+          (parting-right complement c.loop-i.invariant _ read (omega arith) (told ∙ w.0.left))
+    ]
 
 pub shape_of-handles : goal.shape_of-handles
 shape_of-handles c = c.loop-i.invariant.same

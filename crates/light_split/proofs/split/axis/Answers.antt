@@ -16,8 +16,8 @@ returns-then-buckets c = rw (← c.component.ensures, ← c.component-2.ensures)
 pub returns : goal.returns
 unfolding axis ◌then◌
 returns c = rw (
-      ← c.component.ensures,
-      ← c.component-2.ensures,
-    )
+  ← c.component.ensures,
+  ← c.component-2.ensures,
+)
     (rw (c.if-component.false, ← c.fill_buckets-buckets.ensures, c.if-buckets.false)
     c.best_cut.ensures)

@@ -29,10 +29,13 @@ side c =
     let loop = c.loop-bucket in
     let ss = c.args.t1.slots in
     let h = c.loop-bucket-test.true in
-    elim c.if-slot.branch [ then-slot w ↦ joined-filled ss (twelve c) c.loop-bucket.bucket (slot_of c.loop-bucket.left) h w.0.taken c.loop-bucket.invariant.1 ∙
-    sym w.1.ensures
-    ∙ ap ranged w.3.given.1 ∙ ap (λ (s : Slot). given (slot_of s)) (sym w.5) | else-slot w ↦ joined-empty ss (twelve c) c.loop-bucket.bucket h w.0.left ∙ c.loop-bucket.invariant.1 ∙
-    ap (λ (s : Slot). given (slot_of s)) (sym w.1) ]
+    elim c.if-slot.branch [
+      | then-slot w ↦ joined-filled ss (twelve c) c.loop-bucket.bucket (slot_of c.loop-bucket.left) h w.0.taken c.loop-bucket.invariant.1 ∙
+          sym w.1.ensures
+          ∙ ap ranged w.3.given.1 ∙ ap (λ (s : Slot). given (slot_of s)) (sym w.5)
+      | else-slot w ↦ joined-empty ss (twelve c) c.loop-bucket.bucket h w.0.left ∙ c.loop-bucket.invariant.1 ∙
+          ap (λ (s : Slot). given (slot_of s)) (sym w.1)
+    ]
 
 pub loop-bucket-init : goal.loop-bucket-init
 unfolding union_range cuts

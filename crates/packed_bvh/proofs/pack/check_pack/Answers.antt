@@ -22,7 +22,6 @@ module _ (c : In-Count) where
   few : c.in-Count.n ≤ max_nodes
   few = (count-known start.args.nodes.now _ count).0
 
-
 -- what is left is the room's test
 told : (c : After-reserve) → let args = (start c.before).args in pack_check args.nodes.now args.room
     ≡ cond (ltb args.room (4 * c.reserve.result)) (refused 3) (given c.in-Count.n)

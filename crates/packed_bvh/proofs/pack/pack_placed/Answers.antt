@@ -23,7 +23,6 @@ module _ (c : After-validate) where
   unfolding pack_placed ◌then◌
   told = rw (sym at.before.before.bounds-at.ensures ∙ ap (found 12) at.bounds.given.1)
 
-
 pub returns-in-Valid : goal.returns-in-Valid
 unfolding ◌then◌
 returns-in-Valid c = rw (told c, sym c.validate.ensures ∙ ap validity c.in-Valid.is)

@@ -5,9 +5,9 @@ use Rattle.packed_bvh.proofs.quantize.octahedral.Goals as goal
 pub returns : goal.returns
 unfolding octahedral
 returns c = rw (
-      ← c.abs.ensures,
-      ← c.abs-2.ensures,
-      ← c.abs-3.ensures,
-      ← c.divide_vector.ensures,
-      ← c.fold.ensures,
-    )
+  ← c.abs.ensures,
+  ← c.abs-2.ensures,
+  ← c.abs-3.ensures,
+  ← c.divide_vector.ensures,
+  ← c.fold.ensures,
+)

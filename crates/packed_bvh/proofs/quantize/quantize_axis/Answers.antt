@@ -16,14 +16,14 @@ int_to_float-n c = rw (le-leb c.to_u32-n.result (2 ^ 24) (omega arith)) tt
 
 pub returns-then-n-step : goal.returns-then-n-step
 returns-then-n-step c = rw (
-      ← axis-cut _ c.to_u32-n.result c.to_u32-n.ensures
-          c.if-n-ge65535.false,
-      c.if-n-step.true,
-    )
+  ← axis-cut _ c.to_u32-n.result c.to_u32-n.ensures
+      c.if-n-ge65535.false,
+  c.if-n-step.true,
+)
 
 pub returns-else-n-step : goal.returns-else-n-step
 returns-else-n-step c = rw (
-      ← axis-cut _ c.to_u32-n.result c.to_u32-n.ensures
-          c.if-n-ge65535.false,
-      c.if-n-step.false,
-    )
+  ← axis-cut _ c.to_u32-n.result c.to_u32-n.ensures
+      c.if-n-ge65535.false,
+  c.if-n-step.false,
+)

@@ -20,7 +20,6 @@ module _ (c : After-to_u32-n) where
   small : c.to_u32-n.result ≤ 65535
   small = rw cut (cut_small _ _ _ c.if-min-max.false)
 
-
 pub returns-then-min-max : goal.returns-then-min-max
 unfolding quantize_bounds
 returns-then-min-max c = rw c.if-min-max.true
@@ -34,16 +33,16 @@ overflow_add-result c = omega (arith, small c)
 
 pub returns-then-n-step : goal.returns-then-n-step
 returns-then-n-step c = rw (
-      ← up-cut _ _ _ c.if-min-max.false c.to_u32-n.result
-          (cut c),
-      ← c.steps-step.ensures,
-      c.if-n-step.true,
-    )
+  ← up-cut _ _ _ c.if-min-max.false c.to_u32-n.result
+      (cut c),
+  ← c.steps-step.ensures,
+  c.if-n-step.true,
+)
 
 pub returns-else-n-step : goal.returns-else-n-step
 returns-else-n-step c = rw (
-      ← up-cut _ _ _ c.if-min-max.false c.to_u32-n.result
-          (cut c),
-      ← c.steps-step.ensures,
-      c.if-n-step.false,
-    )
+  ← up-cut _ _ _ c.if-min-max.false c.to_u32-n.result
+      (cut c),
+  ← c.steps-step.ensures,
+  c.if-n-step.false,
+)

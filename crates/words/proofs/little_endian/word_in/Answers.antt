@@ -19,7 +19,6 @@ module _ (c : goal.After-shared_slice_known-4-1) where
       let known = c.shared_slice_known-4-1.given in
       ((known at).fits, (known (at + 1)).fits, (known (at + 2)).fits, (known (at + 3)).fits)
 
-
 pub overflow_cast-a : goal.overflow_cast-a
 overflow_cast-a c = Fits-widen tt (c.shared_slice_known-1.given _)
 

@@ -24,19 +24,19 @@ returns-then-kind-eq2 c = rw (kind (goal.at.returns-then-kind-eq2 c).After-kind_
 pub returns-then-kind-eq3 : goal.returns-then-kind-eq3
 unfolding lamp_at
 returns-then-kind-eq3 c = rw (
-      kind (goal.at.returns-then-kind-eq3 c).After-kind_of-kind,
-      ne_eqb _ _ c.if-kind-eq1.false,
-      ne_eqb _ _
-          c.if-kind-eq2.false,
-    )
+  kind (goal.at.returns-then-kind-eq3 c).After-kind_of-kind,
+  ne_eqb _ _ c.if-kind-eq1.false,
+  ne_eqb _ _
+      c.if-kind-eq2.false,
+)
     (rw (eq-eqb _ _ c.if-kind-eq3.true) c.group_at.ensures)
 
 pub returns : goal.returns
 unfolding lamp_at
 returns c = rw (
-      kind (goal.at.returns c).After-kind_of-kind,
-      ne_eqb _ _ c.if-kind-eq1.false,
-      ne_eqb _ _
-          c.if-kind-eq2.false,
-      ne_eqb _ _ c.if-kind-eq3.false,
-    )
+  kind (goal.at.returns c).After-kind_of-kind,
+  ne_eqb _ _ c.if-kind-eq1.false,
+  ne_eqb _ _
+      c.if-kind-eq2.false,
+  ne_eqb _ _ c.if-kind-eq3.false,
+)

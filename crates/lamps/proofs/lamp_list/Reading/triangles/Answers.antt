@@ -11,7 +11,7 @@ unfolding triangles_of
 returns-then-to-from c = elim c.then-to-from.branch [ then-to-from w ↦ rw (lt-leb _ _ w.taken) | else-to-from w ↦ rw (le-leb _ _ w.0.left, lt-leb _ _ (ltb-true _ _ w.1.taken)) ]
 
 pub offset_bounds-list-from : goal.offset_bounds-list-from
-offset_bounds-list-from c = omega ( arith, ltb-false (length c.args.list.now) c.args.self.next.at c.if-list-to.false-raw, )
+offset_bounds-list-from c = omega (arith, ltb-false (length c.args.list.now) c.args.self.next.at c.if-list-to.false-raw)
 
 pub returns : goal.returns
 unfolding triangles_of
