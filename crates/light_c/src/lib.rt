@@ -1,7 +1,7 @@
 // The light tree for C and Rust, as `include/light_tree.h` tells it: a block from a lamp list, build, draw, chance by
 // name, packing, the power alias table, and the library's version. Each but the last is its function with numbers and
 // slices for arguments and a number for its answer, and promises what that promises. Draw, chance and packing read and
-// write a tree as bytes, little-endian; the others take words.
+// write a tree as bytes, little-endian; the others take words. `light_exports` exports them.
 #![tactic(auto)]
 
 ghost use Rattle.std.specs.Prelude.{◌≡◌, List, [], ◌∷◌, ℕ, ◌*◌, ◌^◌, ◌≤◌, ◌<◌, get_or, length};
@@ -40,8 +40,7 @@ use words::refusals::{Refusal, refusal_number};
 // ---- the lamp list to the bounds block
 
 // 0, or the refusal's number.
-#[unsafe(no_mangle)]
-pub extern "C" fn light_bounds_block(list: &[u32], block: &mut [u32]) -> u32
+pub fn light_bounds_block(list: &[u32], block: &mut [u32]) -> u32
     ensures value { result ≡ code (build_light_bounds list.now (length block.old)) }
     ensures block_after { block.new ≡ tray pack_exhaustive_bounds (block_words (get_or list.now 0 0))
         (build_light_bounds list.now (length block.old)) block.old }
@@ -92,8 +91,7 @@ fn refuse_short(lights: usize, block: &[u32], nodes: usize, table: usize, work: 
 }
 
 // 0, with k and the box in the answer's seven words, zeros for an absent box; or the refusal's number.
-#[unsafe(no_mangle)]
-pub extern "C" fn light_build(
+pub fn light_build(
     lights: usize,
     block: &[u32],
     nodes: &mut [u32],
@@ -161,8 +159,7 @@ fn draw_code(answer: Drawn) -> u64
 }
 
 // The light above its chance's bits; 2^62 where none is drawn, 2^63 and the refusal's number.
-#[unsafe(no_mangle)]
-pub extern "C" fn light_sample(
+pub fn light_sample(
     nodes: &[u8],
     px: f32,
     py: f32,
@@ -187,8 +184,7 @@ fn chance_code(answer: Chance) -> u64
 }
 
 // The chance's bits, or 2^32 and the refusal's number.
-#[unsafe(no_mangle)]
-pub extern "C" fn light_pmf(
+pub fn light_pmf(
     nodes: &[u8],
     table: &[u8],
     px: f32,
@@ -228,8 +224,7 @@ fn packed_code(answer: Packed) -> u64
 
 // How many words were packed, 2^32 where there is no tree, or 2^33 and the refusal's number. There is no overall box
 // where `present` is 0.
-#[unsafe(no_mangle)]
-pub extern "C" fn light_pack(
+pub fn light_pack(
     nodes: &[u8],
     k: usize,
     present: u32,
@@ -257,8 +252,7 @@ pub extern "C" fn light_pack(
 // ---- the power alias table
 
 // 0, or the refusal's number.
-#[unsafe(no_mangle)]
-pub extern "C" fn light_alias_table(weights: &[u32], bins: &mut [u32], work: &mut [u32]) -> u32
+pub fn light_alias_table(weights: &[u32], bins: &mut [u32], work: &mut [u32]) -> u32
     ensures value { result ≡ code (build_power_alias_table weights.now (length bins.old)
         (length work.old)) }
     ensures bins_after { bins.new ≡ tray bin_words (3 * length weights.now)
@@ -281,8 +275,7 @@ pub const MINOR: u32 = 1;
 pub const PATCH: u32 = 0;
 
 // 10,000 times the major part, 100 times the minor one, and the patch.
-#[unsafe(no_mangle)]
-pub extern "C" fn light_version() -> u32
+pub fn light_version() -> u32
     ensures { result ≡ library_version }
 {
     MAJOR * 10_000 + MINOR * 100 + PATCH
