@@ -23,7 +23,7 @@ to n h = mul-lt-mul_of_pos_right h (lit< tt)
 -- what is kept of the root's digits
 kept : (c : After-shifted_to_even-kept) →
     c.shifted_to_even-kept.result ≡ closest (sticky (c.normalised-s.result.digits * 2 ^ 54)) (2 ^ 2)
-kept c = c.shifted-to-even.ensures ∙ ap (λ (z : ℕ). closest z (2 ^ 2)) c.before.wide-sticky-root.ensures
+kept c = c.shifted_to_even-kept.ensures ∙ ap (λ (z : ℕ). closest z (2 ^ 2)) c.wide_sticky_root.ensures
 
 kept-le : (c : After-shifted_to_even-kept) → c.shifted_to_even-kept.result ≤ 2 ^ 53
 kept-le c =

@@ -9,7 +9,7 @@ use Rattle.ieee.specs.Laws.SqrtWords.{sqrt-own, sqrt-none, sqrt_subnormal, sqrt-
 use Rattle.floats.proofs.sqrt.sqrt_word.Goals as goal
 
 pub returns-then-w-eq0 : goal.returns-then-w-eq0
-returns-then-w-eq0 c = sqrt-own binary32 _ (omega arith) (⊎_map (λ z. z.taken) (λ z. eqb-true c.args.w _ z.1.taken) c.then-w-eq0.branch)
+returns-then-w-eq0 c = sqrt-own binary32 _ (omega arith) (⊎_map (λ z. z) (λ z. z.1) c.then-w-eq0.either)
 
 pub returns-then-w-gt2139095040 : goal.returns-then-w-gt2139095040
 returns-then-w-gt2139095040 c = unfold to_bits in sqrt-none binary32 _ (omega arith) c.if-w-eq0.false c.if-w-gt2139095040.true
