@@ -3,7 +3,7 @@
 use mathlib.Core.Path.{◌∙◌}
 use mathlib.Core.Logic.{⊎_map}
 use native.Mathlib.Omega.{arith}
-use borrow.Author.Tests.{eqb-true, eqb-false}
+use borrow.Author.Tests.{eqb-false}
 use lib.Ieee.{binary64, to_bits}
 use Rattle.ieee.specs.Laws.SqrtWords.{sqrt-own, sqrt-none, sqrt_subnormal, sqrt-normal}
 use Rattle.floats.proofs.sqrt.sqrt64_word.Goals as goal

@@ -2,7 +2,6 @@
 -- nothing.
 use mathlib.Core.Logic.{⊎_elim}
 use native.Mathlib.Omega.{arith}
-use borrow.Author.Tests.{ltb-true, ltb-false}
 use lib.Dec.{lit≤}
 use Rattle.ieee.specs.Whole.{to_usize}
 use Rattle.ieee.specs.Laws.CastWords.{cast-below, cast-out, cast-above, cast-part, cast-shift}
