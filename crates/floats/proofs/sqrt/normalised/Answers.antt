@@ -54,7 +54,8 @@ pub overflow_sub-exponent : goal.overflow_sub-exponent
 overflow_sub-exponent c = omega (arith, (found c).few)
 
 pub returns : goal.returns
-returns c = let n = found c in
+returns c =
+    let n = found c in
     let b = bounds c in
     let l : shift c ≤ c.args.e = omega arith in
     record {

@@ -17,8 +17,10 @@ use Rattle.floats.proofs.whole.next_whole_word.Goals.{After-power-part}
 -- the weight of a one among the digits
 part : (c : After-power-part) → (1 ≤ c.power-part.result) × (c.power-part.result ≤ 2 ^ 23)
 part c =
-    let x = c.args.w % 2 ^ 31 / 2 ^ 23 in
-    (rw c.power-part.ensures (pow_pos (150 - x)), rw c.power-part.ensures (pow_mono {i = 150 - x} {j = 23} (omega arith)))
+    let x = c.args.w % 2 ^ 31 / 2 ^ 23 in (
+      rw c.power-part.ensures (pow_pos (150 - x)),
+      rw c.power-part.ensures (pow_mono {i = 150 - x} {j = 23} (omega arith)),
+    )
 
 pub returns-then-a-gt2139095040 : goal.returns-then-a-gt2139095040
 unfolding next_whole to_bits
@@ -29,12 +31,14 @@ returns-then-a-ge1258291200 c = next_whole-whole c.args.w (omega arith) c.if-a-g
     c.if-a-gt2139095040.false
 
 pub returns-then-a-eq0 : goal.returns-then-a-eq0
-returns-then-a-eq0 c = let a = c.args in
+returns-then-a-eq0 c =
+    let a = c.args in
     ⊎_elim (λ z. next_whole-zero a.w (omega arith) c.if-a-lt1065353216.true a.away z)
     (λ z. next_whole-none a.w (omega arith) c.if-a-lt1065353216.true a.away (rw z.1 refl)) c.then-a-eq0.either
 
 pub returns-then-a-lt1065353216 : goal.returns-then-a-lt1065353216
-returns-then-a-lt1065353216 c = let a = c.args in
+returns-then-a-lt1065353216 c =
+    let a = c.args in
     next_whole-one a.w (omega arith) c.if-a-lt1065353216.true a.away (rw c.if-not-away.false refl) c.if-a-eq0.false
 
 pub overflow_sub-b : goal.overflow_sub-b

@@ -9,12 +9,14 @@ use Rattle.floats.proofs.whole.to_usize_word.Goals as goal
 
 pub returns-then-w-lt1065353216 : goal.returns-then-w-lt1065353216
 unfolding to_usize
-returns-then-w-lt1065353216 c = let w = c.args.w in
+returns-then-w-lt1065353216 c =
+    let w = c.args.w in
     ⊎_elim (cast-below w 64) (λ l. cast-out w 64 l.1) c.then-w-lt1065353216.either
 
 pub returns-then-w-ge1602224128 : goal.returns-then-w-ge1602224128
 unfolding to_usize
-returns-then-w-ge1602224128 c = let w = c.args.w in
+returns-then-w-ge1602224128 c =
+    let w = c.args.w in
     cast-above w 64 c.if-w-ge1602224128.true c.if-w-gt2139095040.false
 
 pub returns-then-field-lt150 : goal.returns-then-field-lt150
