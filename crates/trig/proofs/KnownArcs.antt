@@ -15,7 +15,8 @@ use Rattle.trig.specs.Trig.{acos, asin, twice_arc}
 -- a function at an argument whose word is known
 pub at-word : (f : Float → Float) (x r : Float) (w v : ℕ) → fits binary32 x ≡ true → v ≡ to_bits binary32 x → v ≡ w →
     r ≡ f (of_bits binary32 w) → r ≡ f x
-at-word f x r w v h a b e = e ∙ ap f (ap (of_bits binary32) (sym b ∙ a) ∙ of_bits-to_bits binary32 x (subst T (sym h) tt))
+at-word f x r w v h a b e =
+    e ∙ ap f (ap (of_bits binary32) (sym b ∙ a) ∙ of_bits-to_bits binary32 x (subst T (sym h) tt))
 
 pub acos-one : of_bits binary32 0 ≡ acos (of_bits binary32 0x3f80_0000)
 unfolding of_bits to_bits of_int span climb size odd units round neg sum add sub mul div lt eq le fabs narrow root isqrt

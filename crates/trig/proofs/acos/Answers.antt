@@ -6,7 +6,8 @@ use Rattle.trig.proofs.acos.Goals as goal
 
 pub returns-then-word-eq1065353216 : goal.returns-then-word-eq1065353216
 unfolding of_bits
-returns-then-word-eq1065353216 c = at-word acos _ _ _ _ c.well_formed.0.1 c.word_of_f32-word.ensures c.if-word-eq1065353216.true acos-one
+returns-then-word-eq1065353216 c =
+    at-word acos _ _ _ _ c.well_formed.0.1 c.word_of_f32-word.ensures c.if-word-eq1065353216.true acos-one
 
 pub returns-then-word : goal.returns-then-word
 unfolding of_bits

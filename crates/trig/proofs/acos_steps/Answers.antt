@@ -10,14 +10,16 @@ use Rattle.trig.proofs.acos_steps.Goals as goal
 
 pub returns-then-size-2 : goal.returns-then-size-2
 unfolding acos of_bits
-returns-then-size-2 c = let x = c.args.x in
+returns-then-size-2 c =
+    let x = c.args.x in
     rw (sized x one64 c.abs-size.ensures c.if-size.true, sized x half c.abs-size.ensures c.if-size-2.true)
     (c.narrow.ensures ∙ ap (λ (v : Float). narrow (sub binary64 half_pi v))
     (c.arc.ensures ∙ ap arc c.widen-wide.ensures))
 
 pub returns-then-x : goal.returns-then-x
 unfolding acos of_bits
-returns-then-x c = let x = c.args.x in
+returns-then-x c =
+    let x = c.args.x in
     rw (
       sized x one64 c.abs-size.ensures c.if-size.true,
       sized x half c.abs-size.ensures
@@ -28,7 +30,8 @@ returns-then-x c = let x = c.args.x in
 
 pub returns-else-x : goal.returns-else-x
 unfolding acos of_bits
-returns-else-x c = let x = c.args.x in
+returns-else-x c =
+    let x = c.args.x in
     rw (
       sized x one64 c.abs-size.ensures c.if-size.true,
       sized x half c.abs-size.ensures

@@ -18,12 +18,13 @@ above : (c : After-twice_arc-magnitude) {b : Bool} {r : Float} →
     → r ≡ asin c.args.x
 unfolding asin of_bits
 above c {b} t h =
-    let l = c.before.before in
-    let s = l.before.before in
-    let x = s.before.args.x in
-    rw (sized x one64 s.abs.ensures l.before.if1.true, sized x half s.abs.ensures l.if2.false, t)
+    rw (
+      sized c.args.x one64 c.abs-size.ensures c.if-size.true,
+      sized c.args.x half c.abs-size.ensures c.if-size-2.false,
+      t,
+    )
     (h ∙ ap (λ (v : Float). narrow (cond b (neg (sub binary64 half_pi v)) (sub binary64 half_pi v)))
-    (c.twice-arc.ensures ∙ ap twice_arc (c.before.widen2.ensures ∙ s.abs.ensures)))
+    (c.twice_arc-magnitude.ensures ∙ ap twice_arc (c.widen-then-size.ensures ∙ c.abs-size.ensures)))
 
 pub returns-then-size-2 : goal.returns-then-size-2
 unfolding asin of_bits

@@ -9,10 +9,10 @@ use Rattle.floats.proofs.choose.min.Goals.{Joined-x, else-x, then-x}
 
 test : (c : Joined-x) →
     c.if-x.value ≡ (ne c.args.x c.args.x || lt c.args.y c.args.x)
-test c = elim c.if-x.branch [ then-x w ↦ rw (w.1, w.0.taken) | else-x w ↦ rw (w.1, w.0.left) ]
+test c = elim c.if-x.branch [ then-x w ↦ rw (w.value-is, w.if-x.true) | else-x w ↦ rw (w.value-is, w.if-x.false) ]
 
 pub returns-then-y-x : goal.returns-then-y-x
-returns-then-y-x c = rw (fmin_tests c.args.x c.args.y, ← test c, c.if-y-x.true)
+returns-then-y-x c = rw (fmin_tests c.args.x c.args.y, ← test (goal.at.returns-then-y-x c).Joined-x, c.if-y-x.true)
 
 pub returns-else-y-x : goal.returns-else-y-x
-returns-else-y-x c = rw (fmin_tests c.args.x c.args.y, ← test c, c.if-y-x.false)
+returns-else-y-x c = rw (fmin_tests c.args.x c.args.y, ← test (goal.at.returns-else-y-x c).Joined-x, c.if-y-x.false)

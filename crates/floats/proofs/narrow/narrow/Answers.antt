@@ -6,4 +6,6 @@ use Rattle.ieee.specs.Laws.Patterns.{through-words}
 use Rattle.floats.proofs.narrow.narrow.Goals as goal
 
 pub returns : goal.returns
-returns c = through-words binary64 binary32 narrow c.args.x _ _ _ c.well_formed.0.1 (λ _. narrow-fits c.args.x) c.word_of_f64.ensures c.narrow_word.ensures c.f32_of_word.ensures
+returns c =
+    through-words binary64 binary32 narrow c.args.x _ _ _ c.well_formed.0.1 (λ _. narrow-fits c.args.x)
+    c.word_of_f64.ensures c.narrow_word.ensures c.f32_of_word.ensures

@@ -26,7 +26,8 @@ unfolding narrow to_bits
 returns-then-a-gt9218868437227405312 c = rw (nan-bits binary64 c.args.w c.if-a-gt9218868437227405312.true)
 
 pub returns-then-a-ge5183643171103440896 : goal.returns-then-a-ge5183643171103440896
-returns-then-a-ge5183643171103440896 c = narrow-large c.args.w (omega arith) c.if-a-ge5183643171103440896.true c.if-a-gt9218868437227405312.false
+returns-then-a-ge5183643171103440896 c =
+    narrow-large c.args.w (omega arith) c.if-a-ge5183643171103440896.true c.if-a-gt9218868437227405312.false
 
 pub overflow_cast-result : goal.overflow_cast-result
 overflow_cast-result c = omega (arith, normal-kept c)

@@ -8,7 +8,8 @@ use Rattle.ieee.specs.Laws.Nans.{no_nan, a-nan}
 use Rattle.floats.proofs.narrow.widen.Goals as goal
 
 pub float_to_float-result : goal.float_to_float-result
-float_to_float-result c = let x = c.args.x in
+float_to_float-result c =
+    let x = c.args.x in
     and_i (fits binary64 x) (not (is_nan x)) (fits_widens x (subst T (sym c.well_formed.0.1) tt))
     (no_nan x c.if-x.false)
 

@@ -33,7 +33,9 @@ pub loop-range-preserved : goal.loop-range-preserved
 loop-range-preserved c = (c.loop-range.invariant.0, c.if-middle-n.false, omega arith, omega arith)
 
 pub returns : goal.returns
-returns c = let at = c.loop-range in
+returns c =
+    let at = c.loop-range in
     let one : c.loop-range.low + c.loop-range.range ≡ suc c.loop-range.low = omega arith in
     let n = c.args.n in
-    root_unique n c.loop-range.low (record { at_most = c.loop-range.invariant.0; below = subst (λ (z : ℕ). n < z * z) one c.loop-range.invariant.1 })
+    root_unique n c.loop-range.low
+    (record { at_most = c.loop-range.invariant.0; below = subst (λ (z : ℕ). n < z * z) one c.loop-range.invariant.1 })

@@ -4,7 +4,8 @@ use Prim.Native.Nat.{◌+◌, ◌*◌, ◌^◌, ◌≤◌, ◌<◌}
 use Rattle.floats.proofs.root.halving_root.Given as goal
 
 abbrev pub invariant-loop-range : goal.invariant-loop-range
-invariant-loop-range l = (l.low * l.low ≤ l.n) × (l.n < (l.low + l.range) * (l.low + l.range)) × (1 ≤ l.range) × (l.low + l.range ≤ 2 ^ 27)
+invariant-loop-range l =
+    (l.low * l.low ≤ l.n) × (l.n < (l.low + l.range) * (l.low + l.range)) × (1 ≤ l.range) × (l.low + l.range ≤ 2 ^ 27)
 
 abbrev pub decreases-loop-range : goal.decreases-loop-range
 decreases-loop-range l = l.range

@@ -27,4 +27,6 @@ returns-then-square-n c = let a = c.args in rw (lt-ltb (64 * (a.q * a.q) + 16) (
 
 pub returns-else-square-n : goal.returns-else-square-n
 unfolding is_nearest
-returns-else-square-n c = let a = c.args in rw (le-ltb (64 * (a.q * a.q) + 16) (a.n + 64 * a.q) c.if-square-n.false) refl
+returns-else-square-n c =
+    let a = c.args in
+    rw (le-ltb (64 * (a.q * a.q) + 16) (a.n + 64 * a.q) c.if-square-n.false) refl

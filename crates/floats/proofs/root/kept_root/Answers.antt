@@ -8,7 +8,8 @@ use Rattle.ieee.specs.Laws.SqrtWords.{sticky, sticky-lt}
 use Rattle.floats.proofs.root.kept_root.Goals as goal
 
 pub shifted_to_even-requires : goal.shifted_to_even-requires
-shifted_to_even-requires c = let n = c.args.n in
+shifted_to_even-requires c =
+    let n = c.args.n in
     let l : sticky n < 2 ^ 28 = sticky-lt n (2 ^ 27) c.requires in
     record { a_bound = omega (arith, c.sticky_root.ensures); le_gone = lit≤ tt; gone_bound = lit≤ tt }
 

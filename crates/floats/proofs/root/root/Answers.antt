@@ -42,6 +42,8 @@ pub overflow_sub-result : goal.overflow_sub-result
 overflow_sub-result c = above (goal.at.overflow_sub-result c).Then-square-n-2
 
 pub returns-then-q-n : goal.returns-then-q-n
-returns-then-q-n c = let e : suc (c.guess-q.result - 1) ≡ c.guess-q.result = omega (arith, above (goal.at.returns-then-q-n c).Then-square-n-2) in
+returns-then-q-n c =
+    let e : suc (c.guess-q.result - 1) ≡ c.guess-q.result =
+    omega (arith, above (goal.at.returns-then-q-n c).Then-square-n-2) in
     root_unique c.args.n (c.guess-q.result - 1)
-    (record { at_most = leb-true _ _ c.if-q-n.true-raw; below = rw e c.if-square-n-2.true })
+    (record { at_most = c.if-q-n.true; below = rw e c.if-square-n-2.true })

@@ -29,4 +29,5 @@ pub returns-then-q-n : goal.returns-then-q-n
 returns-then-q-n c = sticky_exact c.args.n c.root-q.result c.if-q-n.true
 
 pub returns-else-q-n : goal.returns-else-q-n
-returns-else-q-n c = sticky-rest c.args.n c.root-q.result (found (goal.at.returns-else-q-n c).After-root-q) c.if-q-n.false
+returns-else-q-n c =
+    sticky-rest c.args.n c.root-q.result (found (goal.at.returns-else-q-n c).After-root-q) c.if-q-n.false

@@ -75,32 +75,48 @@ pub overflow_mul-square : goal.overflow_mul-square
 overflow_mul-square c = omega (arith, (halves c).square-to)
 
 pub overflow_mul-result : goal.overflow_mul-result
-overflow_mul-result c = omega (arith, (halves (goal.at.overflow_mul-result c).After-root-upper).to, (halves (goal.at.overflow_mul-result c).After-root-upper).lower-to)
+overflow_mul-result c =
+    let h = halves (goal.at.overflow_mul-result c).After-root-upper in
+    omega (arith, h.to, h.lower-to)
 
 pub overflow_mul-result-then-over-square-2 : goal.overflow_mul-result-then-over-square-2
-overflow_mul-result-then-over-square-2 c = omega (arith, (halves (goal.at.overflow_mul-result-then-over-square-2 c).After-root-upper).to, (halves (goal.at.overflow_mul-result-then-over-square-2 c).After-root-upper).lower-to)
+overflow_mul-result-then-over-square-2 c =
+    let h = halves (goal.at.overflow_mul-result-then-over-square-2 c).After-root-upper in
+    omega (arith, h.to, h.lower-to)
 
 pub overflow_sub-result : goal.overflow_sub-result
 overflow_sub-result c = omega (arith, (halves (goal.at.overflow_sub-result c).After-root-upper).from)
 
 pub overflow_mul-result-else-over-square-2 : goal.overflow_mul-result-else-over-square-2
-overflow_mul-result-else-over-square-2 c = omega (arith, (halves (goal.at.overflow_mul-result-else-over-square-2 c).After-root-upper).to, (halves (goal.at.overflow_mul-result-else-over-square-2 c).After-root-upper).lower-to)
+overflow_mul-result-else-over-square-2 c =
+    let h = halves (goal.at.overflow_mul-result-else-over-square-2 c).After-root-upper in
+    omega (arith, h.to, h.lower-to)
 
 pub overflow_add-result : goal.overflow_add-result
-overflow_add-result c = omega (arith, (halves (goal.at.overflow_add-result c).After-root-upper).to, (halves (goal.at.overflow_add-result c).After-root-upper).lower-to)
+overflow_add-result c =
+    let h = halves (goal.at.overflow_add-result c).After-root-upper in
+    omega (arith, h.to, h.lower-to)
 
 pub returns-then-over-square : goal.returns-then-over-square
 unfolding lower over whole-root
-returns-then-over-square c = wide_exact c.args.n c.root-upper.result (2 ^ 27) (halves (goal.at.returns-then-over-square c).After-root-upper).upper
+returns-then-over-square c =
+    wide_exact c.args.n c.root-upper.result (2 ^ 27)
+    (halves (goal.at.returns-then-over-square c).After-root-upper).upper
     (wide (goal.at.returns-then-over-square c).After-root-upper) (lit< tt) c.if-over-square.true
 
 pub returns-then-over-square-2 : goal.returns-then-over-square-2
 unfolding lower over whole-root
-returns-then-over-square-2 c = wide_below c.args.n c.root-upper.result (2 ^ 27) (halves (goal.at.returns-then-over-square-2 c).After-root-upper).upper (wide (goal.at.returns-then-over-square-2 c).After-root-upper) (lit< tt) c.if-over-square-2.true
+returns-then-over-square-2 c =
+    wide_below c.args.n c.root-upper.result (2 ^ 27)
+    (halves (goal.at.returns-then-over-square-2 c).After-root-upper).upper
+    (wide (goal.at.returns-then-over-square-2 c).After-root-upper) (lit< tt) c.if-over-square-2.true
 
 pub returns-else-over-square-2 : goal.returns-else-over-square-2
 unfolding lower over whole-root
-returns-else-over-square-2 c = let n = c.args.n in
+returns-else-over-square-2 c =
+    let n = c.args.n in
     let s = c.root-upper.result in
-    let more : lower n s (2 ^ 27) * lower n s (2 ^ 27) < over n s (2 ^ 27) = omega (arith, c.if-over-square-2.false, c.if-over-square.false) in
-    wide-above n s (2 ^ 27) (halves (goal.at.returns-else-over-square-2 c).After-root-upper).upper (wide (goal.at.returns-else-over-square-2 c).After-root-upper) (lit< tt) more
+    let more : lower n s (2 ^ 27) * lower n s (2 ^ 27) < over n s (2 ^ 27) =
+    omega (arith, c.if-over-square-2.false, c.if-over-square.false) in
+    wide-above n s (2 ^ 27) (halves (goal.at.returns-else-over-square-2 c).After-root-upper).upper
+    (wide (goal.at.returns-else-over-square-2 c).After-root-upper) (lit< tt) more

@@ -6,4 +6,5 @@ use Rattle.ieee.specs.Sqrt.{root_of}
 use Rattle.floats.proofs.sqrt.digits_root.Goals as goal
 
 pub returns : goal.returns
-returns c = c.pattern.ensures ∙ ap (λ (z : ℕ). to_bits binary32 (root_of binary32 150 z)) c.normalised-s.ensures.half_value
+returns c =
+    c.pattern.ensures ∙ ap (λ (z : ℕ). to_bits binary32 (root_of binary32 150 z)) c.normalised-s.ensures.half_value

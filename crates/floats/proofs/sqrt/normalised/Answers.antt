@@ -54,8 +54,16 @@ pub overflow_sub-exponent : goal.overflow_sub-exponent
 overflow_sub-exponent c = omega (arith, (found c).few)
 
 pub returns : goal.returns
-returns c = let n = found c in
+returns c =
+    let n = found c in
     let b = bounds c in
     let l : shift c ≤ c.args.e = omega arith in
-    rw (shifted c, twice-shifted c)
-    (normal-same c.args.d (shift c) c.args.e l, (b.from, (b.to, (omega arith, omega arith))))
+    record {
+      half_value = rw (shifted c, twice-shifted c) (normal-same c.args.d (shift c) c.args.e l);
+      bound = rw (shifted c, twice-shifted c) b.from;
+      digits_bound = rw (shifted c, twice-shifted c) b.to;
+      half_bound = omega arith;
+      e_bound = omega arith;
+      normal_bound = rw (shifted c) n.to;
+      odd_bound = omega arith;
+    }

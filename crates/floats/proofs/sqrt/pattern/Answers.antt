@@ -10,7 +10,8 @@ use Rattle.floats.proofs.sqrt.pattern.Goals.{Start}
 
 kept-le : (c : Start) → c.args.kept ≤ 2 ^ 24
 kept-le c =
-    rw c.requires.kept_value (root_kept binary32 2 c.args.s.half c.args.s.digits c.requires.bound c.requires.digits_bound)
+    rw c.requires.kept_value
+    (root_kept binary32 2 c.args.s.half c.args.s.digits c.requires.bound c.requires.digits_bound)
 
 pub overflow_add-result-2 : goal.overflow_add-result-2
 overflow_add-result-2 c = omega (arith, kept-le (goal.at.overflow_add-result-2 c).Start)

@@ -14,15 +14,18 @@ use Rattle.floats.proofs.whole.round_word.Goals.{After-power-part}
 -- the weight of a one among the digits
 part : (c : After-power-part) → (1 ≤ c.power-part.result) × (c.power-part.result ≤ 2 ^ 23)
 part c =
-    let x = c.args.w % 2 ^ 31 / 2 ^ 23 in
-    (rw c.power-part.ensures (pow_pos (150 - x)), rw c.power-part.ensures (pow_mono {i = 150 - x} {j = 23} (omega arith)))
+    let x = c.args.w % 2 ^ 31 / 2 ^ 23 in (
+      rw c.power-part.ensures (pow_pos (150 - x)),
+      rw c.power-part.ensures (pow_mono {i = 150 - x} {j = 23} (omega arith)),
+    )
 
 pub returns-then-a-gt2139095040 : goal.returns-then-a-gt2139095040
 unfolding round_away to_bits
 returns-then-a-gt2139095040 c = rw (nan-bits binary32 c.args.w c.if-a-gt2139095040.true)
 
 pub returns-then-a-ge1258291200 : goal.returns-then-a-ge1258291200
-returns-then-a-ge1258291200 c = round_away-whole c.args.w (omega arith) c.if-a-ge1258291200.true c.if-a-gt2139095040.false
+returns-then-a-ge1258291200 c =
+    round_away-whole c.args.w (omega arith) c.if-a-ge1258291200.true c.if-a-gt2139095040.false
 
 pub returns-then-a-lt1056964608 : goal.returns-then-a-lt1056964608
 returns-then-a-lt1056964608 c = round_away-none c.args.w (omega arith) c.if-a-lt1065353216.true c.if-a-lt1056964608.true
