@@ -4,7 +4,7 @@
  * handle. It prints a line a draw, the handle and the bits of both chances, and fails if a line is
  * not the known one.
  *
- *     rt staticlib light_c
+ *     tools/archives light_c
  *     cc -std=c99 -Iinclude examples/pair.c target/staticlib/liblight_c.a -o pair && ./pair
  *
  * or, where `tools/install PREFIX` put the library, with PKG_CONFIG_PATH=PREFIX/lib/pkgconfig

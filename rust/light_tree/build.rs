@@ -7,7 +7,7 @@ use std::process::Command;
 
 /// Names the folder of the static library, where that is not the repository's `target/staticlib`.
 const FOLDER: &str = "COLTOCTOBER_STATICLIB";
-const REMEDY: &str = "run `rt staticlib light_c` in the root of this crate's repository";
+const REMEDY: &str = "run `tools/archives light_c` in the root of this crate's repository";
 
 /// Prints the version of the library that it is linked with.
 const ASK: &str = r#"

@@ -25,7 +25,7 @@ fn link(folder: &Path, name: &str) {
     let archive = folder.join(format!("lib{name}.a"));
     println!("cargo:rerun-if-changed={}", archive.display());
     let Ok(archive) = archive.canonicalize() else {
-        stop(format!("{} is absent: `rt staticlib {name}`, run in the repository's root, makes it", archive.display()));
+        stop(format!("{} is absent: `tools/archives {name}`, run in the repository's root, makes it", archive.display()));
     };
     println!("cargo:rustc-link-search=native={}", archive.parent().unwrap().display());
     println!("cargo:rustc-link-lib=static={name}");

@@ -28,7 +28,7 @@
 //!   it.
 //! - Answers are the promised ones where floats are in the state that a program starts in: rounding to nearest, and
 //!   neither "flush to zero" nor "denormals are zero" set in the calling thread, as a renderer may do.
-//! - The library is for x86-64 Linux. `rt staticlib light_c`, run in the repository's root, makes it in
+//! - The library is for x86-64 Linux. `tools/archives light_c`, run in the repository's root, makes it in
 //!   `target/staticlib`; the environment variable `COLTOCTOBER_STATICLIB` names another folder.
 
 #![deny(missing_docs, unsafe_code)]

@@ -63,7 +63,7 @@ fn build_script() {
     assert!(other_machine.ends_with("is for x86-64 Linux, as its library is, and this build is for aarch64 and linux"));
 
     let absent = folder("absent");
-    let missing = format!("{}/liblight_c.a is absent: run `rt staticlib light_c` in", absent.display());
+    let missing = format!("{}/liblight_c.a is absent: run `tools/archives light_c` in", absent.display());
     assert!(error(told(&script, Some(&absent), &[])).starts_with(&missing));
 
     let silent = library("silent", "#[unsafe(no_mangle)] pub extern \"C\" fn light_sample() {}");
