@@ -7,7 +7,8 @@ use Rattle.trig.specs.Trig.{acos}
 use Rattle.light_bounds.specs.Cones.{union_direction_cones}
 use Rattle.light_bounds.specs.Vecmath.{angle_between}
 use Rattle.light_bounds.proofs.cones.union_by_angles.Goals as goal
-use Rattle.light_bounds.proofs.cones.union_by_angles.Goals.{After-acos-theta_a, After-acos-theta_b, After-angle_between-theta_d, After-min, After-min-2}
+use Rattle.light_bounds.proofs.cones.union_by_angles.Goals.{After-acos-theta_a, After-acos-theta_b}
+use Rattle.light_bounds.proofs.cones.union_by_angles.Goals.{After-angle_between-theta_d, After-min, After-min-2}
 
 -- the three angles
 theta-a : (c : After-acos-theta_a) → acos (clamp c.args.cos_a minus_one onef) ≡ c.acos-theta_a.result
