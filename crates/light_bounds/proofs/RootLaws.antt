@@ -7,7 +7,6 @@ use lib.Dec.{T}
 use lib.Ieee.{binary32, Float, nan, add, sub, mul, lt, le, fits, is_nan, of_bits, eq, neg}
 use lib.Ieee.Back.{whole_unique}
 use lib.Ieee.Bits.{of_bits-fits}
-use lib.Ieee.Digits.{back}
 use lib.Ieee.Fits.{add-fits, sub-fits, cond-fits}
 use Rattle.ieee.specs.Choose.{fmax}
 use Rattle.ieee.specs.Laws.ChooseOrder.{fmax-nonneg}

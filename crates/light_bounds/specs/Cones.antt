@@ -53,4 +53,5 @@ union_direction_cones a cos_a b cos_b =
     let theta_b = acos (clamp cos_b minus_one onef) in
     let theta_d = angle_between a b in
     cond (le (fmin (theta_d ⊕ theta_b) pi) theta_a) (cone a cos_a)
-    (cond (le (fmin (theta_d ⊕ theta_a) pi) theta_b) (cone b cos_b) (joined a b theta_a ((theta_a ⊕ theta_d ⊕ theta_b) ⊗ half)))
+    (cond (le (fmin (theta_d ⊕ theta_a) pi) theta_b) (cone b cos_b)
+    (joined a b theta_a ((theta_a ⊕ theta_d ⊕ theta_b) ⊗ half)))

@@ -1,6 +1,6 @@
 -- Vectors, step by step as `light_bounds.rs` and `sampling.rs` have them; every operation is f32 and rounded once.
 -- Definitions only. Assumes nothing.
-use Rattle.std.specs.Prelude.{Bool, cond, not, ◌&&◌, ◌||◌, Float}
+use Rattle.std.specs.Prelude.{Bool, cond, not, ◌&&◌, Float}
 use Rattle.std.specs.Float.{binary32}
 use Rattle.std.specs.Float.Ieee.{eq, lt}
 use Rattle.std.specs.Float.Ieee.Scale.{finite}

@@ -3,13 +3,13 @@
 use Rattle.std.specs.Prelude.{◌≡◌, refl, Bool, true, false, cond, not, ◌&&◌, T, Float}
 use Rattle.std.proofs.Common.{sym, subst}
 use Rattle.std.specs.Float.{nan, inf, fin, binary32}
-use Rattle.std.specs.Float.Ieee.{lt, le, eq, fits, is_nan, of_bits}
+use Rattle.std.specs.Float.Ieee.{lt, eq, fits, is_nan, of_bits}
 use Rattle.std.specs.Float.Ieee.Fits.{and_l, and_r}
 use Rattle.std.specs.Float.Ieee.Scale.{finite}
 use Rattle.ieee.specs.Laws.ChooseOrder.{fmax-nonneg, fmin-le, fmax-le}
 use Rattle.ieee.specs.Laws.OperationOrder.{add-positive}
 use Rattle.ieee.specs.Laws.OrderLaws.{nonneg, le→nonneg, lt→le, not-eq-of-lt}
-use Rattle.ieee.specs.Single.{◌⊕◌, ◌⊗◌, ◌⊘◌, zerof}
+use Rattle.ieee.specs.Single.{◌⊗◌, ◌⊘◌, zerof}
 use Rattle.words.specs.Answers.{Answer, given, refused, ◌then◌}
 use Rattle.words.proofs.AnswerLaws.{Gives, gives, gives_none, gives-cond, gives-any}
 use Rattle.words.proofs.AnswerLaws.{gives_then, gives-value, then-given, given_injective, not-both}

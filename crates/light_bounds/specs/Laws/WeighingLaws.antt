@@ -15,7 +15,8 @@ use Rattle.light_bounds.specs.declared.importance.Query.{Query}
 use Rattle.light_bounds.specs.declared.importance.Normal.TheVariants.{Nothing}
 use Rattle.light_bounds.specs.declared.importance.Prepared.{Prepared}
 
-pub with-held : (n wi : Vec3) (cos_b p d2 : Float) → with_held (unit_normal n) wi cos_b p d2 ≡ with_normal n wi cos_b p d2
+pub with-held : (n wi : Vec3) (cos_b p d2 : Float)
+    → with_held (unit_normal n) wi cos_b p d2 ≡ with_normal n wi cos_b p d2
 unfolding unit_normal with_held with_normal normalize ◌then◌
 with-held n wi cos_b p d2 = go (eq (dot n n) zerof) (dividing (vec_length n)) (scaled n (onef ⊘ vec_length n))
   where

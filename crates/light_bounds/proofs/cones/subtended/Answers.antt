@@ -21,24 +21,18 @@ distance c =
 
 pub returns-then-d2-radius : goal.returns-then-d2-radius
 unfolding bound_subtended_directions neg of_bits
-returns-then-d2-radius c = rw (size (goal.at.returns-then-d2-radius c).Start, distance (goal.at.returns-then-d2-radius c).After-dot-d2, c.if-d2-radius.true)
+returns-then-d2-radius c =
+    let at = goal.at.returns-then-d2-radius c in
+    rw (size at.Start, distance at.After-dot-d2, c.if-d2-radius.true)
 
 pub returns-then-d2 : goal.returns-then-d2
 unfolding bound_subtended_directions neg of_bits
-returns-then-d2 c = rw (
-  size (goal.at.returns-then-d2 c).Start,
-  distance
-      c,
-  c.if-d2-radius.false,
-  c.if-d2.true,
-)
+returns-then-d2 c =
+    let at = goal.at.returns-then-d2 c in
+    rw (size at.Start, distance at.After-dot-d2, c.if-d2-radius.false, c.if-d2.true)
 
 pub returns : goal.returns
 unfolding bound_subtended_directions
-returns c = rw (
-  size (goal.at.returns c).Start,
-  distance
-      c,
-  c.if-d2-radius.false,
-)
-    (rw c.if-d2.false c.safe_sqrt.ensures)
+returns c =
+    let at = goal.at.returns c in
+    rw (size at.Start, distance at.After-dot-d2, c.if-d2-radius.false) (rw c.if-d2.false c.safe_sqrt.ensures)

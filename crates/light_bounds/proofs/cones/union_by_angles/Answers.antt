@@ -7,7 +7,8 @@ use Rattle.trig.specs.Trig.{acos}
 use Rattle.light_bounds.specs.Cones.{union_direction_cones}
 use Rattle.light_bounds.specs.Vecmath.{angle_between}
 use Rattle.light_bounds.proofs.cones.union_by_angles.Goals as goal
-use Rattle.light_bounds.proofs.cones.union_by_angles.Goals.{After-acos-theta_a, After-acos-theta_b, After-angle_between-theta_d, After-min, After-min-2}
+use Rattle.light_bounds.proofs.cones.union_by_angles.Goals.{After-acos-theta_a, After-acos-theta_b}
+use Rattle.light_bounds.proofs.cones.union_by_angles.Goals.{After-angle_between-theta_d, After-min, After-min-2}
 
 -- the three angles
 theta-a : (c : After-acos-theta_a) → acos (clamp c.args.cos_a minus_one onef) ≡ c.acos-theta_a.result
@@ -34,42 +35,37 @@ second c = sym c.min-2.ensures
 
 pub returns-then-min-theta_a : goal.returns-then-min-theta_a
 unfolding union_direction_cones
-returns-then-min-theta_a c = rw (
-  theta-a (goal.at.returns-then-min-theta_a c).After-acos-theta_a,
-  theta-b (goal.at.returns-then-min-theta_a c).After-acos-theta_b,
-  theta-d
-      c,
-  first (goal.at.returns-then-min-theta_a c).After-min,
-)
+returns-then-min-theta_a c =
+    let at = goal.at.returns-then-min-theta_a c in
+    rw (
+      theta-a at.After-acos-theta_a,
+      theta-b at.After-acos-theta_b,
+      theta-d at.After-angle_between-theta_d,
+      first at.After-min,
+    )
     (rw c.if-min-theta_a.true)
 
 pub returns-then-min-theta_b : goal.returns-then-min-theta_b
 unfolding union_direction_cones
-returns-then-min-theta_b c = rw (
-  theta-a (goal.at.returns-then-min-theta_b c).After-acos-theta_a,
-  theta-b
-      c,
-)
+returns-then-min-theta_b c =
+    let at = goal.at.returns-then-min-theta_b c in
+    rw (theta-a at.After-acos-theta_a, theta-b at.After-acos-theta_b)
     (rw (
-      theta-d (goal.at.returns-then-min-theta_b c).After-angle_between-theta_d,
-      first
-          c,
+      theta-d at.After-angle_between-theta_d,
+      first at.After-min,
       c.if-min-theta_a.false,
-      second (goal.at.returns-then-min-theta_b c).After-min-2,
+      second at.After-min-2,
     )
     (rw c.if-min-theta_b.true))
 
 pub returns : goal.returns
 unfolding union_direction_cones
-returns c = rw (
-  theta-a (goal.at.returns c).After-acos-theta_a,
-  theta-b
-      c,
-)
+returns c =
+    let at = goal.at.returns c in
+    rw (theta-a at.After-acos-theta_a, theta-b at.After-acos-theta_b)
     (rw (
-      theta-d (goal.at.returns c).After-angle_between-theta_d,
-      first
-          c,
+      theta-d at.After-angle_between-theta_d,
+      first at.After-min,
       c.if-min-theta_a.false,
     )
-    (rw (second (goal.at.returns c).After-min-2, c.if-min-theta_b.false) c.join.ensures))
+    (rw (second at.After-min-2, c.if-min-theta_b.false) c.join.ensures))

@@ -1,7 +1,7 @@
 -- `light_bounds::cones::union_direction_cones`: the angle of all directions is PI, and the first test's sum is cut to
 -- PI. Assumes nothing.
 use mathlib.Core.Path.{◌≡◌, refl, sym, ◌∙◌, ap, subst}
-use mathlib.Core.Bool.{Bool, true}
+use mathlib.Core.Bool.{Bool, true, false}
 use lib.Dec.{T}
 use lib.Ieee.{Float, binary32, of_bits, lt, le, is_nan}
 use lib.Ieee.Bits.{of_bits-to_bits}
@@ -28,6 +28,7 @@ cut x = go (le (fmin x pi) pi) (fmin-cap x pi tt)
   where
     go : (b : Bool) → T b → b ≡ true
     go true t = refl
+    go false t = absurd t
 
 all-directions : (a : Vec3) (b : Vec3) (cos_b : Float) → union_direction_cones a minus_one b cos_b ≡ cone a minus_one
 unfolding union_direction_cones
@@ -35,7 +36,8 @@ all-directions a b cos_b = rw whole-turn (rw (cut (angle_between a b ⊕ acos (c
 
 pub returns-then-word_of_f32-eq3212836864 : goal.returns-then-word_of_f32-eq3212836864
 unfolding of_bits
-returns-then-word_of_f32-eq3212836864 c = let is : c.args.cos_a ≡ minus_one =
+returns-then-word_of_f32-eq3212836864 c =
+    let is : c.args.cos_a ≡ minus_one =
     sym (of_bits-to_bits binary32 c.args.cos_a (subst T (sym c.well_formed.1.0.1) tt)) ∙
     ap (of_bits binary32) (sym c.word_of_f32.ensures ∙ c.if-word_of_f32-eq3212836864.true) in
     rw is (sym (all-directions c.args.a c.args.b c.args.cos_b))

@@ -28,5 +28,6 @@ returns-in-Unit c = rw (delta (goal.at.returns-in-Unit c).After-sub-delta, ← c
 
 pub returns-in-Refused : goal.returns-in-Refused
 unfolding geometry ◌then◌
-returns-in-Refused c = rw (delta (goal.at.returns-in-Refused c).After-sub-delta, ← c.distance2-d2.ensures, c.if-d2.false)
+returns-in-Refused c =
+    rw (delta (goal.at.returns-in-Refused c).After-sub-delta, ← c.distance2-d2.ensures, c.if-d2.false)
     (rw (← c.normalize.ensures, c.in-Refused.is))

@@ -3,7 +3,7 @@ use mathlib.Core.Path.{◌∙◌, ap}
 use lib.Ieee.{Float}
 use Rattle.ieee.specs.Single.{◌⊖◌, ◌⊗◌, ◌⊘◌, twof, pi}
 use Rattle.trig.specs.Trig.{asin}
-use Rattle.light_bounds.specs.Vecmath.{dot, vec_length, angle_between}
+use Rattle.light_bounds.specs.Vecmath.{vec_length, angle_between}
 use Rattle.light_bounds.proofs.vecmath.angle_between.Goals as goal
 
 pub returns-then-dot : goal.returns-then-dot
