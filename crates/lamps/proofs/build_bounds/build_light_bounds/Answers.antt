@@ -37,15 +37,20 @@ returns-then-block-block_words c = let args = c.args in
     (record { result_value = refl; block_after = refl })
 
 pub write_block-requires : goal.write_block-requires
-write_block-requires c = record { list_value = read (goal.at.write_block-requires c).In-Count; m_in_bounds = omega (arith, c.block_words.ensures) }
+write_block-requires c = record {
+    list_value = read (goal.at.write_block-requires c).In-Count;
+    m_in_bounds = omega (arith, c.block_words.ensures);
+}
 
 pub returns-in-Refused : goal.returns-in-Refused
 returns-in-Refused c = let args = c.args in
     let n = number c.in-Refused.why in
     let unread = count-refused (lamp_list args.list.now) n
     (sym c.check_list.ensures ∙ ap counted c.in-Refused.is) in
-    rw (build_unread args.list.now (length args.block.now) n unread) (
-      refl,
-      sym (tray-early pack_exhaustive_bounds (block_words (get_or args.list.now 0 0)) args.block.now n
-          (only-number (early-list args.list.now) unread)),
-    )
+    rw (build_unread args.list.now (length args.block.now) n unread)
+    (record {
+      result_value = refl;
+      block_after =
+          sym (tray-early pack_exhaustive_bounds (block_words (get_or args.list.now 0 0)) args.block.now n
+          (only-number (early-list args.list.now) unread));
+    })

@@ -10,7 +10,7 @@ returns-in-Bounds c = rw (← c.next.ensures)
       c.in-Read.is,
       ← c.triangles-triangles.ensures,
     )
-    (rw (← c.light_bounds_for_input.ensures, c.«record».given.1)))
+    (rw (← c.light_bounds_for_input.ensures, c.in-Bounds.is)))
 
 pub returns-in-Refused-light_bounds_for_input : goal.returns-in-Refused-light_bounds_for_input
 unfolding next_bounds ◌then◌

@@ -25,10 +25,6 @@ loop-place-init c = let args = c.args in
 pub zero_words-requires : goal.zero_words-requires
 zero_words-requires c = omega (arith, c.block_words.ensures)
 
-pub shape_of-block-in-Refused : goal.shape_of-block-in-Refused
-shape_of-block-in-Refused c = let args = c.args in
-    c.zero_words.auto.0 ∙ c.loop-place.invariant.written.same ∙ length-set args.block.now 0 args.m
-
 pub returns-in-Refused : goal.returns-in-Refused
 returns-in-Refused c = let told = sym c.next_bounds.ensures ∙ ap passed c.in-Refused.is in
     let (answer, block) =
@@ -37,16 +33,12 @@ returns-in-Refused c = let told = sym c.next_bounds.ensures ∙ ap passed c.in-R
     record { result_value = answer; block_after = rw c.block_words.ensures at c.zero_words.ensures ∙ block }
 
 pub loop-place-preserved : goal.loop-place-preserved
-loop-place-preserved c = let told = sym c.next_bounds.ensures ∙ ap passed c.«record».given.1 in
+loop-place-preserved c = let told = sym c.next_bounds.ensures ∙ ap passed c.in-Bounds.is in
     rw c.write_row.ensures
     (taking-next c.loop-place.invariant
-    (record { bounds = c.«record».given.0.0; next = c.«record».given.0.1.0 }) (omega arith) told)
-
-pub shape_of-block : goal.shape_of-block
-shape_of-block c = c.loop-place.invariant.written.same ∙ length-set c.args.block.now 0
-    c.args.m
+    (record { bounds = c.in-Bounds.«record»; next = c.in-Bounds.next }) (omega arith) told)
 
 pub returns : goal.returns
-returns c = taking-all c.args.block.now c.loop-place.invariant
-    c.requires.list_value c.requires.m_in_bounds
-    (omega arith)
+returns c = let (answer, block) =
+    taking-all c.args.block.now c.loop-place.invariant c.requires.list_value c.requires.m_in_bounds (omega arith) in
+    record { result_value = answer; block_after = block }

@@ -50,7 +50,7 @@ loop-k-preserved c = let k = c.loop-k.k in
     let n = c.args.n in
     let e : 13 * k + 13 ≡ 13 * (k + 1) = omega arith in
     let e' : n - k - 1 ≡ n - (k + 1) = omega arith in
-    (omega arith, omega arith, rw (next (goal.at.loop-k-preserved c).After-grown, c.«record».given.1, e, e'))
+    (omega arith, omega arith, rw (next (goal.at.loop-k-preserved c).After-grown, c.in-Bounds.is, e, e'))
 
 pub returns : goal.returns
 returns c = let loop = c.loop-k in

@@ -17,7 +17,7 @@ pub loop-i-init : goal.loop-i-init
 unfolding in_place
 loop-i-init c = let list = c.args.list.now in (
   c.wide-m.ensures ∙ c.word_or_zero.ensures,
-  omega (arith, c.wide-m.ensures, c.word_or_zero.type-inv),
+  omega (arith, c.wide-m.ensures, c.word_or_zero.type_inv),
   ([], rw c.new-cursor.ensures (walked_none (lamp_walk list) (get_or list 0 0) 1), refl),
 )
 

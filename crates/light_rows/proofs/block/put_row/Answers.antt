@@ -9,9 +9,6 @@ use Rattle.light_rows.specs.RecordWords.{record_list}
 use Rattle.light_rows.specs.Laws.RecordPlaces.{written_at-sets}
 use Rattle.light_rows.proofs.block.put_row.Goals as goal
 
-pub shape_of-block : goal.shape_of-block
-shape_of-block c = c.write_record.auto.0 ∙ length-set c.args.block.now c.block_words.result _
-
 pub returns : goal.returns
 returns c = let args = c.args in
     let row = args.row in

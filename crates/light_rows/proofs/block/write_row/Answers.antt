@@ -19,12 +19,12 @@ module _ (c : After-fits) where
   fit = sym (c.fits.ensures ∙ ap (λ (k : ℕ). leb (k + bounds_words) (length block)) c.block_words.ensures)
 
 pub put_row-requires : goal.put_row-requires
-put_row-requires c = leb-true _ _ (fit c ∙ c.if-fits.true)
+put_row-requires c = leb-true _ _ (fit (goal.at.put_row-requires c).After-fits ∙ c.if-fits.true)
 
 pub returns-then-fits : goal.returns-then-fits
 unfolding row_written
-returns-then-fits c = rw (fit c ∙ c.if-fits.true) c.put_row.ensures
+returns-then-fits c = rw (fit (goal.at.returns-then-fits c).After-fits ∙ c.if-fits.true) c.put_row.ensures
 
 pub returns-else-fits : goal.returns-else-fits
 unfolding row_written
-returns-else-fits c = rw (fit c ∙ c.if-fits.false)
+returns-else-fits c = rw (fit (goal.at.returns-else-fits c).After-fits ∙ c.if-fits.false)
