@@ -19,10 +19,10 @@ loop-i-preserved c = let args = c.args in
     let read = parting-read complement c.loop-i.invariant in
     let told = sym c.goes_left.ensures in
     elim c.if-goes_left.branch [
-      | then-goes_left w ↦ rw (w.1, w.2, w.3, w.4)
-          (parting-left complement c.loop-i.invariant _ read (omega arith) (told ∙ w.0.taken))
-      | else-goes_left w ↦ rw (w.1, w.2, w.3, w.4)
-          (parting-right complement c.loop-i.invariant _ read (omega arith) (told ∙ w.0.left))
+      | then-goes_left w ↦ rw (w.handles-is, w.work-is, w.left-is, w.right-is)
+          (parting-left complement c.loop-i.invariant _ read (omega arith) (told ∙ w.if-goes_left.true))
+      | else-goes_left w ↦ rw (w.handles-is, w.work-is, w.left-is, w.right-is)
+          (parting-right complement c.loop-i.invariant _ read (omega arith) (told ∙ w.if-goes_left.false))
     ]
 
 pub shape_of-handles : goal.shape_of-handles
@@ -33,4 +33,5 @@ shape_of-work c = c.loop-i.invariant.same_work
 
 pub returns : goal.returns
 returns c = let args = c.args in
-    parting-all (goes-right args.block.now args.ends args.split) c.loop-i.invariant (omega arith)
+    let all = parting-all (goes-right args.block.now args.ends args.split) c.loop-i.invariant (omega arith) in
+    record { value = all.0; handles_after = all.1.0; work_after = all.1.1 }
