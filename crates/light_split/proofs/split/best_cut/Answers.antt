@@ -26,9 +26,9 @@ side c =
     let twelve : length ss ≡ 12 = omega arith in
     let h = c.loop-bucket-test.true in
     elim c.if-slot.branch [
-      | then-slot+in-Bucket w ↦ joined-filled ss twelve loop.bucket (slot_of loop.left) h w.if-slot.true loop.invariant.1 ∙
-          sym w.join_to.ensures
-          ∙ ap ranged w.in-Bucket.is ∙ ap (λ (s : Slot). given (slot_of s)) (sym w.left-is)
+      | then-slot+in-Bucket w ↦ joined-filled ss twelve loop.bucket (slot_of loop.left) h w.if-slot.true
+          loop.invariant.1 ∙ sym w.join_to.ensures ∙ ap ranged w.in-Bucket.is
+          ∙ ap (λ (s : Slot). given (slot_of s)) (sym w.left-is)
       | else-slot w ↦ joined-empty ss twelve loop.bucket h w.if-slot.false ∙ loop.invariant.1 ∙
           ap (λ (s : Slot). given (slot_of s)) (sym w.left-is)
     ]
