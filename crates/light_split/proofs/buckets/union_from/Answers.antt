@@ -3,7 +3,7 @@
 use Prim.Native.Nat.{◌<◌}
 use mathlib.Core.Path.{◌≡◌, sym, ◌∙◌}
 use native.Mathlib.Omega.{arith}
-use lib.ListN.{length, length-map}
+use lib.ListN.{length}
 use Rattle.words.specs.Answers.{◌then◌}
 use Rattle.light_split.specs.AsCoded.Slots.{slot_of}
 use Rattle.light_split.proofs.BucketLaws.{union-filled, union-empty, union-end}
