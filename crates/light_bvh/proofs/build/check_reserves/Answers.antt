@@ -1,15 +1,14 @@
 -- `light_bvh::build::check_reserves`: each reserve in turn is long enough, or one is short. Assumes nothing.
 use Prim.Native.Nat.{◌≤◌}
-use mathlib.Core.Logic.{⊎_elim}
 use native.Mathlib.Omega.{arith}
-use borrow.Author.Tests.{ltb-true, ltb-false}
 use Rattle.light_bvh.specs.Build.{nodes_reserve}
 use Rattle.light_bvh.proofs.BuildLaws.{short-nodes, short-table, short_work, not_short}
 use Rattle.light_bvh.proofs.build.check_reserves.Goals as goal
+use Rattle.light_bvh.proofs.build.check_reserves.Goals.{else-m-gt0-via-then-m-gt0+else-nodes-m, else-m-gt0-via-else-m-gt0}
 
 pub returns-then-nodes-m : goal.returns-then-nodes-m
 returns-then-nodes-m c = let args = c.args in
-    rw (short-nodes args.m args.nodes args.table args.work (ltb-true _ _ c.if-nodes-m.true-raw))
+    rw (short-nodes args.m args.nodes args.table args.work c.if-nodes-m.true)
 
 pub returns-then-table-m : goal.returns-then-table-m
 returns-then-table-m c = let args = c.args in
@@ -22,6 +21,8 @@ returns-then-work-m c = let args = c.args in
 pub returns : goal.returns
 returns c = let args = c.args in
     let room : nodes_reserve args.m ≤ args.nodes =
-    ⊎_elim (λ w. ltb-false args.nodes (nodes_reserve args.m) w.1.left) (λ w. omega (arith, w.left))
-    c.else-m-gt0.branch in
+    elim c.else-m-gt0.branch [
+      | else-m-gt0-via-then-m-gt0+else-nodes-m w ↦ w.if-nodes-m.false
+      | else-m-gt0-via-else-m-gt0 w ↦ omega (arith, w.if-m-gt0.false)
+    ] in
     rw (not_short args.m args.nodes args.table args.work room (omega arith) (omega arith))

@@ -9,15 +9,14 @@ pub loop-handles-init : goal.loop-handles-init
 loop-handles-init c = gathering-none c.args.block.now c.args.m c.args.handles.now c.requires.m_in_bounds
 
 pub loop-handles-preserved : goal.loop-handles-preserved
-loop-handles-preserved c = let loop = c.loop-handles in
+loop-handles-preserved c =
     elim c.if-is_powered.branch [
-      | then-is_powered w ↦ rw (w.1, w.2) (gathering_in c.loop-handles.invariant (omega arith)
-          (sym c.is_powered.ensures ∙ w.0.taken))
-      | else-is_powered w ↦ rw (w.1, w.2) (gathering-out c.loop-handles.invariant (omega arith) (sym c.is_powered.ensures ∙ w.0.left))
+      | then-is_powered w ↦ rw (w.handles-is, w.k-is) (gathering_in c.loop-handles.invariant (omega arith)
+          (sym c.is_powered.ensures ∙ w.if-is_powered.true))
+      | else-is_powered w ↦ rw (w.handles-is, w.k-is) (gathering-out c.loop-handles.invariant (omega arith)
+          (sym c.is_powered.ensures ∙ w.if-is_powered.false))
     ]
 
-pub shape_of-handles : goal.shape_of-handles
-shape_of-handles c = c.loop-handles.invariant.same
-
 pub returns : goal.returns
-returns c = gathering-all c.loop-handles.invariant (omega arith)
+returns c =
+    let all = gathering-all c.loop-handles.invariant (omega arith) in record { value = all.0; handles_after = all.1 }

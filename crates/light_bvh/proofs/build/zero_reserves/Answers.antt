@@ -6,6 +6,11 @@ use Rattle.light_bvh.proofs.build.zero_reserves.Goals as goal
 use Rattle.light_bvh.proofs.build.zero_reserves.Goals.{else-m-eq0, then-m-eq0}
 
 pub returns : goal.returns
-returns c = let m = c.args.m in
-    let e : c.if-m-eq0.end ≡ nodes_reserve m = elim c.if-m-eq0.branch [ then-m-eq0 w ↦ omega (arith, w.0.taken, w.1) | else-m-eq0 w ↦ omega (arith, w.0.left, w.1) ] in
-    record { nodes_after = c.zero_words.ensures ∙ rw e; table_after = c.zero_words-2.ensures; work_after = c.zero_words-3.ensures }
+returns c =
+    let e : c.if-m-eq0.end ≡ nodes_reserve c.args.m =
+    elim c.if-m-eq0.branch [ then-m-eq0 w ↦ omega arith | else-m-eq0 w ↦ omega arith ] in
+    record {
+      nodes_after = c.zero_words.ensures ∙ rw e;
+      table_after = c.zero_words-2.ensures;
+      work_after = c.zero_words-3.ensures;
+    }

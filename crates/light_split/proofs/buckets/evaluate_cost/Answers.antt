@@ -4,19 +4,19 @@ use Rattle.light_split.proofs.buckets.evaluate_cost.Goals as goal
 
 pub returns-then-component : goal.returns-then-component
 unfolding evaluate_cost
-returns-then-component c = (
-  rw (
+returns-then-component c = record {
+  cost_value = rw (
     ← c.diagonal-sides.ensures,
     ← c.component.ensures,
     c.if-component.true,
-  ),
-  c.requires,
-)
+  );
+  right = c.requires;
+}
 
 pub returns : goal.returns
 unfolding evaluate_cost
-returns c = (
-  rw (
+returns c = record {
+  cost_value = rw (
     ← c.diagonal-sides.ensures,
     ← c.component.ensures,
   )
@@ -25,6 +25,6 @@ returns c = (
         ← c.omega_for-omega.ensures.m_omega_value,
         ← c.kr.ensures,
         ← c.surface_area.ensures,
-      )),
-  c.omega_for-omega.ensures.right,
-)
+      ));
+  right = c.omega_for-omega.ensures.right;
+}

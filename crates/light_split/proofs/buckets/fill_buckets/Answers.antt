@@ -9,12 +9,11 @@ use Rattle.light_split.specs.Buckets.{Bucket, fill_buckets, empty_buckets}
 use Rattle.light_split.specs.AsCoded.Slots.{slot_list, ranged}
 use Rattle.light_split.proofs.BucketLaws.{blank, slots_at, slots_set, slots-none, fill-next, fill_end}
 use Rattle.light_split.proofs.buckets.fill_buckets.Goals as goal
-use Rattle.light_split.proofs.buckets.fill_buckets.Goals.{After-join_to, In-Bucket}
+use Rattle.light_split.proofs.buckets.fill_buckets.Goals.{After-join_to}
 
 -- one record more
 next : (c : After-join_to)
     → (let args = c.args in
-    let loop = c.loop-i in
     fill_buckets args.block.now args.ends args.dimension empty_buckets args.handles.now ≡
     ranged c.join_to.result
     then λ (b : Bucket). fill_buckets args.block.now args.ends args.dimension
@@ -22,9 +21,8 @@ next : (c : After-join_to)
     (drop (c.loop-i.i + 1) args.handles.now))
 next c =
     let args = c.args in
-    let loop = c.loop-i in
-    let bucket = c.bucket_of-bucket in
-    let h : c.bucket_of-bucket.result < length c.loop-i.buckets.slots = omega (arith, c.bucket_of-bucket.ensures.upper_bound, c.loop-i.invariant.0) in
+    let h : c.bucket_of-bucket.result < length c.loop-i.buckets.slots =
+    omega (arith, c.bucket_of-bucket.ensures.upper_bound, c.loop-i.invariant.0) in
     rw (
       ← c.loop-i.invariant.2,
       fill-next args.block.now args.ends args.dimension (slot_list c.loop-i.buckets.slots)
@@ -35,12 +33,6 @@ next c =
       ← c.join_to.ensures,
     )
 
--- the turn's test, far back
-more : (c : In-Bucket)
-    → c.loop-i.i
-    < length c.args.handles.now
-more c = c.loop-i-test.true
-
 pub loop-i-init : goal.loop-i-init
 loop-i-init c = (refl, refl, rw (slots-none c.empty_slot.result 12 c.empty_slot.ensures))
 
@@ -48,16 +40,9 @@ pub returns-in-Lost : goal.returns-in-Lost
 unfolding ◌then◌
 returns-in-Lost c = rw (next (goal.at.returns-in-Lost c).After-join_to, c.in-Lost.is)
 
-pub overflow_add-i : goal.overflow_add-i
-overflow_add-i c = omega (arith, more c, c.well_formed)
-
-pub loop-i-smaller : goal.loop-i-smaller
-loop-i-smaller c = omega (arith, more c)
-
 pub loop-i-preserved : goal.loop-i-preserved
 unfolding ◌then◌
-loop-i-preserved c = let loop = c.loop-i in
-    let k = c.bucket_of-bucket.result in (
+loop-i-preserved c = let k = c.bucket_of-bucket.result in (
       simp length-set c.loop-i.invariant.0,
       c.loop-i.invariant.1,
       rw (
@@ -69,7 +54,7 @@ loop-i-preserved c = let loop = c.loop-i in
     )
 
 pub returns : goal.returns
-returns c = let loop = c.loop-i in
+returns c =
     let args = c.args in
     rw c.loop-i.invariant.1 (sym (fill_end args.block.now args.ends args.dimension
     (slot_list c.loop-i.buckets.slots) args.handles.now c.loop-i.i

@@ -17,7 +17,8 @@ returns-in-Bounds c = rw (
 
 pub returns-in-Refused : goal.returns-in-Refused
 unfolding join_to ◌then◌
-returns-in-Refused c = let args = c.args in
+returns-in-Refused c =
+    let args = c.args in
     let told = sym c.union.ensures ∙ ap bounded c.in-Refused.is in
     rw (c.if-slot.true, union-refused args.slot.bounds args.bounds _ told)
 

@@ -4,7 +4,8 @@ use Rattle.light_split.proofs.buckets.side_cost.Goals as goal
 
 pub returns-then-slot : goal.returns-then-slot
 unfolding side_cost
-returns-then-slot c = record { cost_value = rw c.if-slot.true c.evaluate_cost.ensures.cost_value; right = c.evaluate_cost.ensures.right }
+returns-then-slot c =
+    let told = c.evaluate_cost.ensures in record { cost_value = rw c.if-slot.true told.cost_value; right = told.right }
 
 pub returns : goal.returns
 unfolding side_cost

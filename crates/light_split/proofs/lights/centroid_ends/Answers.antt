@@ -21,7 +21,7 @@ loop-i-preserved c = let args = c.args in (
 
 pub returns : goal.returns
 unfolding centroid_ends
-returns c = let loop = c.loop-i in
+returns c =
     let args = c.args in
     sym (folded-all (widen args.block.now) c.loop-i.ends args.handles.now c.loop-i.i (omega arith)) ∙
     c.loop-i.invariant.1

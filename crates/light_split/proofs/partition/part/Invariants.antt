@@ -6,7 +6,9 @@ use Rattle.light_split.proofs.PartitionLaws.{Parting}
 use Rattle.light_split.proofs.partition.part.Given as goal
 
 abbrev pub invariant-loop-i : goal.invariant-loop-i
-invariant-loop-i l = Parting (goes_left l.block l.ends l.split) (goes_right l.block l.ends l.split) l.initial.handles l.initial.work l.handles l.work l.left l.right l.i
+invariant-loop-i l =
+    Parting (goes_left l.block l.ends l.split) (goes_right l.block l.ends l.split) l.initial.handles l.initial.work
+    l.handles l.work l.left l.right l.i
 
 abbrev pub decreases-loop-i : goal.decreases-loop-i
 decreases-loop-i l = length l.initial.handles - l.i

@@ -4,7 +4,8 @@ use Rattle.light_split.proofs.PartitionLaws.{behind-none, behind-next, behind-al
 use Rattle.light_split.proofs.partition.put_behind.Goals as goal
 
 pub loop-i-init : goal.loop-i-init
-loop-i-init c = behind-none c.args.handles.now c.args.work.now c.args.left c.requires.left_in_bounds c.requires.handles_in_bounds
+loop-i-init c =
+    behind-none c.args.handles.now c.args.work.now c.args.left c.requires.left_in_bounds c.requires.handles_in_bounds
 
 pub loop-i-preserved : goal.loop-i-preserved
 loop-i-preserved c = behind-next c.loop-i.invariant (omega arith)

@@ -6,7 +6,8 @@ use Rattle.light_split.proofs.split.choose_split.Goals as goal
 
 pub returns-in-Found : goal.returns-in-Found
 unfolding ◌then◌ div of_bits
-returns-in-Found c = let args = c.args in
+returns-in-Found c =
+    let args = c.args in
     rw (
       choose_axes args.block.now args.handles.now,
       ← c.centroid_ends-ends.ensures,
@@ -16,7 +17,8 @@ returns-in-Found c = let args = c.args in
 
 pub returns-in-Lost : goal.returns-in-Lost
 unfolding ◌then◌ div of_bits
-returns-in-Lost c = let args = c.args in
+returns-in-Lost c =
+    let args = c.args in
     rw (
       choose_axes args.block.now args.handles.now,
       ← c.centroid_ends-ends.ensures,

@@ -7,19 +7,19 @@ use Rattle.light_split.proofs.SplitLaws.{join_box, combined-none, combined-first
 use Rattle.light_split.proofs.split.combined_bounds.Goals as goal
 
 pub returns-then-handles-eq0 : goal.returns-then-handles-eq0
-returns-then-handles-eq0 c = let args = c.args in
+returns-then-handles-eq0 c =
+    let args = c.args in
     c.light_box.ensures ∙ sym (combined-none args.block.now args.handles.now c.if-handles-eq0.true)
 
 pub loop-i-init : goal.loop-i-init
-loop-i-init c = let args = c.args in
+loop-i-init c =
+    let args = c.args in
     (omega arith, rw c.light_box-combined.ensures (combined-first args.block.now args.handles.now (omega arith)))
 
-pub overflow_add-i : goal.overflow_add-i
-overflow_add-i c = omega (arith, c.well_formed.1.0.0)
-
 pub loop-i-preserved : goal.loop-i-preserved
-loop-i-preserved c = let args = c.args in
-    let loop = c.loop-i in (
+loop-i-preserved c =
+    let args = c.args in
+    (
       omega arith,
       rw (c.union-combined.ensures, c.light_box-in-loop-i.ensures)
           (c.loop-i.invariant.1 ∙ folded-next (join_box args.block.now) c.loop-i.combined args.handles.now c.loop-i.i
@@ -27,7 +27,7 @@ loop-i-preserved c = let args = c.args in
     )
 
 pub returns : goal.returns
-returns c = let args = c.args in
-    let loop = c.loop-i in
+returns c =
+    let args = c.args in
     sym (c.loop-i.invariant.1 ∙ folded-all (join_box args.block.now) c.loop-i.combined args.handles.now c.loop-i.i
     (omega arith))
