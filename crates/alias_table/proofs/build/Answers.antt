@@ -32,8 +32,7 @@ returns c = let args = c.args in
     let g = c.play-last.ensures _ _ _ c.start-first.ensures in
     let under = wholed-of _ _ g.stacks.under-is g.bins-are g.count c.make_whole.ensures in
     let over = wholed-of _ _ g.stacks.over-is under (length-leftover _ _ ∙ g.count) c.make_whole-2.ensures
-    in (
-      rw (weighted-length args.flat args.weights.now) over,
-      c.zero_words.ensures ∙
-          zeroed _ _ _ g.stacks.room g.stacks.rest,
-    )
+    in record {
+      bins_after = rw (weighted-length args.flat args.weights.now) over;
+      work_after = c.zero_words.ensures ∙ zeroed _ _ _ g.stacks.room g.stacks.rest;
+    }

@@ -28,12 +28,12 @@ loop-nu-smaller-then-push c = omega (arith, ltb-true)
 pub loop-nu-preserved-then-push : goal.loop-nu-preserved-then-push
 loop-nu-preserved-then-push c = going_next c.loop-nu.invariant (omega arith) (omega (arith, ltb-true))
     c.joint-excess.ensures
-    c.settle.ensures c.push.ensures true c.if-push.true
+    c.settle.ensures (c.push.ensures.value, c.push.ensures.work_after) true c.if-push.true
 
 pub loop-nu-preserved : goal.loop-nu-preserved
 loop-nu-preserved c = going_next c.loop-nu.invariant (omega arith) (omega (arith, ltb-true))
     c.joint-excess.ensures
-    c.settle.ensures c.push.ensures false c.if-push.false
+    c.settle.ensures (c.push.ensures.value, c.push.ensures.work_after) false c.if-push.false
 
 pub returns-else-no-gt0 : goal.returns-else-no-gt0
 returns-else-no-gt0 c = going-last c.loop-nu.invariant (inr (omega (arith, ltb-false)))

@@ -21,12 +21,12 @@ loop-i-init c = starting-none _ c.args.sum (weighted-length c.args.flat c.args.w
 pub loop-i-preserved-then-below : goal.loop-i-preserved-then-below
 loop-i-preserved-then-below c = starting-next c.loop-i.invariant (omega arith) c.weight_at.ensures
     c.put_bin.ensures
-    c.push-below.ensures true c.if-below.true
+    (c.push-below.ensures.value, c.push-below.ensures.work_after) true c.if-below.true
 
 pub loop-i-preserved : goal.loop-i-preserved
 loop-i-preserved c = starting-next c.loop-i.invariant (omega arith) c.weight_at.ensures
     c.put_bin.ensures
-    c.push-below.ensures false c.if-below.false
+    (c.push-below.ensures.value, c.push-below.ensures.work_after) false c.if-below.false
 
 pub returns : goal.returns
 returns c = starting-all c.loop-i.invariant (omega arith) c.requires.sum_value
