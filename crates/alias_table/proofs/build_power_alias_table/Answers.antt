@@ -1,6 +1,6 @@
 -- `alias_table::build_power_alias_table`: its tests are the definition's, and where they pass the sums say which answer
 -- is left. Assumes nothing.
-use borrow.Author.Tests.{lt-ltb, le-ltb, lt-leb, le-leb, ltb-true, ltb-false}
+use borrow.Author.Tests.{lt-ltb, le-ltb, lt-leb, le-leb}
 use Prim.Native.Nat.{◌*◌}
 use mathlib.Core.Path.{refl, sym, ◌∙◌}
 use mathlib.Core.List.{append-nil}
@@ -29,7 +29,8 @@ room c =
 
 pub returns-then-m-gt-MAX_LAMPS : goal.returns-then-m-gt-MAX_LAMPS
 unfolding build_power_alias_table tray
-returns-then-m-gt-MAX_LAMPS c = simp (lt-ltb _ _ c.if-m-gt-MAX_LAMPS.true) (record { result_value = refl; bins_after = refl; work_after = refl })
+returns-then-m-gt-MAX_LAMPS c =
+    simp (lt-ltb _ _ c.if-m-gt-MAX_LAMPS.true) (record { result_value = refl; bins_after = refl; work_after = refl })
 
 pub returns-then-bins-m : goal.returns-then-bins-m
 unfolding build_power_alias_table tray
