@@ -1,12 +1,11 @@
 -- `alias_table::add_up`: the sums of the weights passed go on to the sums of all, and a bad weight ends the pass.
 -- Assumes nothing.
-use borrow.Author.Tests.{not-true, not-false}
 use mathlib.Core.Path.{refl}
 use native.Mathlib.Omega.{arith}
 use lib.Ieee.{of_bits, div}
 use Rattle.alias_table.proofs.WeightLaws.{bad-above, bad-below, sums_next, sums_stop, sums-all}
 use Rattle.alias_table.proofs.add_up.Goals as goal
-use Rattle.alias_table.proofs.add_up.Goals.{else-not-w, then-not-w}
+use Rattle.alias_table.proofs.add_up.Goals.{then-not-w-via-then-not-w, then-not-w-via-else-not-w+then-w}
 
 pub loop-i-init : goal.loop-i-init
 unfolding of_bits
@@ -15,13 +14,16 @@ loop-i-init c = record { within = omega arith; then = refl }
 pub returns-then-not-w : goal.returns-then-not-w
 unfolding of_bits div
 returns-then-not-w c = sums_stop c.loop-i.invariant (omega arith) c.f32_of_word-w.ensures
-    (elim c.then-not-w.branch [ then-not-w w ↦ bad-above _ (not-true _ w.taken) | else-not-w w ↦ bad-below _ w.1.taken ])
+    (elim c.then-not-w.branch [
+      then-not-w-via-then-not-w w ↦ bad-above _ w.if-not-w.true
+      | then-not-w-via-else-not-w+then-w w ↦ bad-below _ w.if-w.true
+    ])
 
 pub loop-i-preserved : goal.loop-i-preserved
 unfolding of_bits div
 loop-i-preserved c = rw c.widen-double.ensures
     (sums_next c.loop-i.invariant (omega arith) c.f32_of_word-w.ensures
-    (not-false _ c.if-not-w.false-raw) c.if-w.false)
+    c.if-not-w.false c.if-w.false)
 
 pub returns : goal.returns
 returns c = sums-all c.loop-i.invariant (omega arith)

@@ -9,9 +9,6 @@ use Rattle.alias_table.proofs.WeightLaws.{weighted-length}
 use Rattle.alias_table.proofs.LoopLaws.{left-of, wholed-of}
 use Rattle.alias_table.proofs.build.Goals as goal
 
-pub play-last-requires : goal.play-last-requires
-play-last-requires c = (_, _, _, c.start-first.ensures)
-
 pub make_whole-requires : goal.make_whole-requires
 make_whole-requires c = let g = c.play-last.ensures _ _ _ c.start-first.ensures in
     left-of _ _ g.stacks.under-is g.bins-are g.count (omega (arith, g.stacks.room, g.stacks.together))
@@ -23,17 +20,13 @@ make_whole-requires-2 c = let g = c.play-last.ensures _ _ _ c.start-first.ensure
     left-of _ _ g.stacks.over-is under (length-leftover _ _ ∙ g.count)
     (omega (arith, g.stacks.room, g.stacks.together))
 
-pub overflow_mul-count-2 : goal.overflow_mul-count-2
-overflow_mul-count-2 c = omega (arith, c.requires.room)
-
 pub returns : goal.returns
 unfolding played
 returns c = let args = c.args in
     let g = c.play-last.ensures _ _ _ c.start-first.ensures in
     let under = wholed-of _ _ g.stacks.under-is g.bins-are g.count c.make_whole.ensures in
     let over = wholed-of _ _ g.stacks.over-is under (length-leftover _ _ ∙ g.count) c.make_whole-2.ensures
-    in (
-      rw (weighted-length args.flat args.weights.now) over,
-      c.zero_words.ensures ∙
-          zeroed _ _ _ g.stacks.room g.stacks.rest,
-    )
+    in record {
+      bins_after = rw (weighted-length args.flat args.weights.now) over;
+      work_after = c.zero_words.ensures ∙ zeroed _ _ _ g.stacks.room g.stacks.rest;
+    }

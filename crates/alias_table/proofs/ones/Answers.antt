@@ -6,11 +6,6 @@ use lib.Ieee.{of_bits}
 use Rattle.alias_table.specs.AliasTable.{sum_from}
 use Rattle.alias_table.proofs.ones.Goals as goal
 
-pub loop-i-init : goal.loop-i-init
-unfolding of_bits
-loop-i-init c = let e : c.args.m - 0 ≡ c.args.m = omega arith in
-    rw e
-
 pub loop-i-preserved : goal.loop-i-preserved
 unfolding of_bits sum_from
 loop-i-preserved c = let e : c.args.m - c.loop-i.i ≡

@@ -3,37 +3,22 @@
 use mathlib.Core.Bool.{true, false}
 use mathlib.Core.Logic.{inl, inr}
 use borrow.Author.Tests.{ltb-true, ltb-false}
-use Rattle.alias_table.proofs.LoopLaws.{going-none, going_in, going_next, going-last}
+use Rattle.alias_table.proofs.LoopLaws.{going_in, going_next, going-last}
 use native.Mathlib.Omega.{arith}
 use Rattle.alias_table.proofs.play.Goals as goal
-
-pub loop-nu-init : goal.loop-nu-init
-loop-nu-init c = going-none c.requires
-
-pub overflow_sub-o : goal.overflow_sub-o
-overflow_sub-o c = omega (arith, ltb-true)
 
 pub settle-requires : goal.settle-requires
 settle-requires c = going_in c.loop-nu.invariant c.requires (omega arith) (omega (arith, ltb-true))
 
-pub overflow_sub-no : goal.overflow_sub-no
-overflow_sub-no c = omega (arith, ltb-true)
-
-pub overflow_sub-no-then-push : goal.overflow_sub-no-then-push
-overflow_sub-no-then-push c = omega (arith, ltb-true)
-
-pub loop-nu-smaller-then-push : goal.loop-nu-smaller-then-push
-loop-nu-smaller-then-push c = omega (arith, ltb-true)
-
 pub loop-nu-preserved-then-push : goal.loop-nu-preserved-then-push
 loop-nu-preserved-then-push c = going_next c.loop-nu.invariant (omega arith) (omega (arith, ltb-true))
     c.joint-excess.ensures
-    c.settle.ensures c.push.ensures true c.if-push.true
+    c.settle.ensures (c.push.ensures.value, c.push.ensures.work_after) true c.if-push.true
 
 pub loop-nu-preserved : goal.loop-nu-preserved
 loop-nu-preserved c = going_next c.loop-nu.invariant (omega arith) (omega (arith, ltb-true))
     c.joint-excess.ensures
-    c.settle.ensures c.push.ensures false c.if-push.false
+    c.settle.ensures (c.push.ensures.value, c.push.ensures.work_after) false c.if-push.false
 
 pub returns-else-no-gt0 : goal.returns-else-no-gt0
 returns-else-no-gt0 c = going-last c.loop-nu.invariant (inr (omega (arith, ltb-false)))

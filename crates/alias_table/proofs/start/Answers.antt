@@ -1,18 +1,10 @@
 -- `alias_table::start`: the bins passed are written and pushed, and pushing the others leads to the start's state.
 -- Assumes nothing.
-use Prim.Native.Nat.{◌^◌}
 use mathlib.Core.Bool.{true, false}
-use borrow.Author.Tests.{le-leb}
-use lib.Ieee.{in_float}
-use lib.ListN.{length}
 use Rattle.alias_table.proofs.LoopLaws.{starting-none, starting-next, starting-all}
 use Rattle.alias_table.proofs.WeightLaws.{weighted-length}
 use native.Mathlib.Omega.{arith}
 use Rattle.alias_table.proofs.start.Goals as goal
-
-pub int_to_float-count : goal.int_to_float-count
-unfolding in_float
-int_to_float-count c = rw (le-leb (length c.args.weights.now) (2 ^ 24) (omega (arith, c.requires))) tt
 
 pub loop-i-init : goal.loop-i-init
 loop-i-init c = starting-none _ c.args.sum (weighted-length c.args.flat c.args.weights.now)
@@ -21,12 +13,12 @@ loop-i-init c = starting-none _ c.args.sum (weighted-length c.args.flat c.args.w
 pub loop-i-preserved-then-below : goal.loop-i-preserved-then-below
 loop-i-preserved-then-below c = starting-next c.loop-i.invariant (omega arith) c.weight_at.ensures
     c.put_bin.ensures
-    c.push-below.ensures true c.if-below.true
+    (c.push-below.ensures.value, c.push-below.ensures.work_after) true c.if-below.true
 
 pub loop-i-preserved : goal.loop-i-preserved
 loop-i-preserved c = starting-next c.loop-i.invariant (omega arith) c.weight_at.ensures
     c.put_bin.ensures
-    c.push-below.ensures false c.if-below.false
+    (c.push-below.ensures.value, c.push-below.ensures.work_after) false c.if-below.false
 
 pub returns : goal.returns
 returns c = starting-all c.loop-i.invariant (omega arith) c.requires.sum_value

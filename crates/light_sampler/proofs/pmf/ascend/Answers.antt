@@ -1,14 +1,10 @@
 -- The walk that is left comes to what the whole walk comes to, for whatever query is held. Assumes nothing.
-use mathlib.Core.Path.{refl, sym, ap, ◌∙◌}
+use mathlib.Core.Path.{sym, ap, ◌∙◌}
 use lib.Ieee.{of_bits}
 use Rattle.light_sampler.specs.AsCoded.Turns.{factor_of, parent_of, above_of}
 use Rattle.light_sampler.proofs.WalkLaws.{rise-held, ascend-spent, ascend_unknown, ascend-root}
 use Rattle.light_sampler.proofs.WalkLaws.{ascend-refused, ascend-nought, ascend-part}
 use Rattle.light_sampler.proofs.pmf.ascend.Goals as goal
-
-pub loop-entries-init : goal.loop-entries-init
-unfolding of_bits
-loop-entries-init c = (c.node_at-here.ensures, λ q h. refl)
 
 pub returns-then-parent : goal.returns-then-parent
 returns-then-parent c = let loop = c.loop-entries in
@@ -16,9 +12,6 @@ returns-then-parent c = let loop = c.loop-entries in
     ap above_of c.in-Parent.is in
     sym (ascend-root _ _ _ _ _ c.loop-entries-test.true stands c.if-parent.true) ∙
     c.loop-entries.invariant.1 _ c.prepare-held.ensures
-
-pub rise-requires : goal.rise-requires
-rise-requires c = c.node_at-above.ensures
 
 pub loop-entries-preserved : goal.loop-entries-preserved
 loop-entries-preserved c = let loop = c.loop-entries in

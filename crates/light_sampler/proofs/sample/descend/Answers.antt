@@ -1,8 +1,7 @@
 -- The walk that is left comes to what the whole walk comes to, for whatever query is held. Assumes nothing.
 use Prim.Native.Nat.{◌<◌, ◌^◌}
-use mathlib.Core.Path.{refl, sym, ap, ◌∙◌}
+use mathlib.Core.Path.{sym, ap, ◌∙◌}
 use native.Mathlib.Omega.{arith}
-use lib.Ieee.{of_bits}
 use Rattle.words.specs.Answers.{given}
 use Rattle.words.specs.LittleEndian.{words_of}
 use Rattle.words.proofs.LittleEndianLaws.{length-words_of}
@@ -20,10 +19,6 @@ near c =
     let within = node-within (words_of bytes) c.loop-entries.place
     (sym c.node_at.ensures ∙ ap node c.in-Interior.is) in
     omega (arith, within, length-words_of bytes, c.well_formed.0)
-
-pub loop-entries-init : goal.loop-entries-init
-unfolding of_bits
-loop-entries-init c q h = refl
 
 pub returns-in-Leaf : goal.returns-in-Leaf
 returns-in-Leaf c = let stands = sym c.node_at.ensures ∙ ap node c.in-Leaf.is in

@@ -1,44 +1,38 @@
 -- `packed_bvh::pack::check_pack`: the number of nodes, then the room. Assumes nothing.
-use Prim.Native.Nat.{◌*◌, ◌≤◌}
+use Prim.Native.Nat.{ℕ, ◌*◌}
 use mathlib.Core.Bool.{cond}
-use mathlib.Core.Path.{◌≡◌, sym, ap, ◌∙◌}
+use mathlib.Core.List.{List}
+use mathlib.Core.Path.{◌≡◌, sym}
 use lib.Dec.{ltb}
 use native.Mathlib.Omega.{arith}
 use borrow.Author.Tests.{lt-ltb, le-ltb}
-use Rattle.words.specs.Answers.{◌then◌, counted, given, refused}
-use Rattle.light_rows.specs.Nodes.{max_nodes, node_count}
-use Rattle.packed_bvh.specs.Packed.{pack_check}
+use Rattle.words.specs.Answers.{◌then◌, given, refused}
+use Rattle.light_rows.specs.Nodes.{node_count}
+use Rattle.packed_bvh.specs.Packed.{packed_reserve, pack_check}
 use Rattle.packed_bvh.proofs.PackLaws.{count-known, reserve-small}
 use Rattle.packed_bvh.proofs.pack.check_pack.Goals as goal
-use Rattle.packed_bvh.proofs.pack.check_pack.Goals.{After-reserve, In-Count}
-
-module _ (c : In-Count) where
-  abbrev start : tie.Start
-  start = c
-
-  count : node_count start.args.nodes.now ≡ given c.in-Count.n
-  count = sym c.node_count.ensures ∙ ap counted c.in-Count.is
-
-  few : c.in-Count.n ≤ max_nodes
-  few = (count-known start.args.nodes.now _ count).0
 
 -- what is left is the room's test
-told : (c : After-reserve) → let args = (start c.before).args in pack_check args.nodes.now args.room
-    ≡ cond (ltb args.room (4 * c.reserve.result)) (refused 3) (given c.in-Count.n)
+told : (nodes : List ℕ) (room n r : ℕ) → node_count nodes ≡ given n → r ≡ packed_reserve n
+    → pack_check nodes room ≡ cond (ltb room (4 * r)) (refused 3) (given n)
 unfolding pack_check ◌then◌
-told c = rw (count c, ← c.reserve.ensures)
+told nodes room n r is reserve = rw (is, reserve)
 
 pub reserve-requires : goal.reserve-requires
-reserve-requires c = few c
+reserve-requires c = (count-known c.args.nodes.now _ (sym c.in-Count.ensures)).0
 
 pub overflow_mul-reserve : goal.overflow_mul-reserve
-overflow_mul-reserve c = omega (arith, c.reserve.ensures, reserve-small _ (few c))
+overflow_mul-reserve c =
+    let few = (count-known c.args.nodes.now _ (sym c.in-Count.ensures)).0 in
+    omega (arith, reserve-small _ few)
 
 pub returns-then-room-reserve : goal.returns-then-room-reserve
-returns-then-room-reserve c = rw (told (goal.at.returns-then-room-reserve c).After-reserve, lt-ltb _ _ c.if-room-reserve.true)
+returns-then-room-reserve c =
+    rw (told _ _ _ _ (sym c.in-Count.ensures) c.reserve.ensures, lt-ltb _ _ c.if-room-reserve.true)
 
 pub returns-else-room-reserve : goal.returns-else-room-reserve
-returns-else-room-reserve c = rw (told (goal.at.returns-else-room-reserve c).After-reserve, le-ltb _ _ c.if-room-reserve.false)
+returns-else-room-reserve c =
+    rw (told _ _ _ _ (sym c.in-Count.ensures) c.reserve.ensures, le-ltb _ _ c.if-room-reserve.false)
 
 pub returns-in-Refused : goal.returns-in-Refused
 unfolding pack_check ◌then◌

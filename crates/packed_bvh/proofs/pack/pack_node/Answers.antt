@@ -8,8 +8,7 @@ use Rattle.packed_bvh.proofs.pack.pack_node.Goals as goal
 
 pub returns-in-Leaf : goal.returns-in-Leaf
 returns-in-Leaf c = let args = c.args in
-    let words = c.handle-1.given.0 in
-    let n = leaf words.0 words.1.0 in
+    let n = leaf c.in-Leaf.handle c.in-Leaf.parent in
     c.pack_placed.ensures
     ∙ rw c.place_leaf.ensures
     (sym (node-placed args.count args.all (words_of args.nodes.now) args.index n
@@ -17,8 +16,7 @@ returns-in-Leaf c = let args = c.args in
 
 pub returns-in-Interior : goal.returns-in-Interior
 returns-in-Interior c = let args = c.args in
-    let words = c.left-1.given.0 in
-    let n = interior words.0 words.1.0 words.1.1.0 in
+    let n = interior c.in-Interior.left c.in-Interior.right c.in-Interior.parent in
     c.pack_placed-in-Interior.ensures
     ∙ rw c.place_interior.ensures
     (sym (node-placed args.count args.all (words_of args.nodes.now) args.index n

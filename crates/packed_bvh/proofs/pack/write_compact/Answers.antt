@@ -1,13 +1,8 @@
 -- `packed_bvh::pack::write_compact`: eight words, one behind the other. Assumes nothing.
-use mathlib.Core.Path.{refl, ap, ◌∙◌}
+use mathlib.Core.Path.{refl}
 use native.Mathlib.Omega.{arith}
-use lib.ListN.{length}
-use lib.Seq.{length-sets}
 use Rattle.packed_bvh.proofs.PackLaws.{words-none, words-one}
 use Rattle.packed_bvh.proofs.pack.write_compact.Goals as goal
-
-pub shape_of-out : goal.shape_of-out
-shape_of-out c = ap length (returns c) ∙ simp length-sets
 
 pub returns : goal.returns
 returns c = let w1 = words-one (words-none c.args.out.now c.args.place) c.set_word.ensures refl

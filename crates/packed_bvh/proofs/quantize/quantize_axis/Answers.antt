@@ -1,18 +1,10 @@
 -- `packed_bvh::quantize::quantize_axis`: the last step and past it that; else the steps are cut, and one more from a
 -- half on. Assumes nothing.
-use Prim.Native.Nat.{◌^◌}
-use native.Mathlib.Omega.{arith}
-use borrow.Author.Tests.{le-leb}
-use lib.Ieee.{in_float}
 use Rattle.packed_bvh.proofs.QuantizeCuts.{axis-last, axis-cut}
 use Rattle.packed_bvh.proofs.quantize.quantize_axis.Goals as goal
 
 pub returns-then-n-ge65535 : goal.returns-then-n-ge65535
 returns-then-n-ge65535 c = axis-last c.args.c c.to_u32-n.result c.to_u32-n.ensures c.if-n-ge65535.true
-
-pub int_to_float-n : goal.int_to_float-n
-unfolding in_float
-int_to_float-n c = rw (le-leb c.to_u32-n.result (2 ^ 24) (omega arith)) tt
 
 pub returns-then-n-step : goal.returns-then-n-step
 returns-then-n-step c = rw (

@@ -26,15 +26,15 @@ returns-then-min-max c = rw c.if-min-max.true
 
 pub int_to_float-n : goal.int_to_float-n
 unfolding in_float
-int_to_float-n c = rw (le-leb c.to_u32-n.result (2 ^ 24) (omega (arith, small c))) tt
+int_to_float-n c = rw (le-leb c.to_u32-n.result (2 ^ 24) (omega (arith, small (goal.at.int_to_float-n c).After-to_u32-n))) tt
 
 pub overflow_add-result : goal.overflow_add-result
-overflow_add-result c = omega (arith, small c)
+overflow_add-result c = omega (arith, small (goal.at.overflow_add-result c).After-to_u32-n)
 
 pub returns-then-n-step : goal.returns-then-n-step
 returns-then-n-step c = rw (
   ← up-cut _ _ _ c.if-min-max.false c.to_u32-n.result
-      (cut c),
+      (cut (goal.at.returns-then-n-step c).After-to_u32-n),
   ← c.steps-step.ensures,
   c.if-n-step.true,
 )
@@ -42,7 +42,7 @@ returns-then-n-step c = rw (
 pub returns-else-n-step : goal.returns-else-n-step
 returns-else-n-step c = rw (
   ← up-cut _ _ _ c.if-min-max.false c.to_u32-n.result
-      (cut c),
+      (cut (goal.at.returns-else-n-step c).After-to_u32-n),
   ← c.steps-step.ensures,
   c.if-n-step.false,
 )
