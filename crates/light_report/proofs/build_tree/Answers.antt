@@ -1,7 +1,5 @@
 -- Build's own answer and trays: the slices that are lent are the reserves of 512 lamps. Assumes nothing.
-use Prim.Native.Nat.{ℕ}
 use mathlib.Core.Path.{◌≡◌, ap, ◌∙◌}
-use mathlib.Core.List.{List}
 use lib.ListN.{length, get_or}
 use Rattle.words.specs.Answers.{Answer}
 use Rattle.words.specs.Tray.{tray}
@@ -12,40 +10,52 @@ use Rattle.light_report.proofs.build_tree.Goals as goal
 use Rattle.light_report.proofs.build_tree.Goals.{After-build_light_bvh}
 
 module _ (c : After-build_light_bvh) where
-  abbrev start : tie.Start
-  start = c
-
-  abbrev lamps : ℕ
-  lamps = start.args.lamps
-
-  abbrev block : List ℕ
-  block = start.args.block.now
+  abbrev tree : Answer LightBVH
+  tree = tree_of c.args.lamps c.args.block.now
 
   -- the trays are as long as the reserves of 512 lamps
-  sized : build_light_bvh lamps block (length start.args.nodes.now) (length start.args.table.now)
-      (length start.args.work.now)
-      ≡ tree_of lamps block
+  sized : build_light_bvh c.args.lamps c.args.block.now (length c.args.nodes.now) (length c.args.table.now)
+      (length c.args.work.now)
+      ≡ tree
   unfolding tree_of
-  sized = rw (start.pre.0, start.pre.1, start.pre.2)
+  sized = rw (c.requires.0, c.requires.1, c.requires.2)
 
-  nodes : c.build_light_bvh.new.1.1.0 ≡
-      tray nodes_written (nodes_reserve (get_or block 0 0)) (tree_of lamps block) start.args.nodes.now
+  nodes : c.build_light_bvh.new.nodes
+      ≡ tray nodes_written (nodes_reserve (get_or c.args.block.now 0 0)) tree c.args.nodes.now
   nodes = c.build_light_bvh.ensures.nodes_after ∙ ap
-      (λ (t : Answer LightBVH). tray nodes_written (nodes_reserve (get_or block 0 0)) t start.args.nodes.now) sized
+      (λ (t : Answer LightBVH). tray nodes_written (nodes_reserve (get_or c.args.block.now 0 0)) t c.args.nodes.now)
+      sized
 
-  table : c.build_light_bvh.new.1.1.1.0 ≡
-      tray table_written (get_or block 0 0) (tree_of lamps block) start.args.table.now
+  table : c.build_light_bvh.new.table ≡ tray table_written (get_or c.args.block.now 0 0) tree c.args.table.now
   table = c.build_light_bvh.ensures.table_after ∙ ap
-      (λ (t : Answer LightBVH). tray table_written (get_or block 0 0) t start.args.table.now) sized
+      (λ (t : Answer LightBVH). tray table_written (get_or c.args.block.now 0 0) t c.args.table.now) sized
 
 pub returns-in-Tree : goal.returns-in-Tree
 unfolding powered
-returns-in-Tree c = record { result_value = rw (← sized c, ← c.build_light_bvh.ensures.result_value, c.in-Tree.is); nodes_after = nodes c; table_after = table c }
+returns-in-Tree c =
+    let built = (goal.at.returns-in-Tree c).After-build_light_bvh in
+    record {
+      result_value = rw (← sized built, ← c.build_light_bvh.ensures.result_value, c.in-Tree.is);
+      nodes_after = nodes built;
+      table_after = table built;
+    }
 
 pub returns-in-Nothing : goal.returns-in-Nothing
 unfolding powered
-returns-in-Nothing c = record { result_value = rw (← sized c, ← c.build_light_bvh.ensures.result_value, c.in-Nothing.is); nodes_after = nodes c; table_after = table c }
+returns-in-Nothing c =
+    let built = (goal.at.returns-in-Nothing c).After-build_light_bvh in
+    record {
+      result_value = rw (← sized built, ← c.build_light_bvh.ensures.result_value, c.in-Nothing.is);
+      nodes_after = nodes built;
+      table_after = table built;
+    }
 
 pub returns-in-Refused : goal.returns-in-Refused
 unfolding powered
-returns-in-Refused c = record { result_value = rw (← sized c, ← c.build_light_bvh.ensures.result_value, c.in-Refused.is); nodes_after = nodes c; table_after = table c }
+returns-in-Refused c =
+    let built = (goal.at.returns-in-Refused c).After-build_light_bvh in
+    record {
+      result_value = rw (← sized built, ← c.build_light_bvh.ensures.result_value, c.in-Refused.is);
+      nodes_after = nodes built;
+      table_after = table built;
+    }

@@ -6,14 +6,14 @@ use Rattle.light_report.proofs.front_bytes.Goals as goal
 
 pub returns-then-lamps-gt-REPORT_LAMPS : goal.returns-then-lamps-gt-REPORT_LAMPS
 unfolding front_bytes
-returns-then-lamps-gt-REPORT_LAMPS c = (
-  rw (← c.word_at.ensures, ← c.wide-lamps.ensures) (rw (lt-ltb _ _ c.if-lamps-gt-REPORT_LAMPS.true)),
-  (omega arith, omega arith),
-)
+returns-then-lamps-gt-REPORT_LAMPS c = record {
+  value = rw (← c.word_at.ensures, ← c.wide-lamps.ensures) (rw (lt-ltb _ _ c.if-lamps-gt-REPORT_LAMPS.true));
+  lower_bound = (omega arith, omega arith);
+}
 
 pub returns : goal.returns
 unfolding front_bytes
-returns c = (
-  rw (← c.word_at.ensures, ← c.wide-lamps.ensures) (rw (le-ltb _ _ c.if-lamps-gt-REPORT_LAMPS.false)),
-  (omega arith, omega arith),
-)
+returns c = record {
+  value = rw (← c.word_at.ensures, ← c.wide-lamps.ensures) (rw (le-ltb _ _ c.if-lamps-gt-REPORT_LAMPS.false));
+  lower_bound = (omega arith, omega arith);
+}

@@ -15,124 +15,105 @@ use Rattle.light_report.specs.AsCoded.Written.{sizes, taken, node_bytes, table_b
 use Rattle.light_report.proofs.TreeBytes.{sizes-few, nodes-front, table-front, opened-groups}
 use Rattle.light_report.proofs.TreeBytes.{first-header, tree-room, Ends, ended-first}
 use Rattle.light_report.proofs.open_report.Goals as goal
-use Rattle.light_report.proofs.open_report.Goals.{After-put_refused, After-put_words-nodes_end, After-put_words-table_end, After-take_tree, In-Tree-2}
+use Rattle.light_report.proofs.open_report.Goals.{After-put_text-header, In-Tree, After-put_words-nodes_end}
+use Rattle.light_report.proofs.open_report.Goals.{After-put_words-table_end, After-put_refused}
 
-module _ (c : After-take_tree) where
-  abbrev said : tie.After-put-text
-  said = c
-
-  abbrev start : tie.Start
-  start = said.before.before.before.before.before.before.before.before.before.before.before
-
-  abbrev tree : Answer LightBVH
-  tree = report_tree start.args.front.now
-
-  header : (said.put-text.last.0 ≡ sets start.args.out.now 0 header_bytes)
-      × (said.put-text.result ≡ length header_bytes)
-  header = rw (fitting-all start.args.out.now 0 header_bytes (omega (arith, start.pre.1.2))) at
-      said.put-text.ensures
+header : (c : After-put_text-header)
+    → (c.put_text-header.new.out ≡ sets c.args.out.now 0 header_bytes)
+    × (c.put_text-header.result ≡ length header_bytes)
+header c =
+    let room = fitting-all c.args.out.now 0 header_bytes (omega (arith, c.requires.node_bytes_len.2)) in
+    (rw room at c.put_text-header.ensures.out_after, rw room at c.put_text-header.ensures.value)
 
 -- a tree with so many lamps and so many of them powered
-module _ (c : In-Tree-2) where
-  abbrev call : tie.After-take-tree
-  call = c
+module _ (c : In-Tree) where
+  sized : given (c.in-Tree.lamps, c.in-Tree.k) ≡ sizes (report_tree c.args.front.now)
+  sized = sym (ap taken c.in-Tree.is) ∙ c.take_tree.ensures.result_value
 
-  abbrev m : ℕ
-  m = c.in-Tree.lamps
-
-  abbrev k : ℕ
-  k = c.in-Tree.k
-
-  sized : given (m, k) ≡ sizes (tree call)
-  sized = sym (ap taken c.in-Tree.is) ∙ call.take-tree.ensures.0
-
-  few : (k ≤ m) × (m ≤ report_lamps)
-  few = sizes-few (start call).args.front.now m k sized
+  few : (c.in-Tree.k ≤ c.in-Tree.lamps) × (c.in-Tree.lamps ≤ report_lamps)
+  few = sizes-few c.args.front.now c.in-Tree.lamps c.in-Tree.k sized
 
 -- its nodes' bytes
-module _ (c : After-put_words-nodes_end) where
-  abbrev counted : tie.After-node-words
-  counted = c
+nodes : (c : After-put_words-nodes_end) → given (c.in-Tree.lamps, c.in-Tree.k) ≡ sizes (report_tree c.args.front.now)
+    → (c.put_words-nodes_end.new.out ≡ sets c.args.node_bytes.now 0 (node_bytes (report_tree c.args.front.now)))
+    × (c.put_words-nodes_end.result ≡ length (node_bytes (report_tree c.args.front.now)))
+nodes c tree =
+    let front = c.args.front.now in
+    let words = ap (λ (n : ℕ). bytes_of (take n c.take_tree.new.nodes))
+        (sub-zero c.node_words-words.result ∙ c.node_words-words.ensures) in
+    let room : length (node_bytes (report_tree front)) ≤ length c.args.node_bytes.now =
+        omega (arith, (tree-room front (report_tree front) refl).0, c.requires.node_bytes_len.0) in
+    words-fit _ _ (node_bytes (report_tree front))
+    (words ∙ nodes-front front c.in-Tree.lamps c.in-Tree.k tree _ _ _ c.take_tree.ensures.nodes_after)
+    room (c.put_words-nodes_end.ensures.out_after, c.put_words-nodes_end.ensures.value)
 
-  abbrev lamps : tie.After-lamps
-  lamps = counted.before.before
-
-  nodes : (c.put_words-nodes_end.new.0 ≡ sets (start (call lamps)).args.node-bytes.now 0 (node_bytes (tree (call lamps))))
-      × (c.put_words-nodes_end.result ≡ length (node_bytes (tree (call lamps))))
-  nodes =
-      let front = (start (call lamps)).args.front.now in
-      let left = (call lamps).take-tree.last.1.1.0 in
-      let words = ap (λ (n : ℕ). bytes_of (take n left))
-      (sub-zero counted.node-words.result ∙ counted.node-words.ensures) in
-      let room : length (node_bytes (tree (call lamps))) ≤ length (start (call lamps)).args.node-bytes.now =
-      omega (arith, (tree-room front (tree (call lamps)) refl).0, (start (call lamps)).pre.1.0) in
-      words-fit _ _ (node_bytes (tree (call lamps)))
-      (words ∙ nodes-front front (m lamps) (k lamps) (sized lamps) _ _ _ (call lamps).take-tree.ensures.1.0)
-      room c.put_words-nodes_end.ensures
-
-module _ (c : After-put_words-table_end) where
-  abbrev before : tie.After-put-words
-  before = c
-
-  table : (c.put_words-table_end.new.0 ≡
-      sets (start (call (lamps before))).args.table-bytes.now 0 (table_bytes (tree (call (lamps before)))))
-      × (c.put_words-table_end.result ≡ length (table_bytes (tree (call (lamps before)))))
-  table =
-      let at = lamps before in
-      let front = (start (call at)).args.front.now in
-      let left = (call at).take-tree.last.1.1.1.0 in
-      let words = ap (λ (n : ℕ). bytes_of (take n left)) (sub-zero (m at)) in
-      let room : length (table_bytes (tree (call at))) ≤ length (start (call at)).args.table-bytes.now =
-      omega (arith, (tree-room front (tree (call at)) refl).1, (start (call at)).pre.1.1) in
-      words-fit _ _ (table_bytes (tree (call at)))
-      (words ∙ table-front front (m at) (k at) (sized at) _ _ _ (call at).take-tree.ensures.1.1)
-      room c.put_words-table_end.ensures
+table : (c : After-put_words-table_end) → given (c.in-Tree.lamps, c.in-Tree.k) ≡ sizes (report_tree c.args.front.now)
+    → (c.put_words-table_end.new.out
+    ≡ sets c.args.table_bytes.now 0 (table_bytes (report_tree c.args.front.now)))
+    × (c.put_words-table_end.result ≡ length (table_bytes (report_tree c.args.front.now)))
+table c tree =
+    let front = c.args.front.now in
+    let words = ap (λ (n : ℕ). bytes_of (take n c.take_tree.new.table)) (sub-zero c.in-Tree.lamps) in
+    let room : length (table_bytes (report_tree front)) ≤ length c.args.table_bytes.now =
+        omega (arith, (tree-room front (report_tree front) refl).1, c.requires.node_bytes_len.1) in
+    words-fit _ _ (table_bytes (report_tree front))
+    (words ∙ table-front front c.in-Tree.lamps c.in-Tree.k tree _ _ _ c.take_tree.ensures.table_after)
+    room (c.put_words-table_end.ensures.out_after, c.put_words-table_end.ensures.value)
 
 -- of a bad block
 module _ (c : After-put_refused) where
-  abbrev why : tie.After-why
-  why = c
+  none : refused (number c.in-Refused.why) ≡ sizes (report_tree c.args.front.now)
+  none = sym (ap taken c.in-Refused.is) ∙ c.take_tree.ensures.result_value
 
-  abbrev call-2 : tie.After-take-tree
-  call-2 = why.before.before.before.before.before.before.before.before.before.before
+  ended : (c.put_text-header.new.out ≡ sets c.args.out.now 0 header_bytes)
+      × (c.put_text-header.result ≡ length header_bytes)
+      → Ends (report_tree c.args.front.now) c.args.out.now (c.put_text-header.result + c.put_refused.result)
+      c.put_refused.new.out
+  ended said =
+      ended-first (report_tree c.args.front.now) _ none c.args.out.now c.put_text-header.result c.put_refused.result
+      c.requires.node_bytes_len.2 said
+      (c.put_refused.ensures.out_after, c.put_refused.ensures.value)
 
-  none : refused (number why.why.given.0.0) ≡ sizes (tree call-2)
-  none = sym (ap taken why.why.given.1) ∙ call-2.take-tree.ensures.0
+pub node_words-words-requires : goal.node_words-words-requires
+node_words-words-requires c = omega (arith, (few c).0, (few c).1)
 
-  ended : Ends (tree call-2) (start call-2).args.out.now ((said call-2).put-text.result + c.put_refused.result)
-      c.put_refused.new.0
-  ended =
-      ended-first (tree call-2) _ none (start call-2).args.out.now (said call-2).put-text.result
-      c.put_refused.result
-      (start call-2).pre.1.2 (header call-2) c.put_refused.ensures
+pub slice_bounds-put_words-end : goal.slice_bounds-put_words-end
+slice_bounds-put_words-end c =
+    let tree = few (goal.at.slice_bounds-put_words-end c).In-Tree in
+    omega (arith, c.node_words-words.ensures, tree.0, tree.1, c.requires.in_bounds.1)
+
+pub slice_bounds-put_words-end-in-Tree : goal.slice_bounds-put_words-end-in-Tree
+slice_bounds-put_words-end-in-Tree c =
+    let tree = few (goal.at.slice_bounds-put_words-end-in-Tree c).In-Tree in
+    omega (arith, tree.1, c.requires.in_bounds.2)
+
+pub overflow_add-result : goal.overflow_add-result
+overflow_add-result c =
+    let at = goal.at.overflow_add-result c in
+    omega (arith, (ended at.After-put_refused (header at.After-put_text-header)).few)
 
 pub returns-in-Tree : goal.returns-in-Tree
-returns-in-Tree c = let at = lamps (before c) in
-    let front = (start (call at)).args.front.now in
-    let opened = opened-groups front (m at) (k at) (sized at) _ _ _ (header (call at)).1 (nodes (before c)).1
-    (table c).1 in
-    let first = first-header front (m at) (k at) (sized at) in record {
-      opened = opened;
-      nodes-laid = (nodes (before c)).0;
-      table-laid = (table c).0;
-      lines-laid = (header (call at)).0 ∙ ap (sets (start (call at)).args.out.now 0) first;
+returns-in-Tree c =
+    let at = goal.at.returns-in-Tree c in
+    let tree = sized at.In-Tree in
+    let front = c.args.front.now in
+    let said = header at.After-put_text-header in
+    let walked = nodes at.After-put_words-nodes_end tree in
+    let tabled = table at.After-put_words-table_end tree in
+    record {
+      opened = opened-groups front c.in-Tree.lamps c.in-Tree.k tree _ _ _ said.1 walked.1 tabled.1;
+      nodes-laid = walked.0;
+      table-laid = tabled.0;
+      lines-laid = said.0 ∙ ap (sets c.args.out.now 0) (first-header front c.in-Tree.lamps c.in-Tree.k tree);
     }
 
 pub returns-in-Refused : goal.returns-in-Refused
-returns-in-Refused c = let args = (start (call-2 c)).args in
-    let end = ended c in record {
+returns-in-Refused c =
+    let at = goal.at.returns-in-Refused c in
+    let end = ended at.After-put_refused (header at.After-put_text-header) in
+    record {
       opened = end.opened;
-      nodes-laid = ap (sets args.node-bytes.now 0) end.no-nodes;
-      table-laid = ap (sets args.table-bytes.now 0) end.no_table;
+      nodes-laid = ap (sets c.args.node_bytes.now 0) end.no-nodes;
+      table-laid = ap (sets c.args.table_bytes.now 0) end.no_table;
       lines-laid = end.lines;
     }
-
-pub LEFT_table-end : goal.LEFT_table-end
-LEFT_table-end c = let at = lamps c in
-    omega (arith, (few at).1, (call at).take-tree.kept.1.1.1.0, (start (call at)).pre.0.2)
-
--- LEFT (λ c κs. omega (arith, (few c.before).0, (few c.before).1))
-
--- LEFT (λ c. omega ( arith, c.before.before.node-words.ensures, (few c.before.before.before.before).0, (few c.before.before.before.before).1, (call c.before.before.before.before).take-tree.kept.1.1.0, (start (call c.before.before.before.before)).pre.0.1, ))
-
--- LEFT (λ c. omega (arith, (ended c.before.before).few))

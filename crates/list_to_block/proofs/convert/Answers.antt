@@ -18,30 +18,20 @@ use Rattle.list_to_block.proofs.convert.Goals.{After-build_light_bounds, In-Coun
 
 -- what build has answered and left
 module _ (c : After-build_light_bounds) where
-  abbrev start : tie.Start
-  start = c
-
-  abbrev list : List ℕ
-  list = start.args.list.now
-
   abbrev bytes : List ℕ
-  bytes = answer_bytes (build_light_bounds list block_room)
+  bytes = answer_bytes (build_light_bounds c.args.list.now block_room)
 
-  room : 0 + length bytes ≤ length start.args.out.now
-  room = omega (arith, block_room_lem list block_room, start.pre.1)
+  room : 0 + length bytes ≤ length c.args.out.now
+  room = omega (arith, block_room_lem c.args.list.now block_room, c.requires.1)
 
-module _ (c : In-Count) where
-  abbrev call : tie.After-build-light-bounds
-  call = c
-
-  abbrev m : ℕ
-  m = c.in-Count.m
-
-  block : (m ≤ max_lamps) × (bytes_of (take (block_words m) call.build-light-bounds.last.1.0) ≡ bytes call)
-  block =
-      let built = call.build-light-bounds.ensures in
-      block-bytes (list call) _ (start call).pre.0 _ _ m (sym (ap counted c.in-Count.is) ∙ built.0)
-      built.1
+block : (c : In-Count)
+    → (c.in-Count.m ≤ max_lamps)
+    × (bytes_of (take (block_words c.in-Count.m) c.build_light_bounds.new.block)
+    ≡ answer_bytes (build_light_bounds c.args.list.now block_room))
+block c =
+    let built = c.build_light_bounds.ensures in
+    block-bytes c.args.list.now _ c.requires.0 _ _ c.in-Count.m (sym (ap counted c.in-Count.is) ∙ built.result_value)
+    built.block_after
 
 pub overflow_mul-end : goal.overflow_mul-end
 overflow_mul-end c = record { fits = omega (arith, (block c).0) }
@@ -50,14 +40,21 @@ pub overflow_add-end : goal.overflow_add-end
 overflow_add-end c = record { fits = omega (arith, (block c).0) }
 
 pub slice_bounds-put_words-end : goal.slice_bounds-put_words-end
-slice_bounds-put_words-end c = omega (arith, (block c).0, (call c).build-light-bounds.kept.1.0, (start (call c)).pre.0)
+slice_bounds-put_words-end c = omega (arith, (block (goal.at.slice_bounds-put_words-end c).In-Count).0)
 
 pub returns-in-Count : goal.returns-in-Count
-returns-in-Count c = rw (sub-zero (block_words (m c)), (block c).1, fitting-all _ 0 (bytes (call c)) (room (call c))) at
+returns-in-Count c =
+    let at = goal.at.returns-in-Count c in
+    rw (
+      sub-zero (block_words c.in-Count.m),
+      (block at.In-Count).1,
+      fitting-all _ 0 (bytes at.After-build_light_bounds) (room at.After-build_light_bounds),
+    ) at
     c.put_words.ensures
 
 pub returns-in-Refused : goal.returns-in-Refused
-returns-in-Refused c = let line =
-    block_refused (list c) _ (start c).requires.0 _
-    (rw c.in-Refused.is at c.build_light_bounds.ensures.result_value) in
-    rw (line, fitting-all _ 0 (bytes c) (room c)) at c.put_refused.ensures
+returns-in-Refused c =
+    let call = (goal.at.returns-in-Refused c).After-build_light_bounds in
+    let line = block_refused c.args.list.now _ c.requires.0 _
+        (rw c.in-Refused.is at c.build_light_bounds.ensures.result_value) in
+    rw (line, fitting-all _ 0 (bytes call) (room call)) at c.put_refused.ensures

@@ -10,29 +10,25 @@ use Rattle.list_to_block.proofs.run.Goals as goal
 use Rattle.list_to_block.proofs.run.Goals.{After-answer-end}
 
 module _ (c : After-answer-end) where
-  abbrev read : tie.After-read-list
-  read = c
-
-  abbrev start : tie.Start
-  start = read.before.before.before.before.before.before.before
-
   -- of the words and the stray bytes that were read
   abbrev text : List ℕ
-  text =
-      converted (take (read.read-list.result.words - 0) read.read-list.last.0) read.read-list.result.stray
+  text = converted (take (c.read_list-input.result.words - 0) c.read_list-input.new.list) c.read_list-input.result.stray
 
-  room : length text ≤ length start.args.out.now
+  room : length text ≤ length c.args.out.now
   room =
       omega (
         arith,
-        start.pre.2,
-        converted-room (take (read.read-list.result.words - 0) read.read-list.last.0)
-            read.read-list.result.stray,
+        c.requires.2,
+        converted-room (take (c.read_list-input.result.words - 0) c.read_list-input.new.list)
+            c.read_list-input.result.stray,
       )
 
 pub slice_bounds-write-end-2 : goal.slice_bounds-write-end-2
-slice_bounds-write-end-2 c = omega (arith, room c, c.answer-end.ensures.value, c.answer-end.auto.1.1.1.0)
+slice_bounds-write-end-2 c =
+    omega (arith, room (goal.at.slice_bounds-write-end-2 c).After-answer-end, c.answer-end.ensures.value)
 
 pub write-requires : goal.write-requires
-write-requires c = handed (start c).args.out.now (text c) c.answer-end.result (room c) c.answer-end.ensures.out_after
+write-requires c =
+    let at = (goal.at.write-requires c).After-answer-end in
+    handed c.args.out.now (text at) c.answer-end.result (room at) c.answer-end.ensures.out_after
     c.answer-end.ensures.value

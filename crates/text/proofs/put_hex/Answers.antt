@@ -10,9 +10,11 @@ lay_digits-requires c = (search rules, search rules, room-told c.fits.ensures c.
 
 pub returns-then-fits : goal.returns-then-fits
 unfolding hex_bytes
-returns-then-fits c = let n = c.args.n in
-    put_all _ _ _ 8 (length_hex n) (sym c.fits.ensures ∙ c.if-fits.true)
-    c.lay_digits.ensures
+returns-then-fits c =
+    let h = put_all _ _ _ 8 (length_hex c.args.n) (sym c.fits.ensures ∙ c.if-fits.true) c.lay_digits.ensures in
+    record { out_after = h.0; value = h.1 }
 
 pub returns : goal.returns
-returns c = put-none _ _ _ 8 (length_hex _) (sym c.fits.ensures ∙ c.if-fits.false)
+returns c =
+    let h = put-none _ _ _ 8 (length_hex c.args.n) (sym c.fits.ensures ∙ c.if-fits.false) in
+    record { out_after = h.0; value = h.1 }

@@ -1,4 +1,5 @@
 -- The test of the room decides between all of the line and none. Assumes nothing.
+use Prim.Native.Nat.{◌+◌}
 use mathlib.Core.Path.{sym, ◌∙◌}
 use borrow.Author.Tests.{leb-true}
 use Rattle.text.proofs.PutLaws.{put_all, put-none, length_refusal}
@@ -9,12 +10,14 @@ lay_refused-requires c = let counted = c.places-k.ensures in
     (counted.value, counted.upper_bound, leb-true _ _ (sym c.fits.ensures ∙ c.if-fits.true))
 
 pub returns-then-fits : goal.returns-then-fits
-returns-then-fits c = rw (← c.refusal_number-n.ensures)
-    (put_all _ _ _ _ (length_refusal _ ∙ rw c.places-k.ensures.value)
-    (sym c.fits.ensures ∙ c.if-fits.true)
-    c.lay_refused.ensures)
+returns-then-fits c =
+    let h = put_all _ _ _ (9 + c.places-k.result) (length_refusal _ ∙ rw c.places-k.ensures.value)
+        (sym c.fits.ensures ∙ c.if-fits.true) c.lay_refused.ensures in
+    rw (← c.refusal_number-n.ensures) (record { out_after = h.0; value = h.1 })
 
 pub returns : goal.returns
-returns c = rw (← c.refusal_number-n.ensures)
-    (put-none _ _ _ _ (length_refusal _ ∙ rw c.places-k.ensures.value)
-    (sym c.fits.ensures ∙ c.if-fits.false))
+returns c =
+    let h = put-none _ _ _ (9 + c.places-k.result)
+        (length_refusal c.refusal_number-n.result ∙ rw c.places-k.ensures.value)
+        (sym c.fits.ensures ∙ c.if-fits.false) in
+    rw (← c.refusal_number-n.ensures) (record { out_after = h.0; value = h.1 })

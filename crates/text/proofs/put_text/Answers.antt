@@ -8,7 +8,11 @@ pub lay_text-requires : goal.lay_text-requires
 lay_text-requires c = leb-true _ _ (sym c.fits.ensures ∙ c.if-fits.true)
 
 pub returns-then-fits : goal.returns-then-fits
-returns-then-fits c = put_all _ _ _ _ refl (sym c.fits.ensures ∙ c.if-fits.true) c.lay_text.ensures
+returns-then-fits c =
+    let h = put_all _ _ _ _ refl (sym c.fits.ensures ∙ c.if-fits.true) c.lay_text.ensures in
+    record { out_after = h.0; value = h.1 }
 
 pub returns : goal.returns
-returns c = put-none _ _ _ _ refl (sym c.fits.ensures ∙ c.if-fits.false)
+returns c =
+    let h = put-none _ _ c.args.text.now _ refl (sym c.fits.ensures ∙ c.if-fits.false) in
+    record { out_after = h.0; value = h.1 }

@@ -9,43 +9,39 @@ use Rattle.light_report.specs.Lines.{none_bytes, line_bytes}
 use Rattle.light_report.proofs.lines.put_line.Goals as goal
 use Rattle.light_report.proofs.lines.put_line.Goals.{After-put_refused, After-put_text}
 
-module _ (c : After-put_text) where
-  abbrev start : tie.Start
-  start = c
-
-  none : Put start.args.out.now start.args.at none_bytes c.put_text.new.0
-      (start.args.at + c.put_text.result)
-  none = put-fits (omega (arith, start.pre)) c.put_text.ensures.out_after c.put_text.ensures.value
+none : (c : After-put_text) → Put c.args.out.now c.args.at none_bytes c.put_text.new.out (c.args.at + c.put_text.result)
+none c = put-fits (omega (arith, c.requires)) c.put_text.ensures.out_after c.put_text.ensures.value
 
 module _ (c : After-put_refused) where
-  abbrev why : tie.After-shown2
-  why = c
-
-  abbrev start-2 : tie.Start
-  start-2 = why.before.before.before
-
-  line : Put start-2.args.out.now start-2.args.at (refusal_line (number why.shown2.given.0.0))
-      c.put_refused.new.0
-      (start-2.args.at + c.put_refused.result)
-  line = put-fits (omega (arith, refusal-short (number why.shown2.given.0.0), start-2.pre))
+  line : Put c.args.out.now c.args.at (refusal_line (number c.in-Refused.why)) c.put_refused.new.out
+      (c.args.at + c.put_refused.result)
+  line = put-fits (omega (arith, refusal-short (number c.in-Refused.why), c.requires))
       c.put_refused.ensures.out_after c.put_refused.ensures.value
 
-  short : start-2.args.at + c.put_refused.result ≤ start-2.args.at + 29
-  short = omega (arith, line.past, refusal-short (number why.shown2.given.0.0))
+  short : c.args.at + c.put_refused.result ≤ c.args.at + 29
+  short = omega (arith, line.past, refusal-short (number c.in-Refused.why))
+
+pub overflow_add-result : goal.overflow_add-result
+overflow_add-result c = omega (arith, (none (goal.at.overflow_add-result c).After-put_text).past, c.requires)
+
+pub overflow_add-result-in-Refused : goal.overflow_add-result-in-Refused
+overflow_add-result-in-Refused c =
+    omega (arith, short (goal.at.overflow_add-result-in-Refused c).After-put_refused, c.requires)
 
 pub returns-in-Lamp : goal.returns-in-Lamp
-returns-in-Lamp c = let put = c.put_lamp.ensures in
+returns-in-Lamp c =
+    let put = c.put_lamp.ensures in
     rw c.in-Lamp.is (record { out_after = put.put.is; value = put.put.past; upper_bound = put.upper_bound })
 
 pub returns-in-Nothing : goal.returns-in-Nothing
 unfolding line_bytes
-returns-in-Nothing c = rw c.in-Nothing.is
-    (record { out_after = (none c).is; value = (none c).past; upper_bound = omega (arith, (none c).past) })
+returns-in-Nothing c =
+    let put = none (goal.at.returns-in-Nothing c).After-put_text in
+    rw c.in-Nothing.is (record { out_after = put.is; value = put.past; upper_bound = omega (arith, put.past) })
 
 pub returns-in-Refused : goal.returns-in-Refused
 unfolding line_bytes
-returns-in-Refused c = rw (why c).shown2.given.1 (record { out_after = (line c).is; value = (line c).past; upper_bound = short c })
-
--- LEFT (λ c. omega (arith, (none c.before.before).past, (start c.before.before).pre))
-
--- LEFT (λ c. omega (arith, short c.before.before, (start-2 c.before.before).pre))
+returns-in-Refused c =
+    let at = (goal.at.returns-in-Refused c).After-put_refused in
+    let put = line at in
+    rw c.in-Refused.is (record { out_after = put.is; value = put.past; upper_bound = short at })
