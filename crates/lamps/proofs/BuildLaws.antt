@@ -74,8 +74,8 @@ late-join : (x : Answer LightBounds) (r : LightBounds) → Late (join_next x r)
 late-join (given existing) r = late-union existing r
 late-join (refused n) r = only-given
 
-late-union_from : (emission scale : Float) (side : Bool) (ts : List ℕ) (i n : ℕ) (x : Answer LightBounds) → Late x → Late
-    (union_from emission scale side ts i n x)
+late-union_from : (emission scale : Float) (side : Bool) (ts : List ℕ) (i n : ℕ) (x : Answer LightBounds) → Late x
+    → Late (union_from emission scale side ts i n x)
 unfolding union_from
 late-union_from emission scale side ts i zero x h = h
 late-union_from emission scale side ts i (suc n) x h =
@@ -123,7 +123,8 @@ early-lamps (suc m) ws at =
 early-placed : (ws : List ℕ) → Early (placed_lamps ws)
 unfolding placed_lamps
 early-placed ws =
-    only_then (early-lamps (get_or ws 0 0) ws 1) (λ rs. only-cond (in_place 0 rs) only-given (only-refused (omega arith)))
+    only_then (early-lamps (get_or ws 0 0) ws 1)
+    (λ rs. only-cond (in_place 0 rs) only-given (only-refused (omega arith)))
 
 pub early-list : (ws : List ℕ) → Early (lamp_list ws)
 unfolding lamp_list
@@ -142,12 +143,13 @@ list_read ws rs e = uncrowded (crowded ws) refl e
     placed false l e = absurd (not-both e refl)
 
     uncrowded : (b : Bool) → crowded ws ≡ b →
-        cond b (refused 2) (lamps_from (get_or ws 0 0) ws 1 then λ l. cond (in_place 0 l) (given l) (refused 4)) ≡ given rs
+        cond b (refused 2) (lamps_from (get_or ws 0 0) ws 1 then λ l. cond (in_place 0 l) (given l) (refused 4))
+        ≡ given rs
         → (crowded ws ≡ false) × (lamps_from (get_or ws 0 0) ws 1 ≡ given rs) × (length rs ≡ get_or ws 0 0)
     uncrowded true c e = absurd (not-both e refl)
     uncrowded false c e =
-        let (l, el, e') = then-given (lamps_from (get_or ws 0 0) ws 1) (λ l. cond (in_place 0 l) (given l) (refused 4)) rs e
-        in
+        let (l, el, e') =
+        then-given (lamps_from (get_or ws 0 0) ws 1) (λ l. cond (in_place 0 l) (given l) (refused 4)) rs e in
         let same = placed (in_place 0 l) l e' in
         let read : lamps_from (get_or ws 0 0) ws 1 ≡ given rs = el ∙ ap given same in
         (c, read, lamps_from-length (get_or ws 0 0) ws 1 rs read)

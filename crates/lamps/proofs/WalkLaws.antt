@@ -59,7 +59,8 @@ lamps_from-suc m ws at rs e =
     let (ys, ey, e'') = then-given (lamps_from m ws r.next.at) (λ ys. given (r ∷ ys)) rs e' in
     (r, ys, er, ey, given_injective e'')
 
-pub lamps_from-length : (m : ℕ) (ws : List ℕ) (at : ℕ) (rs : List Reading) → lamps_from m ws at ≡ given rs → length rs ≡ m
+pub lamps_from-length : (m : ℕ) (ws : List ℕ) (at : ℕ) (rs : List Reading) → lamps_from m ws at ≡ given rs
+    → length rs ≡ m
 unfolding lamps_from
 lamps_from-length zero ws at rs e = ap length (ends (eqb at (length ws)) e)
 lamps_from-length (suc m) ws at rs e =
@@ -76,7 +77,8 @@ module _ (ws : List ℕ) {i at : ℕ} {done : List Reading} (w : LampsRead ws i 
   unfolding placed_lamps ◌then◌
   placed-refused n h e = rw (lamps_from-gathered (get_or ws 0 0) ws 1, walked-refused (lamp_walk ws) w h e)
 
-  all : get_or ws 0 0 ≤ i → lamps_from (get_or ws 0 0) ws 1 ≡ behind done (cond (eqb at (length ws)) (given []) (refused 1))
+  all : get_or ws 0 0 ≤ i
+      → lamps_from (get_or ws 0 0) ws 1 ≡ behind done (cond (eqb at (length ws)) (given []) (refused 1))
   all h = lamps_from-gathered (get_or ws 0 0) ws 1 ∙ walked_all (lamp_walk ws) w h
 
   -- words behind the last lamp, or too few

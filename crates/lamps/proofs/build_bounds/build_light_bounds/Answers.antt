@@ -38,8 +38,8 @@ returns-then-block-block_words c = let args = c.args in
 
 pub write_block-requires : goal.write_block-requires
 write_block-requires c = record {
-    list_value = read (goal.at.write_block-requires c).In-Count;
-    m_in_bounds = omega (arith, c.block_words.ensures);
+  list_value = read (goal.at.write_block-requires c).In-Count;
+  m_in_bounds = omega (arith, c.block_words.ensures);
 }
 
 pub returns-in-Refused : goal.returns-in-Refused

@@ -1,7 +1,6 @@
 -- `lamps::build_bounds::write_block`: its loop takes each lamp's bounds and writes them (BlockLoop). Assumes nothing.
 use mathlib.Core.Path.{ap, sym, ◌∙◌}
 use native.Mathlib.Omega.{arith}
-use lib.ListN.{length-set}
 use Rattle.words.specs.Refusals.{number}
 use Rattle.lamps.specs.AsCoded.Passed.{passed}
 use Rattle.lamps.proofs.BlockLoop.{taking-none, taking-next, taking-refused, taking-all}

@@ -8,11 +8,13 @@ use Rattle.light_rows.proofs.nodes.write_node.Goals as goal
 
 pub returns-then-words-place : goal.returns-then-words-place
 returns-then-words-place c = let args = c.args in
-    rw (no_row args.words.now args.place args.number c.if-words-place.true) (record { value = refl; words_after = refl })
+    rw (no_row args.words.now args.place args.number c.if-words-place.true)
+    (record { value = refl; words_after = refl })
 
 pub returns-then-number-ge-HEAD_ROOM : goal.returns-then-number-ge-HEAD_ROOM
 returns-then-number-ge-HEAD_ROOM c = let args = c.args in
-    rw (too_wide args.words.now args.place args.number c.if-number-ge-HEAD_ROOM.true) (record { value = refl; words_after = refl })
+    rw (too_wide args.words.now args.place args.number c.if-number-ge-HEAD_ROOM.true)
+    (record { value = refl; words_after = refl })
 
 pub returns : goal.returns
 returns c = let args = c.args in

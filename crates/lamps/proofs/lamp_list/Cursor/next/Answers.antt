@@ -14,11 +14,16 @@ kind c = sym (c.kind_of-kind.ensures ∙ ap kind_of c.word_or_zero.ensures)
 
 pub returns-then-kind-eq1 : goal.returns-then-kind-eq1
 unfolding lamp_at
-returns-then-kind-eq1 c = rw (kind (goal.at.returns-then-kind-eq1 c).After-kind_of-kind, eq-eqb _ _ c.if-kind-eq1.true) c.point_at.ensures
+returns-then-kind-eq1 c = rw (kind (goal.at.returns-then-kind-eq1 c).After-kind_of-kind, eq-eqb _ _ c.if-kind-eq1.true)
+    c.point_at.ensures
 
 pub returns-then-kind-eq2 : goal.returns-then-kind-eq2
 unfolding lamp_at
-returns-then-kind-eq2 c = rw (kind (goal.at.returns-then-kind-eq2 c).After-kind_of-kind, ne_eqb _ _ c.if-kind-eq1.false, eq-eqb _ _ c.if-kind-eq2.true)
+returns-then-kind-eq2 c = rw (
+  kind (goal.at.returns-then-kind-eq2 c).After-kind_of-kind,
+  ne_eqb _ _ c.if-kind-eq1.false,
+  eq-eqb _ _ c.if-kind-eq2.true,
+)
     c.spot_at.ensures
 
 pub returns-then-kind-eq3 : goal.returns-then-kind-eq3

@@ -10,7 +10,7 @@ use Rattle.lamps.proofs.lamp_list.Reading.triangles.Goals.{
 pub returns-then-to-from : goal.returns-then-to-from
 unfolding triangles_of
 returns-then-to-from c = elim c.then-to-from.branch [
-  then-to-from-via-then-to-from w ↦ rw (lt-leb _ _ w.if-to-from.true)
+  | then-to-from-via-then-to-from w ↦ rw (lt-leb _ _ w.if-to-from.true)
   | then-to-from-via-else-to-from+then-list-to w ↦
       rw (le-leb _ _ w.if-to-from.false, lt-leb _ _ w.if-list-to.true)
 ]
