@@ -37,32 +37,37 @@ pub check_records-requires : goal.check_records-requires
 check_records-requires c = (facts c).1
 
 pub build_rows-requires : goal.build_rows-requires
-build_rows-requires c = let (is, few, long, handles, short) = facts c in
+build_rows-requires c =
+    let (is, few, long, handles, short) = facts (goal.at.build_rows-requires c).In-Count in
     record { m_bound = few; block_len = long; block_value = handles; work_value = short }
 
 pub zero_reserves-requires : goal.zero_reserves-requires
 zero_reserves-requires c = (facts (goal.at.zero_reserves-requires c).In-Count).1
 
 pub returns-in-Valid : goal.returns-in-Valid
-returns-in-Valid c = let args = c.args in
-    let told' = c.build_rows.ensures in
-    outcome-rows args.lights args.block.now args.nodes.now args.table.now args.work.now (rows (goal.at.returns-in-Valid c).In-Count)
+returns-in-Valid c =
+    let args = c.args in
+    let told = c.build_rows.ensures in
+    let h = outcome-rows args.lights args.block.now args.nodes.now args.table.now args.work.now c.in-Count.m
     (checked (goal.at.returns-in-Valid c).In-Count)
-    (sym c.check_records.ensures ∙ ap validity c.in-Valid.is) told'.result_value
-    told'.nodes_after told'.table_after
-    told'.work_after
+    (sym c.check_records.ensures ∙ ap validity c.in-Valid.is) told.result_value told.nodes_after told.table_after
+    told.work_after in
+    record { result_value = h.0; nodes_after = h.1.0; table_after = h.1.1.0; work_after = h.1.1.1 }
 
 pub returns-in-Refused-check_records : goal.returns-in-Refused-check_records
-returns-in-Refused-check_records c = let args = c.args in
-    let told' = c.zero_reserves.ensures in
-    outcome_late args.lights args.block.now args.nodes.now args.table.now args.work.now (rows (goal.at.returns-in-Refused-check_records c).In-Count)
+returns-in-Refused-check_records c =
+    let args = c.args in
+    let told = c.zero_reserves.ensures in
+    let h = outcome_late args.lights args.block.now args.nodes.now args.table.now args.work.now c.in-Count.m
     (checked (goal.at.returns-in-Refused-check_records c).In-Count)
     (number c.in-Refused-check_records.why)
-    (sym c.check_records.ensures ∙ ap validity c.in-Refused-check_records.is) told'.nodes_after told'.table_after
-    told'.work_after
+    (sym c.check_records.ensures ∙ ap validity c.in-Refused-check_records.is) told.nodes_after told.table_after
+    told.work_after in
+    record { result_value = h.0; nodes_after = h.1.0; table_after = h.1.1.0; work_after = h.1.1.1 }
 
 pub returns-in-Refused : goal.returns-in-Refused
-returns-in-Refused c = let args = c.args in
-    outcome-early args.lights args.block.now args.nodes.now args.table.now args.work.now
-    (number c.in-Refused.why)
-    (sym c.check_build.ensures ∙ ap counted c.in-Refused.is)
+returns-in-Refused c =
+    let args = c.args in
+    let h = outcome-early args.lights args.block.now args.nodes.now args.table.now args.work.now
+    (number c.in-Refused.why) (sym c.check_build.ensures ∙ ap counted c.in-Refused.is) in
+    record { result_value = h.0; nodes_after = h.1.0; table_after = h.1.1.0; work_after = h.1.1.1 }
