@@ -38,7 +38,7 @@ returns-then-bins-m c = let args = c.args in
     let few = le-ltb _ _ c.if-m-gt-MAX_LAMPS.false in
     let work = lt-leb (4 * length args.weights.now) (length args.work.now) in
     elim c.then-bins-m.branch [
-      then-bins-m-via-then-bins-m w ↦
+      | then-bins-m-via-then-bins-m w ↦
           simp (few, lt-leb _ _ w.if-bins-m.true) (record { result_value = refl; bins_after = refl; work_after = refl })
       | then-bins-m-via-else-bins-m+then-work-m w ↦
           simp (few, le-leb _ _ w.if-bins-m.false, work w.if-work-m.true)

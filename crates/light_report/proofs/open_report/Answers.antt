@@ -40,9 +40,9 @@ nodes : (c : After-put_words-nodes_end) → given (c.in-Tree.lamps, c.in-Tree.k)
 nodes c tree =
     let front = c.args.front.now in
     let words = ap (λ (n : ℕ). bytes_of (take n c.take_tree.new.nodes))
-        (sub-zero c.node_words-words.result ∙ c.node_words-words.ensures) in
+    (sub-zero c.node_words-words.result ∙ c.node_words-words.ensures) in
     let room : length (node_bytes (report_tree front)) ≤ length c.args.node_bytes.now =
-        omega (arith, (tree-room front (report_tree front) refl).0, c.requires.node_bytes_len.0) in
+    omega (arith, (tree-room front (report_tree front) refl).0, c.requires.node_bytes_len.0) in
     words-fit _ _ (node_bytes (report_tree front))
     (words ∙ nodes-front front c.in-Tree.lamps c.in-Tree.k tree _ _ _ c.take_tree.ensures.nodes_after)
     room (c.put_words-nodes_end.ensures.out_after, c.put_words-nodes_end.ensures.value)
@@ -55,7 +55,7 @@ table c tree =
     let front = c.args.front.now in
     let words = ap (λ (n : ℕ). bytes_of (take n c.take_tree.new.table)) (sub-zero c.in-Tree.lamps) in
     let room : length (table_bytes (report_tree front)) ≤ length c.args.table_bytes.now =
-        omega (arith, (tree-room front (report_tree front) refl).1, c.requires.node_bytes_len.1) in
+    omega (arith, (tree-room front (report_tree front) refl).1, c.requires.node_bytes_len.1) in
     words-fit _ _ (table_bytes (report_tree front))
     (words ∙ table-front front c.in-Tree.lamps c.in-Tree.k tree _ _ _ c.take_tree.ensures.table_after)
     room (c.put_words-table_end.ensures.out_after, c.put_words-table_end.ensures.value)

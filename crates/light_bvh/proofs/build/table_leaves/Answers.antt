@@ -49,10 +49,10 @@ loop-head-preserved c =
                 sym (tabled-past nodes i table (kind ∙ w.if-kind_of-eq1.true) (rw loop.invariant.2 at past)),
           )
       | else-kind_of-eq1 w ↦ rw w.table-is (
-            omega arith,
-            loop.invariant.1,
-            loop.invariant.2 ∙ sym (tabled-other nodes i table (λ e. w.if-kind_of-eq1.false (sym kind ∙ e))),
-          )
+        omega arith,
+        loop.invariant.1,
+        loop.invariant.2 ∙ sym (tabled-other nodes i table (λ e. w.if-kind_of-eq1.false (sym kind ∙ e))),
+      )
     ]
 
 pub returns : goal.returns

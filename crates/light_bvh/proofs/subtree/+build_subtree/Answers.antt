@@ -118,8 +118,7 @@ build_subtree-requires-in-Built t c =
     let work = take (n - left - 0) tray in
     let front : length work ≡ n - left =
     length-take-le (n - left - 0) tray (omega (arith, s.room, same)) ∙ omega arith in
-    let long = back-length s first.new.handles first.new.nodes first.auto.handles first.auto.nodes in
-    (
+    let long = back-length s first.new.handles first.new.nodes first.auto.handles first.auto.nodes in (
       omega (arith, long, s.cut.some, s.cut.rest, c.decreases),
       right-asks s first.new.handles first.new.nodes first.auto.handles first.auto.nodes work (omega (arith, front)),
     )

@@ -43,15 +43,15 @@ returns-in-Lost c = rw (next (goal.at.returns-in-Lost c).After-join_to, c.in-Los
 pub loop-i-preserved : goal.loop-i-preserved
 unfolding ◌then◌
 loop-i-preserved c = let k = c.bucket_of-bucket.result in (
-      simp length-set c.loop-i.invariant.0,
-      c.loop-i.invariant.1,
-      rw (
-        next (goal.at.loop-i-preserved c).After-join_to,
-        c.in-Bucket.is,
-        slots_set c.loop-i.buckets.slots k
-            c.in-Bucket.slot,
-      ),
-    )
+  simp length-set c.loop-i.invariant.0,
+  c.loop-i.invariant.1,
+  rw (
+    next (goal.at.loop-i-preserved c).After-join_to,
+    c.in-Bucket.is,
+    slots_set c.loop-i.buckets.slots k
+        c.in-Bucket.slot,
+  ),
+)
 
 pub returns : goal.returns
 returns c =

@@ -30,16 +30,16 @@ loop-i-preserved c =
     let h : c.loop-i.i < length ss = omega arith in
     elim c.if-slot.branch [
       | then-slot+in-Bucket w ↦ rw (
-            w.result-is,
-            ← c.loop-i.invariant,
-            union-filled (slot_of c.loop-i.result) ss c.loop-i.i h w.if-slot.true,
-          )
+        w.result-is,
+        ← c.loop-i.invariant,
+        union-filled (slot_of c.loop-i.result) ss c.loop-i.i h w.if-slot.true,
+      )
           (rw (← w.join_to.ensures, w.in-Bucket.is))
       | else-slot w ↦ rw (
-            w.result-is,
-            ← c.loop-i.invariant,
-            union-empty (slot_of c.loop-i.result) ss c.loop-i.i h w.if-slot.false,
-          )
+        w.result-is,
+        ← c.loop-i.invariant,
+        union-empty (slot_of c.loop-i.result) ss c.loop-i.i h w.if-slot.false,
+      )
     ]
 
 pub returns : goal.returns

@@ -18,8 +18,7 @@ loop-i-init c =
 
 pub loop-i-preserved : goal.loop-i-preserved
 loop-i-preserved c =
-    let args = c.args in
-    (
+    let args = c.args in (
       omega arith,
       rw (c.union-combined.ensures, c.light_box-in-loop-i.ensures)
           (c.loop-i.invariant.1 ∙ folded-next (join_box args.block.now) c.loop-i.combined args.handles.now c.loop-i.i

@@ -101,7 +101,7 @@ pub returns-after-n-eq0-2 : goal.returns-after-n-eq0-2
 returns-after-n-eq0-2 c = let args = c.args in
     let n = c.in-Count.n in
     let unagreed : agreed n args.k none ≡ refused 12 = elim c.if-n-eq0-2.branch [
-      then-n-eq0-2+else-k-eq0-2 w ↦ agreed-lamps n args.k w.if-n-eq0-2.true w.if-k-eq0-2.false
+      | then-n-eq0-2+else-k-eq0-2 w ↦ agreed-lamps n args.k w.if-n-eq0-2.true w.if-k-eq0-2.false
       | else-n-eq0-2 w ↦ agreed-nodes n args.k w.if-n-eq0-2.false
     ] in
     let h =
