@@ -13,7 +13,8 @@ unfolding all_bounds
 loop-all-init c = (omega arith, refl)
 
 pub loop-all-preserved : goal.loop-all-preserved
-loop-all-preserved c = let loop = c.loop-all in
+loop-all-preserved c =
+    let loop = c.loop-all in
     let block = c.args.block.now in
     let powered = c.is_powered.ensures in (
       omega arith,
@@ -27,7 +28,7 @@ loop-all-preserved c = let loop = c.loop-all in
     )
 
 pub returns : goal.returns
-returns c = let loop = c.loop-all in
+returns c =
     let args = c.args in
     let e : c.loop-all.i ≡ args.m = omega arith in
     c.loop-all.invariant.1 ∙ ap (λ (k : ℕ). all_bounds args.block.now k) e

@@ -18,7 +18,8 @@ returns-then-lights-m c = rw (
 )
 
 pub check_reserves-requires : goal.check_reserves-requires
-check_reserves-requires c = let block = c.args.block.now in
+check_reserves-requires c =
+    let block = c.args.block.now in
     let (is, few, _) = layout-count block _
     (sym c.check_layout.ensures ∙ ap counted c.in-Count.is) in
     let is' = handles-count block _

@@ -15,7 +15,8 @@ unfolding validated
 loop-i-init c = (omega arith, refl)
 
 pub loop-i-preserved : goal.loop-i-preserved
-loop-i-preserved c = let block = c.args.block.now in
+loop-i-preserved c =
+    let block = c.args.block.now in
     let one = ap validate (sym c.light.ensures) ∙ sym c.validate.ensures
     ∙ ap validity c.in-Valid.is in (
       omega arith,
@@ -23,7 +24,8 @@ loop-i-preserved c = let block = c.args.block.now in
     )
 
 pub returns-in-Refused : goal.returns-in-Refused
-returns-in-Refused c = let args = c.args in
+returns-in-Refused c =
+    let args = c.args in
     let one = ap validate (sym c.light.ensures) ∙
     sym c.validate.ensures
     ∙ ap validity c.in-Refused.is in
@@ -31,7 +33,7 @@ returns-in-Refused c = let args = c.args in
     (omega arith) c.loop-i.invariant.1 one)
 
 pub returns : goal.returns
-returns c = let loop = c.loop-i in
+returns c =
     let args = c.args in
     let e : c.loop-i.i ≡ args.m = omega arith in
     sym (subst (λ (k : ℕ). validated args.block.now k ≡ given tt) e c.loop-i.invariant.1)

@@ -2,20 +2,18 @@
 -- the stretch. Assumes nothing.
 use Prim.Native.Nat.{ℕ, ◌+◌, ◌*◌, ◌-◌, ◌^◌, ◌≤◌, ◌<◌}
 use mathlib.Core.Path.{◌≡◌, sym, ap, ◌∙◌}
-use mathlib.Core.List.{List}
 use native.Mathlib.Omega.{arith}
-use lib.ListN.{length, take, drop}
+use lib.ListN.{length, take}
 use lib.Seq.{length-take-le}
 use Rattle.words.specs.Answers.{given, counted}
-use Rattle.light_bvh.specs.AsCoded.Stretches.{subtree, done, subtree_words, split_count}
-use Rattle.light_bvh.specs.declared.subtree.Subtree.{Subtree}
+use Rattle.light_bvh.specs.AsCoded.Stretches.{split_count}
 use Rattle.light_bvh.specs.declared.subtree.Subtree.TheVariants.{Built, Lost}
-use Rattle.light_bvh.proofs.SubtreeLaws.{cut_of, Stand, whole, leaf-left, lost-left, no-left}
+use Rattle.light_bvh.proofs.SubtreeLaws.{cut_of, Stand, leaf-left, lost-left, no-left}
 use Rattle.light_bvh.proofs.SubtreeLaws.{no-right, both_left, front-is, done-moved, words-moved}
 use Rattle.light_bvh.proofs.SubtreeLaws.{left-asks, right-asks, handles_left, nodes_left}
-use Rattle.light_bvh.proofs.SubtreeLaws.{handles-left, nodes-left, front_length}
+use Rattle.light_bvh.proofs.SubtreeLaws.{front_length}
 use Rattle.light_bvh.proofs.SubtreeLaws.{back_is, back-length, root-length, nodes-are}
-use borrow.Rule.Slice.PartMut.{mid_of, put_mid, same_len_mid}
+use borrow.Rule.Slice.PartMut.{put_mid, same_len_mid}
 use Rattle.light_bvh.proofs.subtree.+build_subtree.Goals as goal
 use Rattle.light_bvh.proofs.subtree.+build_subtree.Goals.{In-Count}
 
@@ -159,9 +157,9 @@ returns-in-Lost-build_subtree t c =
     let first = c.build_subtree in
     let second = c.build_subtree-in-Built in
     let back = back_is s first.new.handles first.new.nodes first.auto.handles first.auto.nodes in
-    let h = no-right s.cut args.at args.parent
-    (put_mid (32 * c.in-Count.left) (length (nodes_left c.in-Count.left args.nodes.now first.new.nodes) - 32 * c.in-Count.left)
-    (nodes_left c.in-Count.left args.nodes.now first.new.nodes) second.new.nodes)
+    let at = 32 * c.in-Count.left in
+    let nodes = nodes_left c.in-Count.left args.nodes.now first.new.nodes in
+    let h = no-right s.cut args.at args.parent (put_mid at (length nodes - at) nodes second.new.nodes)
     (done-moved ws _ _ first.result Built (front-is s) first.ensures.result_value c.in-Built.is)
     (done-moved ws _ _ second.result Lost back second.ensures.result_value c.in-Lost-build_subtree.is) in
     record { result_value = h.0; nodes_after = h.1 }
