@@ -15,7 +15,7 @@ pub returns-then-not-w : goal.returns-then-not-w
 unfolding of_bits div
 returns-then-not-w c = sums_stop c.loop-i.invariant (omega arith) c.f32_of_word-w.ensures
     (elim c.then-not-w.branch [
-      then-not-w-via-then-not-w w ↦ bad-above _ w.if-not-w.true
+      | then-not-w-via-then-not-w w ↦ bad-above _ w.if-not-w.true
       | then-not-w-via-else-not-w+then-w w ↦ bad-below _ w.if-w.true
     ])
 

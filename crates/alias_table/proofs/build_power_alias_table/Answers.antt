@@ -15,7 +15,8 @@ use Rattle.alias_table.proofs.StackLaws.{length-bin_words}
 use Rattle.alias_table.proofs.TableLaws.{answer-bad, answer-given, total-is, played-length}
 use Rattle.alias_table.proofs.build_power_alias_table.Goals as goal
 use Rattle.alias_table.proofs.build_power_alias_table.Goals.{Else-work-m}
-use Rattle.alias_table.proofs.build_power_alias_table.Goals.{then-bins-m-via-then-bins-m, then-bins-m-via-else-bins-m+then-work-m}
+use Rattle.alias_table.proofs.build_power_alias_table.Goals.{then-bins-m-via-then-bins-m}
+use Rattle.alias_table.proofs.build_power_alias_table.Goals.{then-bins-m-via-else-bins-m+then-work-m}
 
 -- the tests have passed
 room : (c : Else-work-m) → let args = c.args in
@@ -38,7 +39,7 @@ returns-then-bins-m c = let args = c.args in
     let few = le-ltb _ _ c.if-m-gt-MAX_LAMPS.false in
     let work = lt-leb (4 * length args.weights.now) (length args.work.now) in
     elim c.then-bins-m.branch [
-      then-bins-m-via-then-bins-m w ↦
+      | then-bins-m-via-then-bins-m w ↦
           simp (few, lt-leb _ _ w.if-bins-m.true) (record { result_value = refl; bins_after = refl; work_after = refl })
       | then-bins-m-via-else-bins-m+then-work-m w ↦
           simp (few, le-leb _ _ w.if-bins-m.false, work w.if-work-m.true)
