@@ -15,7 +15,8 @@ use Rattle.alias_table.proofs.StackLaws.{length-bin_words}
 use Rattle.alias_table.proofs.TableLaws.{answer-bad, answer-given, total-is, played-length}
 use Rattle.alias_table.proofs.build_power_alias_table.Goals as goal
 use Rattle.alias_table.proofs.build_power_alias_table.Goals.{Else-work-m}
-use Rattle.alias_table.proofs.build_power_alias_table.Goals.{then-bins-m-via-then-bins-m, then-bins-m-via-else-bins-m+then-work-m}
+use Rattle.alias_table.proofs.build_power_alias_table.Goals.{then-bins-m-via-then-bins-m}
+use Rattle.alias_table.proofs.build_power_alias_table.Goals.{then-bins-m-via-else-bins-m+then-work-m}
 
 -- the tests have passed
 room : (c : Else-work-m) → let args = c.args in

@@ -11,7 +11,8 @@ use Rattle.light_sampler.proofs.pmf.ascend.Given as goal
 abbrev pub invariant-loop-entries : goal.invariant-loop-entries
 invariant-loop-entries l = (node l.here ≡ node_at (words_of l.nodes) l.place)
     × ((q : Query) → l.held ≡ prepared q
-    → (ascend (words_of l.nodes) q l.entries l.place l.pmf).outcome ≡ (ascend (words_of l.nodes) q l.count l.leaf onef).outcome)
+    → (ascend (words_of l.nodes) q l.entries l.place l.pmf).outcome
+    ≡ (ascend (words_of l.nodes) q l.count l.leaf onef).outcome)
 
 abbrev pub decreases-loop-entries : goal.decreases-loop-entries
 decreases-loop-entries l = l.entries

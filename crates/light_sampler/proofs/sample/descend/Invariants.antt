@@ -9,7 +9,8 @@ use Rattle.light_sampler.proofs.sample.descend.Given as goal
 
 abbrev pub invariant-loop-entries : goal.invariant-loop-entries
 invariant-loop-entries l = (q : Query) → l.held ≡ prepared q
-    → (descend (words_of l.nodes) q l.entries l.place l.pmf l.u).outcome ≡ (descend (words_of l.nodes) q l.count 0 onef l.u-2).outcome
+    → (descend (words_of l.nodes) q l.entries l.place l.pmf l.u).outcome
+    ≡ (descend (words_of l.nodes) q l.count 0 onef l.u-2).outcome
 
 abbrev pub decreases-loop-entries : goal.decreases-loop-entries
 decreases-loop-entries l = l.entries

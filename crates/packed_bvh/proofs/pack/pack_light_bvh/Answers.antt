@@ -1,13 +1,12 @@
 -- `packed_bvh::pack::pack_light_bvh`: the first checks leave the lent bytes as they are; then box, nodes and lamps
 -- agree and the nodes are packed, or the reserve is zeroed. Assumes nothing.
 use Prim.Native.Nat.{◌*◌, ◌≤◌}
-use mathlib.Core.Path.{◌≡◌, refl, sym, ap, ◌∙◌}
+use mathlib.Core.Path.{◌≡◌, refl, sym}
 use mathlib.Core.Option.{none, some}
 use native.Mathlib.Omega.{arith}
 use lib.ListN.{length}
-use Rattle.words.specs.Answers.{refused, counted}
+use Rattle.words.specs.Answers.{refused}
 use Rattle.words.specs.Refusals.{number}
-use Rattle.light_bounds.specs.Bounds.{validity}
 use Rattle.light_rows.specs.Nodes.{max_nodes}
 use Rattle.packed_bvh.specs.Packed.{agreed, packed_reserve}
 use Rattle.packed_bvh.proofs.PackLaws.{check-known, filled_none, agreed-empty, agreed-dark, agreed-valid}
@@ -78,7 +77,7 @@ returns-in-Valid c = let args = c.args in
     let h =
     outcome-agreed args.nodes.now args.k (some all) args.out.now n (sym c.in-Count.ensures)
     (some all)
-    (agreed-valid n args.k all c.if-n-eq0.false c.if-k-eq0.false (sym c.check.ensures ∙ ap validity c.in-Valid.is))
+    (agreed-valid n args.k all c.if-n-eq0.false c.if-k-eq0.false (sym c.in-Valid.ensures))
     c.pack_nodes.ensures.result_value c.pack_nodes.ensures.out_after in
     rw c.in-Bounds.is (record { result_value = h.0; out_after = h.1 })
 
@@ -92,7 +91,7 @@ returns-in-Refused-check c = let args = c.args in
     outcome_late args.nodes.now args.k (some all) args.out.now n
     (sym c.in-Count.ensures) why
     (agreed-refused n args.k all c.if-n-eq0.false c.if-k-eq0.false why
-    (sym c.check.ensures ∙ ap validity c.in-Refused-check.is))
+    (sym c.in-Refused-check.ensures))
     c.refuse-in-Refused-check.ensures.result_value c.refuse-in-Refused-check.ensures.out_after in
     rw c.in-Bounds.is (record { result_value = h.0; out_after = h.1 })
 
@@ -114,5 +113,5 @@ pub returns-in-Refused : goal.returns-in-Refused
 returns-in-Refused c = let args = c.args in
     let h =
     outcome-early args.nodes.now args.k _ args.out.now (number c.in-Refused.why)
-    (sym c.check_pack.ensures ∙ ap counted c.in-Refused.is) in
+    (sym c.in-Refused.ensures) in
     record { result_value = h.0; out_after = h.1 }

@@ -12,9 +12,7 @@ use Rattle.packed_bvh.proofs.quantize.quantize_up.Goals as goal
 use Rattle.packed_bvh.proofs.quantize.quantize_up.Goals.{After-to_u32-n}
 
 module _ (c : After-to_u32-n) where
-  cut : c.to_u32-n.result ≡ to_u32
-      (steps_of c.args.value c.args.min
-      c.args.max)
+  cut : c.to_u32-n.result ≡ to_u32 (steps_of c.args.value c.args.min c.args.max)
   cut = c.to_u32-n.ensures ∙ ap to_u32 c.steps-step.ensures
 
   small : c.to_u32-n.result ≤ 65535
@@ -26,7 +24,8 @@ returns-then-min-max c = rw c.if-min-max.true
 
 pub int_to_float-n : goal.int_to_float-n
 unfolding in_float
-int_to_float-n c = rw (le-leb c.to_u32-n.result (2 ^ 24) (omega (arith, small (goal.at.int_to_float-n c).After-to_u32-n))) tt
+int_to_float-n c =
+    rw (le-leb c.to_u32-n.result (2 ^ 24) (omega (arith, small (goal.at.int_to_float-n c).After-to_u32-n))) tt
 
 pub overflow_add-result : goal.overflow_add-result
 overflow_add-result c = omega (arith, small (goal.at.overflow_add-result c).After-to_u32-n)
