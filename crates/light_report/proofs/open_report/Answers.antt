@@ -5,10 +5,9 @@ use native.Mathlib.Nat.{sub-zero}
 use native.Mathlib.Omega.{arith}
 use lib.ListN.{length, take}
 use lib.Seq.{sets}
-use Rattle.words.specs.Answers.{Answer, given, refused}
+use Rattle.words.specs.Answers.{given, refused}
 use Rattle.words.specs.LittleEndian.{bytes_of}
 use Rattle.words.specs.Refusals.{number}
-use Rattle.light_bvh.specs.Build.{LightBVH}
 use Rattle.text.proofs.PutLaws.{fitting-all, words-fit}
 use Rattle.light_report.specs.Report.{report_lamps, report_tree, header_bytes}
 use Rattle.light_report.specs.AsCoded.Written.{sizes, taken, node_bytes, table_bytes}
@@ -40,9 +39,9 @@ nodes : (c : After-put_words-nodes_end) → given (c.in-Tree.lamps, c.in-Tree.k)
 nodes c tree =
     let front = c.args.front.now in
     let words = ap (λ (n : ℕ). bytes_of (take n c.take_tree.new.nodes))
-        (sub-zero c.node_words-words.result ∙ c.node_words-words.ensures) in
+    (sub-zero c.node_words-words.result ∙ c.node_words-words.ensures) in
     let room : length (node_bytes (report_tree front)) ≤ length c.args.node_bytes.now =
-        omega (arith, (tree-room front (report_tree front) refl).0, c.requires.node_bytes_len.0) in
+    omega (arith, (tree-room front (report_tree front) refl).0, c.requires.node_bytes_len.0) in
     words-fit _ _ (node_bytes (report_tree front))
     (words ∙ nodes-front front c.in-Tree.lamps c.in-Tree.k tree _ _ _ c.take_tree.ensures.nodes_after)
     room (c.put_words-nodes_end.ensures.out_after, c.put_words-nodes_end.ensures.value)
@@ -55,7 +54,7 @@ table c tree =
     let front = c.args.front.now in
     let words = ap (λ (n : ℕ). bytes_of (take n c.take_tree.new.table)) (sub-zero c.in-Tree.lamps) in
     let room : length (table_bytes (report_tree front)) ≤ length c.args.table_bytes.now =
-        omega (arith, (tree-room front (report_tree front) refl).1, c.requires.node_bytes_len.1) in
+    omega (arith, (tree-room front (report_tree front) refl).1, c.requires.node_bytes_len.1) in
     words-fit _ _ (table_bytes (report_tree front))
     (words ∙ table-front front c.in-Tree.lamps c.in-Tree.k tree _ _ _ c.take_tree.ensures.table_after)
     room (c.put_words-table_end.ensures.out_after, c.put_words-table_end.ensures.value)

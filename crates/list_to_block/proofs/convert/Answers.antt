@@ -56,5 +56,5 @@ pub returns-in-Refused : goal.returns-in-Refused
 returns-in-Refused c =
     let call = (goal.at.returns-in-Refused c).After-build_light_bounds in
     let line = block_refused c.args.list.now _ c.requires.0 _
-        (rw c.in-Refused.is at c.build_light_bounds.ensures.result_value) in
+    (rw c.in-Refused.is at c.build_light_bounds.ensures.result_value) in
     rw (line, fitting-all _ 0 (bytes call) (room call)) at c.put_refused.ensures

@@ -13,11 +13,11 @@ unfolding decimal_bytes
 returns-then-fits c =
     let counted = c.places-count.ensures.value in
     let h = put_all _ _ _ _ (length_decimal c.args.n ∙ sym counted) (sym c.fits.ensures ∙ c.if-fits.true)
-        (rw counted at c.lay_digits.ensures) in
+    (rw counted at c.lay_digits.ensures) in
     record { out_after = h.0; value = h.1 }
 
 pub returns : goal.returns
 returns c =
     let h = put-none _ _ _ _ (length_decimal c.args.n ∙ sym c.places-count.ensures.value)
-        (sym c.fits.ensures ∙ c.if-fits.false) in
+    (sym c.fits.ensures ∙ c.if-fits.false) in
     record { out_after = h.0; value = h.1 }

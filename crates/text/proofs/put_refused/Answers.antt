@@ -12,12 +12,12 @@ lay_refused-requires c = let counted = c.places-k.ensures in
 pub returns-then-fits : goal.returns-then-fits
 returns-then-fits c =
     let h = put_all _ _ _ (9 + c.places-k.result) (length_refusal _ ∙ rw c.places-k.ensures.value)
-        (sym c.fits.ensures ∙ c.if-fits.true) c.lay_refused.ensures in
+    (sym c.fits.ensures ∙ c.if-fits.true) c.lay_refused.ensures in
     rw (← c.refusal_number-n.ensures) (record { out_after = h.0; value = h.1 })
 
 pub returns : goal.returns
 returns c =
     let h = put-none _ _ _ (9 + c.places-k.result)
-        (length_refusal c.refusal_number-n.result ∙ rw c.places-k.ensures.value)
-        (sym c.fits.ensures ∙ c.if-fits.false) in
+    (length_refusal c.refusal_number-n.result ∙ rw c.places-k.ensures.value)
+    (sym c.fits.ensures ∙ c.if-fits.false) in
     rw (← c.refusal_number-n.ensures) (record { out_after = h.0; value = h.1 })

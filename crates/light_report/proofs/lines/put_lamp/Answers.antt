@@ -55,7 +55,7 @@ returns c =
     let number = handle at.After-put_decimal in
     record {
       put =
-        put_then (put_then (put_then number c.put_chance-named_at.ensures.put) c.put_chance-end.ensures.put)
-        (put_one _ _ 10);
+          put_then (put_then (put_then number c.put_chance-named_at.ensures.put) c.put_chance-end.ensures.put)
+          (put_one _ _ 10);
       upper_bound = short at.After-put_chance-end (few at.After-put_decimal);
     }

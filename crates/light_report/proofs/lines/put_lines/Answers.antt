@@ -24,5 +24,5 @@ pub returns : goal.returns
 returns c =
     let put = c.put_line.ensures in
     let all = reported-part (omega arith) c.if-groups-eq0.false c.loop-i.invariant
-        (record { is = put.out_after; past = put.value }) put.upper_bound in
+    (record { is = put.out_after; past = put.value }) put.upper_bound in
     record { out_after = all.0; value = all.1.0; upper_bound = all.1.1 }
