@@ -3,4 +3,5 @@ use Prim.Native.Nat.{ℕ, ◌+◌}
 use mathlib.Core.Path.{ap}
 use Rattle.light_c.proofs.packed_code.Goals as goal
 
-returns-3 c = rw c.before.before.answer2.given.1 (ap (λ (n : ℕ). 0x2_0000_0000 + n) c.refusal-number.ensures)
+pub returns-in-Refused : goal.returns-in-Refused
+returns-in-Refused c = rw c.in-Refused.is (ap (λ (n : ℕ). 0x2_0000_0000 + n) c.refusal_number.ensures)

@@ -15,4 +15,7 @@ returns-then-n-gt4 c = let answer = c.args.answer.now in
 pub returns-else-n-gt4 : goal.returns-else-n-gt4
 returns-else-n-gt4 c = let early = subst (λ (n : ℕ). n ≤ 4) c.refusal_number-n.ensures c.if-n-gt4.false in
     let answer = c.args.answer.now in
-    record { value = c.refusal_number-n.ensures; answer_after = sym (tray-early summary_list answer_reserve answer _ early) }
+    record {
+      value = c.refusal_number-n.ensures;
+      answer_after = sym (tray-early summary_list answer_reserve answer _ early);
+    }

@@ -5,10 +5,9 @@ use native.Mathlib.Nat.{sub-zero}
 use native.Mathlib.Omega.{arith}
 use lib.ListN.{length, take}
 use lib.Seq.{sets}
-use Rattle.words.specs.Answers.{Answer, given, refused}
+use Rattle.words.specs.Answers.{given, refused}
 use Rattle.words.specs.LittleEndian.{bytes_of}
 use Rattle.words.specs.Refusals.{number}
-use Rattle.light_bvh.specs.Build.{LightBVH}
 use Rattle.text.proofs.PutLaws.{fitting-all, words-fit}
 use Rattle.light_report.specs.Report.{report_lamps, report_tree, header_bytes}
 use Rattle.light_report.specs.AsCoded.Written.{sizes, taken, node_bytes, table_bytes}

@@ -26,4 +26,5 @@ unfolding converted answered answer_bytes
 returns-else-stray-eq0 c = let room : 0 + length (refusal_line 1) ≤ length c.args.out.now = omega
     (arith, refusal-short 1, c.requires.1) in
     rw (sym c.crowded.ensures ∙ c.if-crowded.false)
-    (rw (ne_eqb _ 0 c.if-stray-eq0.false) (rw (fitting-all _ 0 (refusal_line 1) room) at c.put_refused-else-stray-eq0.ensures))
+    (rw (ne_eqb _ 0 c.if-stray-eq0.false)
+    (rw (fitting-all _ 0 (refusal_line 1) room) at c.put_refused-else-stray-eq0.ensures))

@@ -3,7 +3,8 @@ use Prim.Native.Nat.{ℕ, ◌+◌}
 use mathlib.Core.Path.{ap}
 use Rattle.parts_c.proofs.weight_code.Goals as goal
 
-returns-2 c = rw c.before.before.answer2.given.1 (ap (λ (n : ℕ). 0x1_0000_0000 + n) c.refusal-number.ensures)
-
 pub returns-in-Importance : goal.returns-in-Importance
 returns-in-Importance c = rw c.in-Importance.is c.word_of_f32.ensures
+
+pub returns-in-Refused : goal.returns-in-Refused
+returns-in-Refused c = rw c.in-Refused.is (ap (λ (n : ℕ). 0x1_0000_0000 + n) c.refusal_number.ensures)

@@ -5,5 +5,6 @@ use Rattle.words.specs.Answers.{code}
 use Rattle.parts_c.proofs.words_bytes_of_words.Goals as goal
 
 pub returns : goal.returns
-returns c = let call = c.bytes_of_words in
-    record { value = c.counted_code.ensures ∙ ap code c.bytes_of_words.ensures.result_value; bytes_after = c.bytes_of_words.ensures.bytes_after }
+returns c =
+    let told = c.bytes_of_words.ensures in
+    record { value = c.counted_code.ensures ∙ ap code told.result_value; bytes_after = told.bytes_after }

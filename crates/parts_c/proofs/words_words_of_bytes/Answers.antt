@@ -5,5 +5,6 @@ use Rattle.words.specs.Answers.{code}
 use Rattle.parts_c.proofs.words_words_of_bytes.Goals as goal
 
 pub returns : goal.returns
-returns c = let call = c.words_of_bytes in
-    record { value = c.counted_code.ensures ∙ ap code c.words_of_bytes.ensures.result_value; words_after = c.words_of_bytes.ensures.words_after }
+returns c =
+    let told = c.words_of_bytes.ensures in
+    record { value = c.counted_code.ensures ∙ ap code told.result_value; words_after = told.words_after }

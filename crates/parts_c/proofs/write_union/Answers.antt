@@ -13,25 +13,23 @@ use Rattle.parts_c.proofs.write_union.Goals as goal
 
 pub returns-in-Bounds : goal.returns-in-Bounds
 unfolding record_list
-returns-in-Bounds c = let out = c.args.out.now in
-    let r = c.«record».given.0.0 in
-    rw (sym c.union.ensures ∙ ap bounded
-    c.«record».given.1) (
-      refl,
-      c.write_record.ensures ∙ written_at-sets out 0 r
-          c.requires ∙
-          stored [] out (record_list r) 0 refl
-          c.requires
-          ∙ sym (tray-full record_list record_words out r refl),
-    )
+returns-in-Bounds c =
+    let out = c.args.out.now in
+    let r = c.in-Bounds.«record» in
+    rw (sym c.union.ensures ∙ ap bounded c.in-Bounds.is) (record {
+      value = refl;
+      out_after =
+          c.write_record.ensures ∙ written_at-sets out 0 r c.requires
+          ∙ stored [] out (record_list r) 0 refl c.requires ∙ sym (tray-full record_list record_words out r refl);
+    })
 
 pub returns-in-Refused : goal.returns-in-Refused
-returns-in-Refused c = let out = c.args.out.now in
-    let told = sym c.union.ensures ∙ ap bounded
-    c.in-Refused.is in
-    rw told (
-      c.refusal_number.ensures,
-      c.zero_words.ensures ∙ tray-zeroed record_list record_words out out _
-          c.requires refl
-          (only-number (late-union _ _) told),
-    )
+returns-in-Refused c =
+    let out = c.args.out.now in
+    let told = sym c.union.ensures ∙ ap bounded c.in-Refused.is in
+    rw told (record {
+      value = c.refusal_number.ensures;
+      out_after =
+          c.zero_words.ensures
+          ∙ tray-zeroed record_list record_words out out _ c.requires refl (only-number (late-union _ _) told);
+    })

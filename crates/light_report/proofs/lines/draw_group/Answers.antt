@@ -11,7 +11,8 @@ returns-in-Pmf c = rw (← c.query_of_bytes-query.ensures, ← c.float_at.ensure
 
 pub returns-in-Refused-bvh_light_sampler_pmf : goal.returns-in-Refused-bvh_light_sampler_pmf
 unfolding shown named ◌then◌
-returns-in-Refused-bvh_light_sampler_pmf c = rw (← c.query_of_bytes-query.ensures, ← c.float_at.ensures, ← c.bvh_light_sampler_sample.ensures)
+returns-in-Refused-bvh_light_sampler_pmf c =
+    rw (← c.query_of_bytes-query.ensures, ← c.float_at.ensures, ← c.bvh_light_sampler_sample.ensures)
     (rw c.in-Light.is
     (rw (← c.bvh_light_sampler_pmf.ensures, c.in-Refused-bvh_light_sampler_pmf.is)))
 
