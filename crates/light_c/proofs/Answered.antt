@@ -1,6 +1,6 @@
 -- Build's answer as a slice that is lent: short of its reserve it is refusal 3, behind the checks that come before
--- (`answered-short`); long enough, the build is `build_light_bvh` (`answered-long`), and k and the box are what stands in
--- it. Assumes nothing.
+-- (`answered-short`); long enough, the build is `build_light_bvh` (`answered-long`), and k and the box are what stands
+-- in it. Assumes nothing.
 use Prim.Native.Nat.{ℕ, ◌^◌, ◌≤◌, ◌<◌}
 use mathlib.Core.Path.{◌≡◌, refl, ap, sym, ◌∙◌}
 use mathlib.Core.Bool.{cond}

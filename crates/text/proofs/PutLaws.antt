@@ -25,8 +25,9 @@ use Rattle.text.specs.Laws.TextLaws.{places-few}
 
 pub length_digits : (b k n : ℕ) → length (last_digits b k n) ≡ k
 length_digits b zero n = refl
-length_digits b (suc k) n = length-append (last_digits b k (n / b)) (hex_digit_ascii (n % b) ∷ []) ∙ rw (length_digits b k (n / b))
-    (omega arith)
+length_digits b (suc k) n =
+    length-append (last_digits b k (n / b)) (hex_digit_ascii (n % b) ∷ [])
+    ∙ rw (length_digits b k (n / b)) (omega arith)
 
 -- a store before a run of stores
 set_before : (l vs : List ℕ) (j i a : ℕ) → j < i → set (sets l i vs) j a ≡ sets (set l j a) i vs
