@@ -103,6 +103,19 @@ pub record Going (m : ℕ) (bins₀ work₀ : List ℕ) (under over : ℕ) (bins
   pub on : (bins_rest work_rest : List ℕ) (s : State) → Game m bins_rest work_rest s bins₀ work₀ under over
       → (t : State) × (turns to-go t ≡ turns m s) × Game m bins_rest work_rest t bins work un ov
 
+pub going-none : {m : ℕ} {bins work : List ℕ} {under over : ℕ} → Playing m bins work under over →
+    Going m bins work under over bins work under over
+going-none {m} (bins_rest, work_rest, s, g) =
+    record {
+      together = g.stacks.together;
+      room = g.stacks.room;
+      same-bins = refl;
+      same_work = refl;
+      to-go = m;
+      enough = g.stacks.together;
+      on = λ bins_rest work_rest s g. (s, refl, g);
+    }
+
 turns-one : (n : ℕ) (s : State) → 0 < n → turns n s ≡ turns (n - 1) (turn s)
 unfolding turns
 turns-one zero s h = absurd (omega arith)
