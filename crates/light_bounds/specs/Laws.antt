@@ -1,3 +1,1 @@
-pub mod WeighingLaws
 pub mod SideLaws
-pub mod BoundsLaws

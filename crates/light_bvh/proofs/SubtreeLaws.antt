@@ -17,7 +17,7 @@ use Rattle.words.specs.Answers.{Answer, given, refused, ◌then◌}
 use Rattle.words.proofs.AnswerLaws.{Gives, gives, gives_none, gives-any, gives_then}
 use Rattle.words.proofs.AnswerLaws.{gives-value, given_injective, refused_injective, then-given, not-both}
 use Rattle.words.proofs.AnswerLaws.{only-number, then_same, then-refused, then_is, gives_of, cond-given}
-use Rattle.light_bounds.specs.Laws.BoundsLaws.{union-given}
+use Rattle.light_bounds.proofs.BoundsLaws.{union-given}
 use Rattle.light_bounds.specs.LightBounds.{union}
 use Rattle.light_rows.specs.Laws.RecordLaws.{RecordFits, join-fits, record-fits-read}
 use Rattle.light_rows.specs.RecordWords.{read_record, record_at, record_words, side_place}

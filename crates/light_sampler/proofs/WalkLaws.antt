@@ -15,7 +15,7 @@ use Rattle.ieee.specs.Single.{◌⊗◌, zerof, onef}
 use Rattle.words.specs.Answers.{Answer, given, refused, code}
 use Rattle.words.proofs.AnswerLaws.{not-both, given_injective}
 use Rattle.light_bounds.specs.AsCoded.Weighing.{prepared}
-use Rattle.light_bounds.specs.Laws.WeighingLaws.{weigh-prepared}
+use Rattle.light_bounds.proofs.WeighingLaws.{weigh-prepared}
 use Rattle.light_bounds.specs.declared.importance.Query.{Query}
 use Rattle.light_bounds.specs.declared.importance.Prepared.{Prepared}
 use Rattle.light_rows.specs.Nodes.{LightBVHNode, leaf, interior, invalid_index, node_at, node_words}

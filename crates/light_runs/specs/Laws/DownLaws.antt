@@ -5,7 +5,7 @@ use Rattle.std.proofs.Common.{ap, arith}
 use Rattle.ieee.specs.Laws.OrderLaws.{nonneg}
 use Rattle.words.specs.Answers.{Answer, given, refused, ◌then◌}
 use Rattle.words.proofs.AnswerLaws.{Gives, gives, gives_none, gives_then}
-use Rattle.light_bounds.specs.Laws.BoundsLaws.{importance-nonneg}
+use Rattle.light_bounds.proofs.BoundsLaws.{importance-nonneg}
 use Rattle.light_bounds.specs.Importance.{weigh}
 use Rattle.light_bounds.specs.declared.importance.Query.{Query}
 use Rattle.light_bounds.specs.declared.light_bounds.LightBounds.{LightBounds}

@@ -17,7 +17,7 @@ use Rattle.ieee.specs.Single.{zerof}
 use Rattle.words.specs.Answers.{Answer, given, refused, ◌then◌}
 use Rattle.words.proofs.AnswerLaws.{then-given, given_injective, not-both}
 use Rattle.light_bounds.specs.Bounds.{Holds, box_check, finite_box, inverted, box_union, least_of, greatest_of}
-use Rattle.light_bounds.specs.Laws.BoundsLaws.{union-given}
+use Rattle.light_bounds.proofs.BoundsLaws.{union-given}
 use Rattle.light_bounds.specs.LightBounds.{validate, cone_check, join, join_powered}
 use Rattle.light_bounds.specs.Vecmath.{finite_vec}
 use Rattle.light_bounds.specs.declared.bounds.Bounds3.{Bounds3}

@@ -9,7 +9,7 @@ use Rattle.ieee.specs.Single.{zerof}
 use Rattle.words.specs.Answers.{given}
 use Rattle.words.proofs.AnswerLaws.{then-given}
 use Rattle.light_bounds.specs.Bounds.{Holds}
-use Rattle.light_bounds.specs.Laws.BoundsLaws.{union-given, union-power, union_holds}
+use Rattle.light_bounds.proofs.BoundsLaws.{union-given, union-power, union_holds}
 use Rattle.light_bounds.specs.LightBounds.{validate, join, union}
 use Rattle.light_rows.specs.Laws.RecordLaws.{RecordFits, record-fits-read, join-fits}
 use Rattle.light_bounds.specs.declared.light_bounds.LightBounds.{LightBounds}
