@@ -1,3 +1,2 @@
 pub mod ReportLaws
 pub mod TreeLaws
-pub mod WrittenLaws

@@ -1,2 +1,1 @@
 pub mod ListToBlock
-pub mod Laws

@@ -61,7 +61,7 @@ struct Input {
 }
 
 // Reads standard input, a chunk at a time, until it ends or the list has no room for another chunk: then it is
-// over 2^20 words, and what was read tells as much as all of it (specs/Laws/ListToBlockLaws.antt).
+// over 2^20 words, and what was read tells as much as all of it (proofs/ListToBlockLaws.antt).
 fn read_list(list: &mut [u32], chunk: &mut [u8]) -> Input
     requires { 4 ≤ length chunk.old }
     ensures { result.words ≤ length list.old }
