@@ -1,10 +1,10 @@
--- What a definition answers: a value, or the number of a refusal (docs/REQUIREMENTS.md R11). Each enum that code
--- returns is mapped to such an answer by a definition beside it, and the promises speak of the answer. Definitions
--- only. Assumes nothing.
-use Rattle.std.specs.Prelude.{ℕ, List, length}
+-- What a definition answers: a value, or the number of a refusal (docs/REQUIREMENTS.md R11). What code returns is
+-- mapped to such an answer, and the promises speak of the answer. Definitions only. Assumes nothing.
+use Rattle.std.specs.Prelude.{ℕ, List, length, Result, Ok, Err, Some, None}
+use Rattle.std.specs.Prelude.{Option as Option-of-std}
+use Rattle.std.proofs.Math.Option.{Option, some, none}
 use Rattle.words.specs.Refusals.{number}
-use Rattle.words.specs.declared.answers.Counted.{Counted}
-use Rattle.words.specs.declared.answers.Counted.TheVariants.{Count, Refused}
+use Rattle.words.specs.declared.refusals.Refusal.{Refusal}
 
 infixl 20 ◌then◌
 pub data Answer (A : Type 0) : Type 0 where
@@ -27,7 +27,12 @@ abbrev pub code : {A : Type 0} → Answer A → ℕ
 code (given a) = 0
 code (refused n) = n
 
--- what the enum `Counted` answers
-abbrev pub counted : Counted → Answer ℕ
-counted (Count n) = given n
-counted (Refused r) = refused (number r)
+-- what a `Result` answers
+abbrev pub answered : {A : Type 0} → Result A Refusal → Answer A
+answered (Ok a) = given a
+answered (Err why) = refused (number why)
+
+-- what an `Option` of the code's has
+abbrev pub optional : {A : Type 0} → Option-of-std A → Option A
+optional (Some a) = some a
+optional None = none

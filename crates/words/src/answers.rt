@@ -1,22 +1,15 @@
-// What a call answers that counts: how many, or why not (specs/Answers.antt).
+// What a call answers: a value, or why not (specs/Answers.antt).
 ghost use Rattle.std.specs.Prelude.{◌≡◌};
-ghost use Rattle.words.specs.Answers.{counted, code};
+ghost use Rattle.words.specs.Answers.{answered, code};
 
-use super::refusals::{Refusal, refusal_number};
-
-// How many lamps, bins or words, or why not.
-#[derive(Drop)]
-pub enum Counted {
-    Count(usize),
-    Refused(Refusal),
-}
+use super::refusals::Refusal;
 
 // For C: 0 where it is done, else the refusal's number.
-pub fn counted_code(answer: Counted) -> u32
-    ensures { result ≡ code (counted answer) }
+pub fn code<T: Drop>(answer: Result<T, Refusal>) -> u32
+    ensures { result ≡ code (answered answer) }
 {
     match answer {
-        Counted::Count(_) => 0,
-        Counted::Refused(why) => refusal_number(why),
+        Ok(_) => 0,
+        Err(why) => why.number(),
     }
 }

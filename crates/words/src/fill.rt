@@ -3,14 +3,12 @@ ghost use Rattle.std.specs.Prelude.{◌≡◌};
 ghost use Rattle.words.specs.AsCoded.Fill.{filled};
 
 // Writes v from place `from` up to, not including, place `to`, as far as the slice goes.
-pub fn fill_words(s: &mut [u32], from: usize, to: usize, v: u32)
+pub fn fill<T: Copy>(s: &mut [T], from: usize, to: usize, v: T)
     ensures { s.new ≡ filled s.old from to v }
 {
-    let end = if to < s.len() { to } else { s.len() };
-    let mut i = if from < end { from } else { end };
-    while i < end {
-        s[i] = v;
-        i += 1;
+    let end = to.min(s.len());
+    if from < end {
+        s[from..end].fill(v);
     }
 }
 
@@ -18,5 +16,5 @@ pub fn fill_words(s: &mut [u32], from: usize, to: usize, v: u32)
 pub fn zero_words(s: &mut [u32], from: usize, to: usize)
     ensures { s.new ≡ filled s.old from to 0 }
 {
-    fill_words(s, from, to, 0);
+    fill(s, from, to, 0);
 }

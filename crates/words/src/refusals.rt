@@ -4,7 +4,7 @@ ghost use Rattle.words.specs.Refusals.{number};
 // Why a call was refused: name, number and sentence of each refusal of docs/REQUIREMENTS.md R11.
 // They are told here alone. tools/refusals makes `refusal_number`, specs/Refusals.antt and the tables in
 // include/light_tree.h, rust/light_tree/src/refusal.rs and README.md of them, and fails where one differs.
-#[derive(Drop)]
+#[derive(Clone, Copy)]
 pub enum Refusal {
     // a length or layout is wrong, a kind or side unknown, or lights and records differ in number
     Ragged = 1,
@@ -34,23 +34,11 @@ pub enum Refusal {
     TooWide = 13,
 }
 
-// The refusal's number. The arms are made of the lines above.
-pub fn refusal_number(refusal: Refusal) -> u32
-    ensures { result ≡ number refusal }
-{
-    match refusal {
-        Refusal::Ragged => 1,
-        Refusal::Crowded => 2,
-        Refusal::ShortTray => 3,
-        Refusal::Misplaced => 4,
-        Refusal::NotFinite => 5,
-        Refusal::Inverted => 6,
-        Refusal::NoDirection => 7,
-        Refusal::OutOfRange => 8,
-        Refusal::NoArea => 9,
-        Refusal::LostUnion => 10,
-        Refusal::BadU => 11,
-        Refusal::BrokenTree => 12,
-        Refusal::TooWide => 13,
+impl Refusal {
+    // The refusal's number.
+    pub fn number(self) -> u32
+        ensures { result ≡ number self }
+    {
+        self as u32
     }
 }

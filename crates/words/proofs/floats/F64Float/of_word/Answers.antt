@@ -2,7 +2,7 @@
 use mathlib.Core.Path.{sym}
 use lib.Ieee.{binary64, div, of_bits}
 use Rattle.ieee.specs.Laws.Nans.{no-nan-bits, nan-bits}
-use Rattle.words.proofs.floats.f64_of_word.Goals as goal
+use Rattle.words.proofs.floats.F64Float.of_word.Goals as goal
 
 pub float_from_bits-result : goal.float_from_bits-result
 float_from_bits-result c = no-nan-bits binary64 c.args.w c.if-w-gt9218868437227405312.false

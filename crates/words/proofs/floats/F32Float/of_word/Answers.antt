@@ -2,7 +2,7 @@
 use mathlib.Core.Path.{sym}
 use lib.Ieee.{binary32, div, of_bits}
 use Rattle.ieee.specs.Laws.Nans.{no-nan-bits, nan-bits}
-use Rattle.words.proofs.floats.f32_of_word.Goals as goal
+use Rattle.words.proofs.floats.F32Float.of_word.Goals as goal
 
 pub float_from_bits-result : goal.float_from_bits-result
 float_from_bits-result c = no-nan-bits binary32 c.args.w c.if-w-gt2139095040.false

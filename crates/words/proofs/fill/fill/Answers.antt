@@ -1,9 +1,9 @@
--- `words::fill::fill_words` meets its contract. The loop's invariant: the places from the first up to `i` hold the
+-- `words::fill::fill` meets its contract. The loop's invariant: the places from the first up to `i` hold the
 -- value, and the others are as they came. Assumes nothing.
 use native.Mathlib.Omega.{arith}
 use Rattle.words.proofs.FillLaws.{filling-none, filling-one, filling-all}
-use Rattle.words.proofs.fill.fill_words.Goals as goal
-use Rattle.words.proofs.fill.fill_words.Goals.{then-to-s, else-to-s, then-from-end, else-from-end}
+use Rattle.words.proofs.fill.fill.Goals as goal
+use Rattle.words.proofs.fill.fill.Goals.{then-to-s, else-to-s, then-from-end, else-from-end}
 
 pub loop-i-init : goal.loop-i-init
 loop-i-init c = (
