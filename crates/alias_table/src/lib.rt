@@ -9,16 +9,15 @@ ghost use Rattle.std.specs.Float.Ieee.{to_bits, lt};
 ghost use Rattle.std.proofs.lemmas.List.Edits.{sets};
 ghost use Rattle.ieee.specs.Single.{◌⊕◌, ◌⊖◌, single, zerof, onef};
 ghost use Rattle.ieee.specs.Narrow.{narrow as narrowed};
-ghost use Rattle.words.specs.Answers.{count, counted};
+ghost use Rattle.words.specs.Answers.{count, answered};
 ghost use Rattle.words.specs.Tray.{tray};
 ghost use Rattle.alias_table.specs.AliasTable.{Bin, sum_from, total as total_of, build_power_alias_table, bin_words};
 ghost use Rattle.alias_table.specs.AsCoded.Stacks.{sums_of, weighted, played, put, top, Room};
 ghost use Rattle.alias_table.specs.AsCoded.Stacks.{Started, Playing, Played, Left, Wholed};
 
 use floats::narrow::{narrow, widen};
-use words::answers::Counted;
 use words::fill::zero_words;
-use words::floats::{f32_of_word, word_of_f32};
+use words::floats::Float;
 use words::limits::MAX_LAMPS;
 use words::refusals::Refusal;
 
@@ -38,8 +37,8 @@ struct Heights {
 
 // Bins of three words (q, p, alias) into `bins`, with `work` of four words a weight, and how many bins. Over MAX_LAMPS
 // weights is refusal 2, short bins or work 3, a weight that is NaN, infinite or below zero 8.
-pub fn build_power_alias_table(weights: &[u32], bins: &mut [u32], work: &mut [u32]) -> Counted
-    ensures result_value { counted result ≡ count
+pub fn build_power_alias_table(weights: &[u32], bins: &mut [u32], work: &mut [u32]) -> Result<usize, Refusal>
+    ensures result_value { answered result ≡ count
         (build_power_alias_table weights.now (length bins.old) (length work.old)) }
     ensures bins_after { bins.new ≡ tray bin_words (3 * length weights.now)
         (build_power_alias_table weights.now (length bins.old) (length work.old))
@@ -50,22 +49,22 @@ pub fn build_power_alias_table(weights: &[u32], bins: &mut [u32], work: &mut [u3
 {
     let m = weights.len();
     if m > MAX_LAMPS {
-        return Counted::Refused(Refusal::Crowded);
+        return Err(Refusal::Crowded);
     }
     if bins.len() < 3 * m || work.len() < 4 * m {
-        return Counted::Refused(Refusal::ShortTray);
+        return Err(Refusal::ShortTray);
     }
     let s = add_up(weights);
     match s {
         Sums::Of(single, double) => {
             let flat = single == 0.0;
             build(weights, flat, total(flat, double, m), bins, work);
-            Counted::Count(m)
+            Ok(m)
         }
         Sums::Bad => {
             zero_words(bins, 0, 3 * m);
             zero_words(work, 0, 4 * m);
-            Counted::Refused(Refusal::OutOfRange)
+            Err(Refusal::OutOfRange)
         }
     }
 }
@@ -78,7 +77,7 @@ fn add_up(weights: &[u32]) -> Sums
     let mut double = 0.0;
     let mut i = 0;
     while i < weights.len() {
-        let w = f32_of_word(weights[i]);
+        let w = f32::of_word(weights[i]);
         if !(w < 1.0 / 0.0) || w < 0.0 {
             return Sums::Bad;
         }
@@ -117,7 +116,7 @@ fn weight_at(weights: &[u32], flat: bool, i: usize) -> f32
     requires { i < length weights.now }
     ensures { result ≡ get_or (weighted flat weights.now) i zerof }
 {
-    if flat { 1.0 } else { f32_of_word(weights[i]) }
+    if flat { 1.0 } else { f32::of_word(weights[i]) }
 }
 
 // The game, from the start to the zeroed work.
@@ -172,7 +171,7 @@ fn put_bin(bins: &mut [u32], at: usize, p: f32)
     ensures { bins.new ≡ sets bins.old at (0 ∷ to_bits binary32 p ∷ 0xffff_ffff ∷ []) }
 {
     bins[at] = 0;
-    bins[at + 1] = word_of_f32(p);
+    bins[at + 1] = p.word();
     bins[at + 2] = 0xffff_ffff;
 }
 
@@ -196,7 +195,7 @@ fn put_entry(work: &mut [u32], at: usize, weight: f32, index: u32)
     requires { at + 1 < length work.old }
     ensures { work.new ≡ put work.old at weight index }
 {
-    work[at] = word_of_f32(weight);
+    work[at] = weight.word();
     work[at + 1] = index;
 }
 
@@ -231,7 +230,7 @@ fn play(m: usize, bins: &mut [u32], work: &mut [u32], under: usize, over: usize)
 fn joint(under: u32, over: u32) -> f32
     ensures { result ≡ single under ⊕ single over ⊖ onef }
 {
-    f32_of_word(under) + f32_of_word(over) - 1.0
+    f32::of_word(under) + f32::of_word(over) - 1.0
 }
 
 // q and the alias of the bin at a place.

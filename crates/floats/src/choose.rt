@@ -2,7 +2,7 @@
 ghost use Rattle.std.specs.Prelude.{◌≡◌};
 ghost use Rattle.ieee.specs.Choose.{fmin, fmax, clamp as clamped, fabs, is_sign_negative};
 
-use words::floats::word_of_f32;
+use words::floats::Float;
 
 // The lesser. A NaN loses to the other value; of equal values the first is given.
 pub fn min(x: f32, y: f32) -> f32
@@ -38,5 +38,5 @@ pub fn abs(x: f32) -> f32
 pub fn is_sign_negative(x: f32) -> bool
     ensures { result ≡ is_sign_negative x }
 {
-    word_of_f32(x) >= 0x8000_0000
+    x.word() >= 0x8000_0000
 }

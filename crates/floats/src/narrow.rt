@@ -5,7 +5,7 @@ ghost use Rattle.std.specs.Float.Ieee.{of_bits, to_bits};
 ghost use Rattle.ieee.specs.Narrow.{narrow as narrowed};
 
 use super::shift::shifted_to_even;
-use words::floats::{f32_of_word, word_of_f64};
+use words::floats::Float;
 
 // x as an f64, which holds every f32.
 pub fn widen(x: f32) -> f64
@@ -18,7 +18,7 @@ pub fn widen(x: f32) -> f64
 pub fn narrow(x: f64) -> f32
     ensures { result ≡ narrowed x }
 {
-    f32_of_word(narrow_word(word_of_f64(x)))
+    f32::of_word(narrow_word(x.word()))
 }
 
 // The pattern of a pattern's value, narrowed. The cases are those of the magnitude.

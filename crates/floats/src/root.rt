@@ -7,7 +7,7 @@ ghost use Rattle.ieee.specs.Laws.SqrtNear.{is_nearest};
 ghost use Rattle.ieee.specs.Laws.SqrtWords.{sticky};
 
 use super::shift::shifted_to_even;
-use words::floats::{f64_of_word, word_of_f64};
+use words::floats::Float;
 
 // A float near the root of normal * 2^odd / 2^52, to 28 digits, for normal from 2^52 up to 2^53: a polynomial near the
 // root of x from 1 up to 2, times the root of 2 where odd is 1. Nothing rests on how near it is.
@@ -15,8 +15,8 @@ fn near_root(normal: u64, odd: u64) -> f64
     requires normal_bound { normal < 2 ^ 53 }
     requires odd_bound { odd < 2 }
 {
-    let x = f64_of_word(0x3fe0_0000_0000_0000 + normal);
-    let scale = f64_of_word(0x3ff0_0000_0000_0000 + odd * 0x6_a09e_667f_3bcd);
+    let x = f64::of_word(0x3fe0_0000_0000_0000 + normal);
+    let scale = f64::of_word(0x3ff0_0000_0000_0000 + odd * 0x6_a09e_667f_3bcd);
     let x2 = x * x;
     let x4 = x2 * x2;
     let low = 0.23340100123411664
@@ -32,8 +32,8 @@ fn nearer_root(normal: u64, odd: u64) -> f64
     requires normal_bound { normal < 2 ^ 54 }
     requires odd_bound { odd < 2 }
 {
-    let x = f64_of_word(0x3fe0_0000_0000_0000 + normal);
-    let scale = f64_of_word(0x3ff0_0000_0000_0000 + odd * 0x6_a09e_667f_3bcd);
+    let x = f64::of_word(0x3fe0_0000_0000_0000 + normal);
+    let scale = f64::of_word(0x3ff0_0000_0000_0000 + odd * 0x6_a09e_667f_3bcd);
     let x2 = x * x;
     let x4 = x2 * x2;
     let low = 0.20942746719644256
@@ -52,7 +52,7 @@ fn guess(n: u64) -> u64
     ensures { result < 2 ^ 27 }
 {
     let odd = n >> 53;
-    word_of_f64(nearer_root(n >> odd, odd) - 0.0000000074214 + 67108864.0) % 0x800_0000
+    (nearer_root(n >> odd, odd) - 0.0000000074214 + 67108864.0).word() % 0x800_0000
 }
 
 // The greatest number whose square is at most n, by halving the range in which it lies.

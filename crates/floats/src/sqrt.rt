@@ -10,20 +10,20 @@ ghost use Rattle.ieee.specs.Laws.SqrtWords.{sticky};
 
 use super::root::{kept_root, nearest_root, wide_sticky_root};
 use super::shift::shifted_to_even;
-use words::floats::{f32_of_word, f64_of_word, word_of_f32, word_of_f64};
+use words::floats::Float;
 
 // The root of x: the nearest f32, ties to even; of -0, -0; below zero or NaN, NaN; of infinity, infinity.
 pub fn sqrt(x: f32) -> f32
     ensures { result ≡ rooted binary32 x }
 {
-    f32_of_word(root_word(word_of_f32(x)))
+    f32::of_word(root_word(x.word()))
 }
 
 // The same for f64.
 pub fn sqrt64(x: f64) -> f64
     ensures { result ≡ rooted binary64 x }
 {
-    f64_of_word(sqrt64_word(word_of_f64(x)))
+    f64::of_word(sqrt64_word(x.word()))
 }
 
 // The pattern of the root of a pattern's value. Lengths and cosines are often 1, which is its own root.

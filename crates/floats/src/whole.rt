@@ -6,29 +6,29 @@ ghost use Rattle.std.specs.Float.Ieee.{of_bits, to_bits};
 ghost use Rattle.ieee.specs.Whole.{next_whole, floor as floored, ceil as ceiled, round_away, to_u16, to_u32, to_usize};
 
 use super::shift::power;
-use words::floats::{f32_of_word, word_of_f32};
+use words::floats::Float;
 
 // The greatest whole number at most x.
 pub fn floor(x: f32) -> f32
     ensures { result ≡ floored binary32 x }
 {
-    let w = word_of_f32(x);
-    f32_of_word(next_whole_word(w, w >= 0x8000_0000))
+    let w = x.word();
+    f32::of_word(next_whole_word(w, w >= 0x8000_0000))
 }
 
 // The least whole number at least x.
 pub fn ceil(x: f32) -> f32
     ensures { result ≡ ceiled binary32 x }
 {
-    let w = word_of_f32(x);
-    f32_of_word(next_whole_word(w, !(w >= 0x8000_0000)))
+    let w = x.word();
+    f32::of_word(next_whole_word(w, !(w >= 0x8000_0000)))
 }
 
 // The nearest whole number, halves away from zero.
 pub fn round(x: f32) -> f32
     ensures { result ≡ round_away binary32 x }
 {
-    f32_of_word(round_word(word_of_f32(x)))
+    f32::of_word(round_word(x.word()))
 }
 
 // The pattern of the next whole number, away from zero or toward it.
@@ -84,7 +84,7 @@ fn round_word(w: u32) -> u32
 pub fn to_usize(x: f32) -> usize
     ensures { result ≡ to_usize x }
 {
-    to_usize_word(word_of_f32(x))
+    to_usize_word(x.word())
 }
 
 fn to_usize_word(w: u32) -> usize

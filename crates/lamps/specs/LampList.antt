@@ -13,8 +13,6 @@ use Rattle.lamps.specs.declared.lamp_list.Cursor.{Cursor}
 use Rattle.lamps.specs.declared.lamp_list.Lamp.{Lamp}
 use Rattle.lamps.specs.declared.lamp_list.Lamp.TheVariants.{Point, Spot, AreaGroup}
 use Rattle.lamps.specs.declared.lamp_list.Reading.{Reading}
-use Rattle.lamps.specs.declared.lamp_list.Step.{Step}
-use Rattle.lamps.specs.declared.lamp_list.Step.TheVariants.{Read, Refused}
 
 -- ---- one lamp
 
@@ -91,10 +89,6 @@ lamp_at ws at =
     (cond (eqb (kind_of (get_or ws at 0)) 3)
     (cond (leb (at + group_words) (length ws) && group_fits ws at) (given (group_at ws at)) (refused 1))
     (refused 1)))
-
-abbrev pub step : Step → Answer Reading
-step (Read r) = given r
-step (Refused r) = refused (number r)
 
 -- the words of a reading's triangles, the list's own
 unfoldable pub triangles_of : List ℕ → Reading → List ℕ

@@ -1,8 +1,6 @@
 // The bounds of one lamp (specs/LampBounds.antt): `light_bounds_for_input` of pbrt-r4's light_bounds.rs.
 ghost use Rattle.std.specs.Prelude.{◌≡◌, ◌+◌, ◌*◌, ◌≤◌, ◌-◌, length};
-ghost use Rattle.words.specs.Answers.{given, ◌then◌};
-ghost use Rattle.light_bounds.specs.Bounds.{validity};
-ghost use Rattle.light_bounds.specs.LightBounds.{bounded};
+ghost use Rattle.words.specs.Answers.{given, ◌then◌, answered};
 ghost use Rattle.lamps.specs.LampList.{triangle_words};
 ghost use Rattle.lamps.specs.LampBounds.{light_bounds_for_input, emission_bad, validate_emission};
 ghost use Rattle.lamps.specs.LampBounds.{checked as checked_of, point_box, point_phi};
@@ -12,13 +10,13 @@ ghost use Rattle.lamps.specs.LampBounds.{triangle_record, group_phi, join_next, 
 ghost use Rattle.lamps.specs.LampBounds.{group_bounds, spot_record, faced_record};
 
 use super::lamp_list::{Lamp, TRIANGLE_WORDS};
-use light_bounds::bounds::{Bounds3, Validity, check, greater, lesser};
+use light_bounds::bounds::{Bounds3, check, greater, lesser};
 use light_bounds::cones::Cone;
-use light_bounds::light_bounds::{Bounded, LightBounds, are_cosines, union, validate};
-use light_bounds::vecmath::{Direction, Vec3, is_finite, is_finite_vec, normalize};
+use light_bounds::light_bounds::{LightBounds, are_cosines, union, validate};
+use light_bounds::vecmath::{Vec3, is_finite, is_finite_vec, normalize};
 use light_rows::record_words::vec_at;
 use trig::{acos, cos};
-use words::floats::f32_of_word;
+use words::floats::Float;
 use words::refusals::Refusal;
 
 // π as f32 has it, 40490fdb, and the cosine of its half, b33bbd2e (proofs/LampBoundsLaws.antt computes it).
@@ -38,8 +36,8 @@ pub struct AreaTriangleInput {
 }
 
 // The bounds of a lamp; a group's triangles stand beside it, and are not looked at for a point or a spot.
-pub fn light_bounds_for_input(lamp: Lamp, triangles: &[u32]) -> Bounded
-    ensures { bounded result ≡ light_bounds_for_input lamp triangles.now }
+pub fn light_bounds_for_input(lamp: Lamp, triangles: &[u32]) -> Result<LightBounds, Refusal>
+    ensures { answered result ≡ light_bounds_for_input lamp triangles.now }
 {
     match lamp {
         Lamp::Point {
@@ -72,13 +70,13 @@ pub fn light_bounds_for_input(lamp: Lamp, triangles: &[u32]) -> Bounded
     }
 }
 
-fn validate_emission(value: f32, scale: f32) -> Validity
-    ensures { validity result ≡ validate_emission value scale }
+fn validate_emission(value: f32, scale: f32) -> Result<(), Refusal>
+    ensures { answered result ≡ validate_emission value scale }
 {
     if emission_is_bad(value, scale) {
-        return Validity::Refused(Refusal::OutOfRange);
+        return Err(Refusal::OutOfRange);
     }
-    Validity::Valid
+    Ok(())
 }
 
 fn emission_is_bad(value: f32, scale: f32) -> bool
@@ -88,12 +86,12 @@ fn emission_is_bad(value: f32, scale: f32) -> bool
 }
 
 // A record that passes its own check.
-fn checked(record: LightBounds) -> Bounded
-    ensures { bounded result ≡ checked_of «record» }
+fn checked(record: LightBounds) -> Result<LightBounds, Refusal>
+    ensures { answered result ≡ checked_of «record» }
 {
     match validate(record) {
-        Validity::Valid => Bounded::Bounds(record),
-        Validity::Refused(why) => Bounded::Refused(why),
+        Ok(()) => Ok(record),
+        Err(why) => Err(why),
     }
 }
 
@@ -114,14 +112,14 @@ fn point_phi(intensity_max: f32, scale: f32) -> f32
     4.0 * PI * scale * intensity_max
 }
 
-fn point_bounds(position: Vec3, intensity_max: f32, scale: f32) -> Bounded
-    ensures { bounded result ≡ point_bounds position intensity_max scale }
+fn point_bounds(position: Vec3, intensity_max: f32, scale: f32) -> Result<LightBounds, Refusal>
+    ensures { answered result ≡ point_bounds position intensity_max scale }
 {
     match validate_emission(intensity_max, scale) {
-        Validity::Valid => {
+        Ok(()) => {
             let bounds = point_box(position);
             match check(bounds) {
-                Validity::Valid => {
+                Ok(()) => {
                     let direction = Vec3 {
                         x: 0.0,
                         y: 0.0,
@@ -139,10 +137,10 @@ fn point_bounds(position: Vec3, intensity_max: f32, scale: f32) -> Bounded
                         false,
                     ))
                 }
-                Validity::Refused(why) => Bounded::Refused(why),
+                Err(why) => Err(why),
             }
         }
-        Validity::Refused(why) => Bounded::Refused(why),
+        Err(why) => Err(why),
     }
 }
 
@@ -170,12 +168,12 @@ fn spot_bounds(
     intensity_max: f32,
     scale: f32,
     cos_falloff_end: f32,
-) -> Bounded
-    ensures { bounded result ≡
+) -> Result<LightBounds, Refusal>
+    ensures { answered result ≡
         spot_bounds position cone.direction intensity_max scale cone.cos_theta cos_falloff_end }
 {
     match validate_emission(intensity_max, scale) {
-        Validity::Valid => {
+        Ok(()) => {
             if are_cosines(cone.cos_theta, cos_falloff_end) {
                 return spot_record(
                     position,
@@ -184,20 +182,20 @@ fn spot_bounds(
                     cos_falloff_end,
                 );
             }
-            Bounded::Refused(Refusal::OutOfRange)
+            Err(Refusal::OutOfRange)
         }
-        Validity::Refused(why) => Bounded::Refused(why),
+        Err(why) => Err(why),
     }
 }
 
 // Box, direction, record.
-fn spot_record(position: Vec3, cone: Cone, phi: f32, cos_falloff_end: f32) -> Bounded
-    ensures { bounded result ≡ spot_record position cone.direction phi cone.cos_theta cos_falloff_end }
+fn spot_record(position: Vec3, cone: Cone, phi: f32, cos_falloff_end: f32) -> Result<LightBounds, Refusal>
+    ensures { answered result ≡ spot_record position cone.direction phi cone.cos_theta cos_falloff_end }
 {
     let bounds = point_box(position);
     match check(bounds) {
-        Validity::Valid => match normalize(cone.direction) {
-            Direction::Unit(direction) => {
+        Ok(()) => match normalize(cone.direction) {
+            Ok(direction) => {
                 let cos_theta = cone.cos_theta;
                 checked(LightBounds::of_lamp(
                     bounds,
@@ -210,9 +208,9 @@ fn spot_record(position: Vec3, cone: Cone, phi: f32, cos_falloff_end: f32) -> Bo
                     false,
                 ))
             }
-            Direction::Refused(why) => Bounded::Refused(why),
+            Err(why) => Err(why),
         },
-        Validity::Refused(why) => Bounded::Refused(why),
+        Err(why) => Err(why),
     }
 }
 
@@ -226,7 +224,7 @@ fn triangle_at(triangles: &[u32], at: usize) -> AreaTriangleInput
         a: vec_at(triangles, at),
         b: vec_at(triangles, at + 3),
         c: vec_at(triangles, at + 6),
-        area: f32_of_word(triangles[at + 9]),
+        area: f32::of_word(triangles[at + 9]),
         geometric_normal: vec_at(triangles, at + 10),
     }
 }
@@ -248,14 +246,14 @@ fn group_phi(emission_max: f32, scale: f32, area: f32) -> f32
 }
 
 // Box, area, normal, the normalised normal, record.
-fn triangle_record(emission_max: f32, scale: f32, two_sided: bool, t: AreaTriangleInput) -> Bounded
-    ensures { bounded result ≡ triangle_record emission_max scale two_sided t }
+fn triangle_record(emission_max: f32, scale: f32, two_sided: bool, t: AreaTriangleInput) -> Result<LightBounds, Refusal>
+    ensures { answered result ≡ triangle_record emission_max scale two_sided t }
 {
     let bounds = triangle_bounds(t);
     match check(bounds) {
-        Validity::Valid => {
+        Ok(()) => {
             if has_no_area(t.area) {
-                return Bounded::Refused(Refusal::NoArea);
+                return Err(Refusal::NoArea);
             }
             faced_record(
                 bounds,
@@ -264,7 +262,7 @@ fn triangle_record(emission_max: f32, scale: f32, two_sided: bool, t: AreaTriang
                 two_sided,
             )
         }
-        Validity::Refused(why) => Bounded::Refused(why),
+        Err(why) => Err(why),
     }
 }
 
@@ -274,11 +272,11 @@ fn has_no_area(area: f32) -> bool
     !is_finite(area) || area <= 0.0
 }
 
-fn faced_record(bounds: Bounds3, normal: Vec3, phi: f32, two_sided: bool) -> Bounded
-    ensures { bounded result ≡ faced_record bounds normal phi two_sided }
+fn faced_record(bounds: Bounds3, normal: Vec3, phi: f32, two_sided: bool) -> Result<LightBounds, Refusal>
+    ensures { answered result ≡ faced_record bounds normal phi two_sided }
 {
     match normalize(normal) {
-        Direction::Unit(direction) => {
+        Ok(direction) => {
             if is_finite_vec(direction) {
                 let cone = Cone {
                     direction,
@@ -286,9 +284,9 @@ fn faced_record(bounds: Bounds3, normal: Vec3, phi: f32, two_sided: bool) -> Bou
                 };
                 return checked(LightBounds::of_lamp(bounds, cone, phi, COS_HALF_PI, two_sided));
             }
-            Bounded::Refused(Refusal::NoDirection)
+            Err(Refusal::NoDirection)
         }
-        Direction::Refused(why) => Bounded::Refused(why),
+        Err(why) => Err(why),
     }
 }
 
@@ -299,12 +297,12 @@ fn grown(
     scale: f32,
     two_sided: bool,
     t: AreaTriangleInput,
-) -> Bounded
-    ensures { bounded result ≡ triangle_record emission_max scale two_sided t then join_next (given existing) }
+) -> Result<LightBounds, Refusal>
+    ensures { answered result ≡ triangle_record emission_max scale two_sided t then join_next (given existing) }
 {
     match triangle_record(emission_max, scale, two_sided, t) {
-        Bounded::Bounds(current) => union(existing, current),
-        Bounded::Refused(why) => Bounded::Refused(why),
+        Ok(current) => union(existing, current),
+        Err(why) => Err(why),
     }
 }
 
@@ -316,10 +314,10 @@ fn union_rest(
     two_sided: bool,
     triangles: &[u32],
     n: usize,
-) -> Bounded
+) -> Result<LightBounds, Refusal>
     requires n_in_bounds { triangle_words * n ≤ length triangles.now }
     requires le_n { 1 ≤ n }
-    ensures { bounded result ≡ union_from emission_max scale two_sided triangles.now triangle_words
+    ensures { answered result ≡ union_from emission_max scale two_sided triangles.now triangle_words
         (n - 1) (given first) }
 {
     let mut result = first;
@@ -332,29 +330,29 @@ fn union_rest(
             two_sided,
             triangle_at(triangles, TRIANGLE_WORDS * k),
         ) {
-            Bounded::Bounds(record) => {
+            Ok(record) => {
                 result = record;
             }
-            Bounded::Refused(why) => {
-                return Bounded::Refused(why);
+            Err(why) => {
+                return Err(why);
             }
         }
         k += 1;
     }
-    Bounded::Bounds(result)
+    Ok(result)
 }
 
-fn group_bounds(emission_max: f32, scale: f32, two_sided: bool, triangles: &[u32]) -> Bounded
-    ensures { bounded result ≡ group_bounds emission_max scale two_sided triangles.now }
+fn group_bounds(emission_max: f32, scale: f32, two_sided: bool, triangles: &[u32]) -> Result<LightBounds, Refusal>
+    ensures { answered result ≡ group_bounds emission_max scale two_sided triangles.now }
 {
     match validate_emission(emission_max, scale) {
-        Validity::Valid => {
+        Ok(()) => {
             let n = triangles.len() / TRIANGLE_WORDS;
             if n == 0 {
-                return Bounded::Refused(Refusal::NoArea);
+                return Err(Refusal::NoArea);
             }
             match triangle_record(emission_max, scale, two_sided, triangle_at(triangles, 0)) {
-                Bounded::Bounds(first) => union_rest(
+                Ok(first) => union_rest(
                     first,
                     emission_max,
                     scale,
@@ -362,9 +360,9 @@ fn group_bounds(emission_max: f32, scale: f32, two_sided: bool, triangles: &[u32
                     triangles,
                     n,
                 ),
-                Bounded::Refused(why) => Bounded::Refused(why),
+                Err(why) => Err(why),
             }
         }
-        Validity::Refused(why) => Bounded::Refused(why),
+        Err(why) => Err(why),
     }
 }

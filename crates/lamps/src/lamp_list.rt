@@ -1,15 +1,14 @@
 // The lamp list, read lamp by lamp (specs/LampList.antt).
 ghost use Rattle.std.specs.Prelude.{◌≡◌, cond, ◌&&◌, ◌+◌, ◌≤◌, leb, eqb, length, get_or};
-ghost use Rattle.words.specs.Answers.{given, refused, count, counted};
-ghost use Rattle.lamps.specs.LampList.{first_lamp, lamp_at, step, triangles_of, handle};
+ghost use Rattle.words.specs.Answers.{given, refused, count, answered};
+ghost use Rattle.lamps.specs.LampList.{first_lamp, lamp_at, triangles_of, handle};
 ghost use Rattle.lamps.specs.LampList.{point_words, spot_words, group_words, group_end, group_fits};
 ghost use Rattle.lamps.specs.LampList.{alone as alone_of, point_at, spot_at, group_at};
 ghost use Rattle.lamps.specs.LampList.{list_side_known, lamp_list, placed_lamps};
 
 use light_bounds::vecmath::Vec3;
 use light_rows::record_words::vec_at;
-use words::answers::Counted;
-use words::floats::f32_of_word;
+use words::floats::Float;
 use words::heads::{handle_of, kind_of};
 use words::limits::{crowded, fits};
 use words::places::{wide, word_or_zero};
@@ -65,13 +64,6 @@ pub struct Reading {
     pub next: Cursor,
 }
 
-// A lamp read, or why not.
-#[derive(Drop)]
-pub enum Step {
-    Read(Reading),
-    Refused(Refusal),
-}
-
 impl Cursor {
     // The first lamp, behind the count.
     pub fn new() -> Self
@@ -81,8 +73,8 @@ impl Cursor {
     }
 
     // The lamp here, with the cursor moved past it.
-    pub fn next(self, list: &[u32]) -> Step
-        ensures { step result ≡ lamp_at list.now self.at }
+    pub fn next(self, list: &[u32]) -> Result<Reading, Refusal>
+        ensures { answered result ≡ lamp_at list.now self.at }
     {
         let at = self.at;
         let kind = kind_of(word_or_zero(list, at));
@@ -95,7 +87,7 @@ impl Cursor {
         if kind == 3 {
             return group_at(list, at);
         }
-        Step::Refused(Refusal::Ragged)
+        Err(Refusal::Ragged)
     }
 }
 
@@ -138,14 +130,14 @@ fn alone(lamp: Lamp, end: usize) -> Reading
     }
 }
 
-fn point_at(list: &[u32], at: usize) -> Step
-    ensures { step result ≡ cond (leb (at + point_words) (length list.now))
+fn point_at(list: &[u32], at: usize) -> Result<Reading, Refusal>
+    ensures { answered result ≡ cond (leb (at + point_words) (length list.now))
         (given (point_at list.now at)) (refused 1) }
 {
     if fits(list.len(), at, POINT_WORDS) {
-        return Step::Read(read_point(list, at));
+        return Ok(read_point(list, at));
     }
-    Step::Refused(Refusal::Ragged)
+    Err(Refusal::Ragged)
 }
 
 fn read_point(list: &[u32], at: usize) -> Reading
@@ -155,20 +147,20 @@ fn read_point(list: &[u32], at: usize) -> Reading
     let lamp = Lamp::Point {
         handle: handle_of(list[at]),
         world_position: vec_at(list, at + 1),
-        intensity_max: f32_of_word(list[at + 4]),
-        scale: f32_of_word(list[at + 5]),
+        intensity_max: f32::of_word(list[at + 4]),
+        scale: f32::of_word(list[at + 5]),
     };
     alone(lamp, at + POINT_WORDS)
 }
 
-fn spot_at(list: &[u32], at: usize) -> Step
-    ensures { step result ≡ cond (leb (at + spot_words) (length list.now))
+fn spot_at(list: &[u32], at: usize) -> Result<Reading, Refusal>
+    ensures { answered result ≡ cond (leb (at + spot_words) (length list.now))
         (given (spot_at list.now at)) (refused 1) }
 {
     if fits(list.len(), at, SPOT_WORDS) {
-        return Step::Read(read_spot(list, at));
+        return Ok(read_spot(list, at));
     }
-    Step::Refused(Refusal::Ragged)
+    Err(Refusal::Ragged)
 }
 
 fn read_spot(list: &[u32], at: usize) -> Reading
@@ -179,34 +171,34 @@ fn read_spot(list: &[u32], at: usize) -> Reading
         handle: handle_of(list[at]),
         world_position: vec_at(list, at + 1),
         direction: vec_at(list, at + 4),
-        intensity_max: f32_of_word(list[at + 7]),
-        scale: f32_of_word(list[at + 8]),
-        cos_theta_o: f32_of_word(list[at + 9]),
-        cos_falloff_end: f32_of_word(list[at + 10]),
+        intensity_max: f32::of_word(list[at + 7]),
+        scale: f32::of_word(list[at + 8]),
+        cos_theta_o: f32::of_word(list[at + 9]),
+        cos_falloff_end: f32::of_word(list[at + 10]),
     };
     alone(lamp, at + SPOT_WORDS)
 }
 
-fn group_at(list: &[u32], at: usize) -> Step
-    ensures { step result ≡ cond (leb (at + group_words) (length list.now) && group_fits list.now
+fn group_at(list: &[u32], at: usize) -> Result<Reading, Refusal>
+    ensures { answered result ≡ cond (leb (at + group_words) (length list.now) && group_fits list.now
         at)
         (given (group_at list.now at)) (refused 1) }
 {
     if fits(list.len(), at, GROUP_WORDS) {
         return whole_group(list, at);
     }
-    Step::Refused(Refusal::Ragged)
+    Err(Refusal::Ragged)
 }
 
-fn whole_group(list: &[u32], at: usize) -> Step
+fn whole_group(list: &[u32], at: usize) -> Result<Reading, Refusal>
     requires { at + group_words ≤ length list.now }
-    ensures { step result ≡ cond (group_fits list.now at) (given (group_at list.now at))
+    ensures { answered result ≡ cond (group_fits list.now at) (given (group_at list.now at))
         (refused 1) }
 {
     if group_fits(list, at) {
-        return Step::Read(read_group(list, at));
+        return Ok(read_group(list, at));
     }
-    Step::Refused(Refusal::Ragged)
+    Err(Refusal::Ragged)
 }
 
 // Whether a group's side is known and its triangles lie in the list. Their count may be anything up to 2^32 - 1: it is
@@ -234,8 +226,8 @@ fn read_group(list: &[u32], at: usize) -> Reading
     let triangles = at + GROUP_WORDS;
     let lamp = Lamp::AreaGroup {
         handle: handle_of(list[at]),
-        emission_max: f32_of_word(list[at + 1]),
-        scale: f32_of_word(list[at + 2]),
+        emission_max: f32::of_word(list[at + 1]),
+        scale: f32::of_word(list[at + 2]),
         two_sided: list[at + 3] == 1,
     };
     let end = triangles + TRIANGLE_WORDS * wide(list[at + 4]);
@@ -250,18 +242,18 @@ fn read_group(list: &[u32], at: usize) -> Reading
 
 // How many lamps a list has: over the limits is refusal 2, a wrong layout, kind or side 1, a handle that is not its
 // place 4. The lamps' figures are not judged.
-pub fn check_list(list: &[u32]) -> Counted
-    ensures { counted result ≡ count (lamp_list list.now) }
+pub fn check_list(list: &[u32]) -> Result<usize, Refusal>
+    ensures { answered result ≡ count (lamp_list list.now) }
 {
     if crowded(list) {
-        return Counted::Refused(Refusal::Crowded);
+        return Err(Refusal::Crowded);
     }
     check_lamps(list)
 }
 
 // As many lamps as word 0 says, then the list's end; then the handles.
-fn check_lamps(list: &[u32]) -> Counted
-    ensures { counted result ≡ count (placed_lamps list.now) }
+fn check_lamps(list: &[u32]) -> Result<usize, Refusal>
+    ensures { answered result ≡ count (placed_lamps list.now) }
 {
     let m = wide(word_or_zero(list, 0));
     let mut i: usize = 0;
@@ -269,24 +261,24 @@ fn check_lamps(list: &[u32]) -> Counted
     let mut placed = true;
     while i < m {
         match cursor.next(list) {
-            Step::Read(reading) => {
+            Ok(reading) => {
                 let lamp = reading.lamp;
                 placed = still_placed(placed, lamp_handle(lamp), i);
                 cursor = reading.next;
             }
-            Step::Refused(why) => {
-                return Counted::Refused(why);
+            Err(why) => {
+                return Err(why);
             }
         }
         i += 1;
     }
     if cursor.at == list.len() {
         if placed {
-            return Counted::Count(m);
+            return Ok(m);
         }
-        return Counted::Refused(Refusal::Misplaced);
+        return Err(Refusal::Misplaced);
     }
-    Counted::Refused(Refusal::Ragged)
+    Err(Refusal::Ragged)
 }
 
 // Whether every handle so far is its place, this one too.

@@ -8,20 +8,7 @@ use Rattle.words.specs.Answers.{Answer, given, refused}
 use Rattle.words.specs.Refusals.{number}
 use Rattle.light_bounds.specs.Vecmath.{vec, finite_vec}
 use Rattle.light_bounds.specs.declared.vecmath.Vec3.{Vec3}
-use Rattle.light_bounds.specs.declared.bounds.AllBounds.{AllBounds}
-use Rattle.light_bounds.specs.declared.bounds.AllBounds.TheVariants.{Bounds, Absent}
 use Rattle.light_bounds.specs.declared.bounds.Bounds3.{Bounds3}
-use Rattle.light_bounds.specs.declared.bounds.Validity.{Validity}
-use Rattle.light_bounds.specs.declared.bounds.Validity.TheVariants.{Valid, Refused}
-
--- what the enum `AllBounds` holds: `Option<Bounds3>`
-abbrev pub all_bounds_of : AllBounds → Option Bounds3
-all_bounds_of (Bounds b) = some b
-all_bounds_of Absent = none
-
-abbrev pub validity : Validity → Answer (Unit {0})
-validity Valid = given tt
-validity (Refused r) = refused (number r)
 
 abbrev pub finite_box : Bounds3 → Bool
 finite_box b = finite_vec b.min && finite_vec b.max

@@ -15,8 +15,6 @@ use Rattle.light_bounds.specs.Vecmath.{finite_vec, dot, minus, vec_length, norma
 use Rattle.light_bounds.specs.declared.vecmath.Vec3.{Vec3}
 use Rattle.light_bounds.specs.declared.light_bounds.LightBounds.{LightBounds}
 use Rattle.light_bounds.specs.declared.importance.Query.{Query}
-use Rattle.light_bounds.specs.declared.importance.Weight.{Weight}
-use Rattle.light_bounds.specs.declared.importance.Weight.TheVariants.{Importance, Refused}
 
 -- how a point sees a record: not at all; with the cosine of the cone's nearest direction, over a squared distance; and
 -- with the normal's factor
@@ -100,7 +98,3 @@ unfoldable pub weigh : LightBounds → Query → Answer Float
 weigh r q = importance r q
 
 -- ---- as the code has it
-
-abbrev pub weight : Weight → Answer Float
-weight (Importance x) = given x
-weight (Refused r) = refused (number r)

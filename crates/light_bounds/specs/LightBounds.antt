@@ -13,8 +13,6 @@ use Rattle.light_bounds.specs.Side.{lamp_side, either}
 use Rattle.light_bounds.specs.Vecmath.{finite_vec, dot}
 use Rattle.light_bounds.specs.declared.light_bounds.LightBounds.{LightBounds}
 use Rattle.light_bounds.specs.declared.bounds.Bounds3.{Bounds3}
-use Rattle.light_bounds.specs.declared.light_bounds.Bounded.{Bounded}
-use Rattle.light_bounds.specs.declared.light_bounds.Bounded.TheVariants.{Bounds, Refused}
 use Rattle.light_bounds.specs.declared.side.Side.{Side}
 use Rattle.light_bounds.specs.declared.vecmath.Vec3.{Vec3}
 
@@ -78,8 +76,3 @@ join a b = cond (eq a.phi zerof) b (cond (eq b.phi zerof) a (join_powered a b))
 
 unfoldable pub union : LightBounds → LightBounds → Answer LightBounds
 union a b = operand (validate a) then λ _. operand (validate b) then λ _. given (join a b)
-
--- what the enum `Bounded` answers
-abbrev pub bounded : Bounded → Answer LightBounds
-bounded (Bounds r) = given r
-bounded (Refused r) = refused (number r)

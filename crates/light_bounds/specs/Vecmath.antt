@@ -10,8 +10,6 @@ use Rattle.trig.specs.Trig.{cos, sin, asin}
 use Rattle.words.specs.Answers.{Answer, given, refused}
 use Rattle.words.specs.Refusals.{number}
 use Rattle.light_bounds.specs.declared.vecmath.Vec3.{Vec3}
-use Rattle.light_bounds.specs.declared.vecmath.Direction.{Direction}
-use Rattle.light_bounds.specs.declared.vecmath.Direction.TheVariants.{Unit, Refused}
 
 abbrev pub vec : Float → Float → Float → Vec3
 vec x y z = record { x = x; y = y; z = z }
@@ -50,10 +48,6 @@ normalize v = cond (dividing (vec_length v)) (given (scaled v (onef ⊘ vec_leng
 -- the packed file divides by the length; `light_bounds.rs` multiplies by its reciprocal
 unfoldable pub normalize_by_division : Vec3 → Answer Vec3
 normalize_by_division v = cond (dividing (vec_length v)) (given (divided v (vec_length v))) (refused 7)
-
-abbrev pub normalized : Direction → Answer Vec3
-normalized (Unit v) = given v
-normalized (Refused r) = refused (number r)
 
 unfoldable pub rotate : Vec3 → Vec3 → Float → Vec3
 rotate v axis angle =

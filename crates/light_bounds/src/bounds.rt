@@ -1,8 +1,9 @@
 // Boxes (specs/Bounds.antt).
+ghost use Rattle.words.specs.Answers.{answered};
 ghost use Rattle.std.specs.Prelude.{◌≡◌};
 ghost use Rattle.light_bounds.specs.Bounds.{box_check, finite_box, inverted};
 ghost use Rattle.light_bounds.specs.Bounds.{box_union, diagonal as diagonal_of, centroid as centroid_of};
-ghost use Rattle.light_bounds.specs.Bounds.{surface_area, least_of, greatest_of, validity};
+ghost use Rattle.light_bounds.specs.Bounds.{surface_area, least_of, greatest_of};
 
 use super::vecmath::{Vec3, is_finite_vec};
 use floats::choose::{max, min};
@@ -14,31 +15,17 @@ pub struct Bounds3 {
     pub max: Vec3,
 }
 
-// The box around the powered lamps, or its absence.
-#[derive(Drop)]
-pub enum AllBounds {
-    Bounds(Bounds3),
-    Absent,
-}
-
-// Whether a box or a record passes its check.
-#[derive(Drop)]
-pub enum Validity {
-    Valid,
-    Refused(Refusal),
-}
-
 // Every coordinate finite (5), no min above its max (6).
-pub fn check(b: Bounds3) -> Validity
-    ensures { validity result ≡ box_check b }
+pub fn check(b: Bounds3) -> Result<(), Refusal>
+    ensures { answered result ≡ box_check b }
 {
     if !is_finite_box(b) {
-        return Validity::Refused(Refusal::NotFinite);
+        return Err(Refusal::NotFinite);
     }
     if is_inverted(b) {
-        return Validity::Refused(Refusal::Inverted);
+        return Err(Refusal::Inverted);
     }
-    Validity::Valid
+    Ok(())
 }
 
 fn is_finite_box(b: Bounds3) -> bool

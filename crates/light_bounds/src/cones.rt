@@ -1,16 +1,17 @@
 // Cones of directions (specs/Cones.antt).
+ghost use Rattle.words.specs.Answers.{answered};
 ghost use Rattle.std.specs.Prelude.{◌≡◌};
 ghost use Rattle.light_bounds.specs.Bounds.{diagonal as diagonal_of};
-ghost use Rattle.light_bounds.specs.Vecmath.{vec_length, normalized};
+ghost use Rattle.light_bounds.specs.Vecmath.{vec_length};
 ghost use Rattle.light_bounds.specs.Cones.{safe_sqrt, bound_subtended_directions, union_direction_cones};
 ghost use Rattle.light_bounds.specs.Cones.{axis_or, joined, whole_sphere};
 
 use super::bounds::{Bounds3, centroid};
-use super::vecmath::{Direction, Vec3, angle_between, cross, dot, normalize, rotate, sub};
+use super::vecmath::{Vec3, angle_between, cross, dot, normalize, rotate, sub};
 use floats::choose::{clamp, max, min};
 use floats::sqrt::sqrt as root;
 use trig::{acos, cos};
-use words::floats::word_of_f32;
+use words::floats::Float;
 
 // The directions within an angle of one, by its cosine.
 #[derive(Clone, Copy)]
@@ -46,7 +47,7 @@ pub(crate) fn subtended(bounds: Bounds3, p: Vec3, diagonal_length: f32) -> f32
 pub fn union_direction_cones(a: Vec3, cos_a: f32, b: Vec3, cos_b: f32) -> Cone
     ensures { result ≡ union_direction_cones a cos_a b cos_b }
 {
-    if word_of_f32(cos_a) == 0xbf80_0000 {
+    if cos_a.word() == 0xbf80_0000 {
         return Cone {
             direction: a,
             cos_theta: cos_a,
@@ -107,12 +108,12 @@ fn everywhere() -> Cone
     }
 }
 
-fn unit_or_z(unit: Direction) -> Vec3
-    ensures { result ≡ axis_or (normalized unit) }
+fn unit_or_z(unit: Result<Vec3, Refusal>) -> Vec3
+    ensures { result ≡ axis_or (answered unit) }
 {
     match unit {
-        Direction::Unit(u) => u,
-        Direction::Refused(_) => Vec3 {
+        Ok(u) => u,
+        Err(_) => Vec3 {
             x: 0.0,
             y: 0.0,
             z: 1.0,

@@ -2,19 +2,20 @@
 // pbrt-r4's LightBounds has it. A walk weighs many records for one query, so what hangs on the query alone is worked
 // out once (`prepare`), and a root that decides nothing is not taken. In an archive `weigh_prepared` belongs into the
 // walk: the compiler lays a function that is called in one place into its caller.
+ghost use Rattle.words.specs.Answers.{answered};
 ghost use Rattle.std.specs.Prelude.{◌≡◌};
 ghost use Rattle.light_bounds.specs.Cones.{cos_sub_clamped};
 ghost use Rattle.light_bounds.specs.Importance.{importance as importance_of, checked_importance, finite_query};
 ghost use Rattle.light_bounds.specs.Importance.{geometry as geometry_of, toward as toward_of};
 ghost use Rattle.light_bounds.specs.Importance.{distance2 as distance2_of};
-ghost use Rattle.light_bounds.specs.Importance.{finish_view, normal_factor, cos_p, cos_w, sine as sine_of, weight};
+ghost use Rattle.light_bounds.specs.Importance.{finish_view, normal_factor, cos_p, cos_w, sine as sine_of};
 ghost use Rattle.light_bounds.specs.AsCoded.Views.{viewed};
 ghost use Rattle.light_bounds.specs.AsCoded.Weighing.{prepared, unit_normal, with_held, weigh_held, is_plain};
 
-use super::bounds::{Validity, centroid, diagonal};
+use super::bounds::{centroid, diagonal};
 use super::cones::{safe_sqrt, subtended};
 use super::light_bounds::{LightBounds, validate};
-use super::vecmath::{Direction, Vec3, dot, is_finite_vec, length, normalize, sub};
+use super::vecmath::{Vec3, dot, is_finite_vec, length, normalize, sub};
 use floats::choose::{abs, max};
 use words::refusals::Refusal;
 
@@ -25,17 +26,10 @@ pub struct Query {
     pub n: Vec3,
 }
 
-// How much a record weighs for a query, or why it has no weight.
-#[derive(Drop)]
-pub enum Weight {
-    Importance(f32),
-    Refused(Refusal),
-}
-
 // The importance of a record for a query: the check's refusals; 5 where the point or the normal is not finite; 7
 // where the point is at the centre of a box of some size, or the normal has no length to divide by.
-pub fn importance(record: LightBounds, query: Query) -> Weight
-    ensures { weight result ≡ importance_of «record» query }
+pub fn importance(record: LightBounds, query: Query) -> Result<f32, Refusal>
+    ensures { answered result ≡ importance_of «record» query }
 {
     weigh_prepared(record, prepare(query))
 }
@@ -82,32 +76,32 @@ fn unit_normal(n: Vec3) -> Normal
         return Normal::Nothing;
     }
     match normalize(n) {
-        Direction::Unit(unit) => Normal::Unit(unit),
-        Direction::Refused(_) => Normal::Lengthless,
+        Ok(unit) => Normal::Unit(unit),
+        Err(_) => Normal::Lengthless,
     }
 }
 
 // ---- weighing
 
 // What a walk weighs a record by.
-pub fn weigh_prepared(record: LightBounds, query: Prepared) -> Weight
-    ensures { weight result ≡ weigh_held «record» query }
+pub fn weigh_prepared(record: LightBounds, query: Prepared) -> Result<f32, Refusal>
+    ensures { answered result ≡ weigh_held «record» query }
 {
     match validate(record) {
-        Validity::Valid => weigh_valid(record, query),
-        Validity::Refused(why) => Weight::Refused(why),
+        Ok(()) => weigh_valid(record, query),
+        Err(why) => Err(why),
     }
 }
 
 // Of a record that passed its check.
-fn weigh_valid(record: LightBounds, query: Prepared) -> Weight
-    ensures { weight result
+fn weigh_valid(record: LightBounds, query: Prepared) -> Result<f32, Refusal>
+    ensures { answered result
         ≡ checked_importance «record» query.p query.is_finite (with_held query.normal) }
 {
     if query.is_finite {
         return finished(record.phi, geometry(record, query));
     }
-    Weight::Refused(Refusal::NotFinite)
+    Err(Refusal::NotFinite)
 }
 
 // How a query sees a record: `Dark` weighs nothing; `Lit` has a cosine and a squared distance, `Facing` the
@@ -121,14 +115,14 @@ enum View {
 }
 
 // The power enters here alone.
-fn finished(phi: f32, view: View) -> Weight
-    ensures { weight result ≡ finish_view phi (viewed view) }
+fn finished(phi: f32, view: View) -> Result<f32, Refusal>
+    ensures { answered result ≡ finish_view phi (viewed view) }
 {
     match view {
-        View::Dark => Weight::Importance(0.0),
-        View::Lit(p, d2) => Weight::Importance(max(phi * p / d2, 0.0)),
-        View::Facing(p, d2, i) => Weight::Importance(max(phi * p / d2 * i, 0.0)),
-        View::Refused(why) => Weight::Refused(why),
+        View::Dark => Ok(0.0),
+        View::Lit(p, d2) => Ok(max(phi * p / d2, 0.0)),
+        View::Facing(p, d2, i) => Ok(max(phi * p / d2 * i, 0.0)),
+        View::Refused(why) => Err(why),
     }
 }
 
@@ -141,8 +135,8 @@ fn geometry(record: LightBounds, query: Prepared) -> View
         return View::Dark;
     }
     match normalize(delta) {
-        Direction::Unit(wi) => toward(record, query, d2, wi),
-        Direction::Refused(why) => View::Refused(why),
+        Ok(wi) => toward(record, query, d2, wi),
+        Err(why) => View::Refused(why),
     }
 }
 

@@ -1,12 +1,12 @@
 // Bounds records (specs/LightBounds.antt): the check and the union of pbrt-r4's LightBounds, refusals in its order.
+ghost use Rattle.words.specs.Answers.{answered};
 ghost use Rattle.std.specs.Prelude.{◌≡◌};
-ghost use Rattle.light_bounds.specs.Bounds.{validity};
 ghost use Rattle.light_bounds.specs.LightBounds.{light_bounds, lamp_record, validate as validate_of, cone_check};
 ghost use Rattle.light_bounds.specs.LightBounds.{finite_cone, range_check, is_cosine};
 ghost use Rattle.light_bounds.specs.LightBounds.{are_cosines};
-ghost use Rattle.light_bounds.specs.LightBounds.{union as union_of, bounded, join as join_of};
+ghost use Rattle.light_bounds.specs.LightBounds.{union as union_of, join as join_of};
 
-use super::bounds::{Bounds3, Validity, check, union as box_union};
+use super::bounds::{Bounds3, check, union as box_union};
 use super::cones::{Cone, union_direction_cones};
 use super::side::{Side, either, lamp_side};
 use super::vecmath::{Vec3, dot, is_finite, is_finite_vec};
@@ -47,32 +47,25 @@ impl LightBounds {
     }
 }
 
-// A record, or why there is none.
-#[derive(Drop)]
-pub enum Bounded {
-    Bounds(LightBounds),
-    Refused(Refusal),
-}
-
 // The check: 5 or 6 of the box, 5 of any other value, 7 of a direction without length, 8 of a phi or a cosine out of
 // range.
-pub fn validate(record: LightBounds) -> Validity
-    ensures { validity result ≡ validate_of «record» }
+pub fn validate(record: LightBounds) -> Result<(), Refusal>
+    ensures { answered result ≡ validate_of «record» }
 {
     let boxed = check(record.bounds);
-    let Validity::Valid = boxed else {
+    let Ok(()) = boxed else {
         return boxed;
     };
     validate_cone(record)
 }
 
-fn validate_cone(record: LightBounds) -> Validity
-    ensures { validity result ≡ cone_check «record» }
+fn validate_cone(record: LightBounds) -> Result<(), Refusal>
+    ensures { answered result ≡ cone_check «record» }
 {
     if is_finite_cone(record) {
         return validate_range(record);
     }
-    Validity::Refused(Refusal::NotFinite)
+    Err(Refusal::NotFinite)
 }
 
 // Whether every value that is not the box's is finite.
@@ -84,19 +77,19 @@ fn is_finite_cone(record: LightBounds) -> bool
             && (is_finite(record.cos_theta_o) && is_finite(record.cos_theta_e)))
 }
 
-fn validate_range(record: LightBounds) -> Validity
-    ensures { validity result ≡ range_check «record» }
+fn validate_range(record: LightBounds) -> Result<(), Refusal>
+    ensures { answered result ≡ range_check «record» }
 {
     if dot(record.direction, record.direction) == 0.0 {
-        return Validity::Refused(Refusal::NoDirection);
+        return Err(Refusal::NoDirection);
     }
     if record.phi < 0.0 {
-        return Validity::Refused(Refusal::OutOfRange);
+        return Err(Refusal::OutOfRange);
     }
     if are_cosines(record.cos_theta_o, record.cos_theta_e) {
-        return Validity::Valid;
+        return Ok(());
     }
-    Validity::Refused(Refusal::OutOfRange)
+    Err(Refusal::OutOfRange)
 }
 
 // Whether a cosine lies from -1 to 1.
@@ -115,16 +108,16 @@ pub fn are_cosines(x: f32, y: f32) -> bool
 // ---- union
 
 // The record around both: an operand that fails its check is refusal 10.
-pub fn union(a: LightBounds, b: LightBounds) -> Bounded
-    ensures { bounded result ≡ union_of a b }
+pub fn union(a: LightBounds, b: LightBounds) -> Result<LightBounds, Refusal>
+    ensures { answered result ≡ union_of a b }
 {
-    let Validity::Valid = validate(a) else {
-        return Bounded::Refused(Refusal::LostUnion);
+    let Ok(()) = validate(a) else {
+        return Err(Refusal::LostUnion);
     };
-    let Validity::Valid = validate(b) else {
-        return Bounded::Refused(Refusal::LostUnion);
+    let Ok(()) = validate(b) else {
+        return Err(Refusal::LostUnion);
     };
-    Bounded::Bounds(join(a, b))
+    Ok(join(a, b))
 }
 
 // A record of no power drops out whole.

@@ -1,9 +1,10 @@
 // Vectors of three f32, by value (specs/Vecmath.antt). Sums run left to right, each step rounded once.
+ghost use Rattle.words.specs.Answers.{answered};
 ghost use Rattle.std.specs.Prelude.{◌≡◌};
 ghost use Rattle.std.specs.Float.Ieee.Scale.{finite};
 ghost use Rattle.light_bounds.specs.Vecmath.{dividing, divided, normalize_by_division, dot as dot_of};
 ghost use Rattle.light_bounds.specs.Vecmath.{cross as cross_of, plus, minus, scaled};
-ghost use Rattle.light_bounds.specs.Vecmath.{normalized, normalize as normalize_of, finite_vec};
+ghost use Rattle.light_bounds.specs.Vecmath.{normalize as normalize_of, finite_vec};
 ghost use Rattle.light_bounds.specs.Vecmath.{rotate as rotate_of, angle_between, vec_length};
 
 use floats::sqrt::sqrt as root;
@@ -91,33 +92,26 @@ pub fn length(v: Vec3) -> f32
     root(dot(v, v))
 }
 
-// A vector of length 1, or why there is none.
-#[derive(Drop)]
-pub enum Direction {
-    Unit(Vec3),
-    Refused(Refusal),
-}
-
 // By the reciprocal of the length; `normalize_by_division` is the packed file's.
-pub fn normalize(v: Vec3) -> Direction
-    ensures { normalized result ≡ normalize_of v }
+pub fn normalize(v: Vec3) -> Result<Vec3, Refusal>
+    ensures { answered result ≡ normalize_of v }
 {
     let l = length(v);
     if divides(l) {
-        return Direction::Unit(scale_vector(v, 1.0 / l));
+        return Ok(scale_vector(v, 1.0 / l));
     }
-    Direction::Refused(Refusal::NoDirection)
+    Err(Refusal::NoDirection)
 }
 
 // By the length itself, as the packed file has it.
-pub fn normalize_by_division(v: Vec3) -> Direction
-    ensures { normalized result ≡ normalize_by_division v }
+pub fn normalize_by_division(v: Vec3) -> Result<Vec3, Refusal>
+    ensures { answered result ≡ normalize_by_division v }
 {
     let l = length(v);
     if divides(l) {
-        return Direction::Unit(divide_vector(v, l));
+        return Ok(divide_vector(v, l));
     }
-    Direction::Refused(Refusal::NoDirection)
+    Err(Refusal::NoDirection)
 }
 
 // Whether a length can be divided by: it is finite and not 0.

@@ -1,10 +1,9 @@
 // `build_light_bvh` (specs/Build.antt): a bounds block in, the nodes and the handle table out. The handles of the
 // powered lamps stand in the table's words while the tree is built; the work is what their stretches are parted by.
 ghost use Rattle.std.specs.Prelude.{◌≡◌, cond, false, ◌*◌, ◌^◌, ◌≤◌, length, get_or};
-ghost use Rattle.words.specs.Answers.{given, refused, counted};
+ghost use Rattle.words.specs.Answers.{given, refused, answered, optional};
 ghost use Rattle.words.specs.AsCoded.Fill.{filled};
 ghost use Rattle.words.specs.Tray.{tray};
-ghost use Rattle.light_bounds.specs.Bounds.{validity, all_bounds_of};
 ghost use Rattle.light_rows.specs.Block.{block_handles, block_words};
 ghost use Rattle.light_rows.specs.Nodes.{node_words};
 ghost use Rattle.words.specs.AsCoded.ListParts.{laid};
@@ -13,13 +12,12 @@ ghost use Rattle.light_bvh.specs.Build.{built_bvh, nodes_reserve, work_reserve, 
 ghost use Rattle.light_bvh.specs.Build.{nodes_written, table_written, work_written, summary, built};
 ghost use Rattle.light_bvh.specs.AsCoded.Tables.{tabled_below};
 
-use super::subtree::{Subtree, build_subtree};
-use light_bounds::bounds::{AllBounds, Bounds3, Validity, union};
+use super::subtree::build_subtree;
+use light_bounds::bounds::{Bounds3, union};
 use light_bounds::light_bounds::validate;
 use light_rows::block::{check_handles, check_layout, light, light_box, light_phi};
 use light_rows::nodes::{INVALID_INDEX, NODE_WORDS, head_at};
-use words::answers::Counted;
-use words::fill::{fill_words, zero_words};
+use words::fill::{fill, zero_words};
 use words::heads::{handle_of, kind_of};
 use words::places::wide;
 use words::refusals::Refusal;
@@ -34,57 +32,57 @@ pub enum Built {
 
 // ---- the checks that leave the lent words alone: 2, 1, 4, 3
 
-fn check_reserves(m: usize, nodes: usize, table: usize, work: usize) -> Counted
+fn check_reserves(m: usize, nodes: usize, table: usize, work: usize) -> Result<usize, Refusal>
     requires { m ≤ 2 ^ 32 }
-    ensures { counted result ≡ cond (is_short m nodes table work) (refused 3) (given m) }
+    ensures { answered result ≡ cond (is_short m nodes table work) (refused 3) (given m) }
 {
     if m > 0 && nodes < NODE_WORDS * (2 * m - 1) {
-        return Counted::Refused(Refusal::ShortTray);
+        return Err(Refusal::ShortTray);
     }
     if table < m {
-        return Counted::Refused(Refusal::ShortTray);
+        return Err(Refusal::ShortTray);
     }
     if work < 2 * m {
-        return Counted::Refused(Refusal::ShortTray);
+        return Err(Refusal::ShortTray);
     }
-    Counted::Count(m)
+    Ok(m)
 }
 
 // How many rows a tree is to be built of.
-pub fn check_build(lights: usize, block: &[u32], nodes: usize, table: usize, work: usize) -> Counted
-    ensures { counted result ≡ build_check lights block.now nodes table work }
+pub fn check_build(lights: usize, block: &[u32], nodes: usize, table: usize, work: usize) -> Result<usize, Refusal>
+    ensures { answered result ≡ build_check lights block.now nodes table work }
 {
     match check_layout(block) {
-        Counted::Count(m) => {
+        Ok(m) => {
             if lights != m {
-                return Counted::Refused(Refusal::Ragged);
+                return Err(Refusal::Ragged);
             }
             match check_handles(block) {
-                Counted::Count(rows) => check_reserves(rows, nodes, table, work),
-                Counted::Refused(why) => Counted::Refused(why),
+                Ok(rows) => check_reserves(rows, nodes, table, work),
+                Err(why) => Err(why),
             }
         }
-        Counted::Refused(why) => Counted::Refused(why),
+        Err(why) => Err(why),
     }
 }
 
 // Every record's own check, in order.
-fn check_records(block: &[u32], m: usize) -> Validity
+fn check_records(block: &[u32], m: usize) -> Result<(), Refusal>
     requires { m ≤ 4096 }
-    ensures { validity result ≡ validated block.now m }
+    ensures { answered result ≡ validated block.now m }
 {
     let mut i: u32 = 0;
     while wide(i) < m {
         match validate(light(block, i)) {
-            Validity::Valid => {
+            Ok(()) => {
                 i += 1;
             }
-            Validity::Refused(why) => {
-                return Validity::Refused(why);
+            Err(why) => {
+                return Err(why);
             }
         }
     }
-    Validity::Valid
+    Ok(())
 }
 
 // ---- the powered lamps
@@ -115,11 +113,11 @@ fn gather_handles(block: &[u32], m: usize, handles: &mut [u32]) -> usize
 }
 
 // Their box.
-fn all_bounds(block: &[u32], m: usize) -> AllBounds
+fn all_bounds(block: &[u32], m: usize) -> Option<Bounds3>
     requires { m ≤ 4096 }
-    ensures { all_bounds_of result ≡ powered_box block.now m }
+    ensures { optional result ≡ powered_box block.now m }
 {
-    let mut all = AllBounds::Absent;
+    let mut all = None;
     let mut i: u32 = 0;
     while wide(i) < m {
         if is_powered(block, i) {
@@ -130,12 +128,12 @@ fn all_bounds(block: &[u32], m: usize) -> AllBounds
     all
 }
 
-fn grow(all: AllBounds, bounds: Bounds3) -> AllBounds
-    ensures { all_bounds_of result ≡ grown (all_bounds_of all) bounds }
+fn grow(all: Option<Bounds3>, bounds: Bounds3) -> Option<Bounds3>
+    ensures { optional result ≡ grown (optional all) bounds }
 {
     match all {
-        AllBounds::Bounds(before) => AllBounds::Bounds(union(before, bounds)),
-        AllBounds::Absent => AllBounds::Bounds(bounds),
+        Some(before) => Some(union(before, bounds)),
+        None => Some(bounds),
     }
 }
 
@@ -195,7 +193,7 @@ fn build_rows(
     let k = gather_handles(block, m, table);
     if k == 0 {
         zero_reserves(m, nodes, table, work);
-        fill_words(table, 0, m, INVALID_INDEX);
+        fill(table, 0, m, INVALID_INDEX);
         return Built::Nothing;
     }
     let end = NODE_WORDS * (2 * k - 1);
@@ -207,17 +205,17 @@ fn build_rows(
         0,
         INVALID_INDEX,
     ) {
-        Subtree::Built => {
+        Ok(()) => {
             zero_words(nodes, end, NODE_WORDS * (2 * m - 1));
-            fill_words(table, 0, m, INVALID_INDEX);
+            fill(table, 0, m, INVALID_INDEX);
             table_leaves(nodes, 2 * k - 1, table);
             zero_words(work, 0, 2 * m);
             match all_bounds(block, m) {
-                AllBounds::Bounds(bounds) => Built::Tree(k, bounds),
-                AllBounds::Absent => Built::Nothing,
+                Some(bounds) => Built::Tree(k, bounds),
+                None => Built::Nothing,
             }
         }
-        Subtree::Lost => {
+        Err(Refusal::LostUnion) => {
             zero_reserves(m, nodes, table, work);
             Built::Refused(Refusal::LostUnion)
         }
@@ -247,13 +245,13 @@ pub fn build_light_bvh(
         (length nodes.old) (length table.old) (length work.old)) work.old }
 {
     match check_build(lights, block, nodes.len(), table.len(), work.len()) {
-        Counted::Count(m) => match check_records(block, m) {
-            Validity::Valid => build_rows(block, m, nodes, table, work),
-            Validity::Refused(why) => {
+        Ok(m) => match check_records(block, m) {
+            Ok(()) => build_rows(block, m, nodes, table, work),
+            Err(why) => {
                 zero_reserves(m, nodes, table, work);
                 Built::Refused(why)
             }
         },
-        Counted::Refused(why) => Built::Refused(why),
+        Err(why) => Built::Refused(why),
     }
 }

@@ -1,46 +1,37 @@
 // A stretch of handles to the words of a tree (specs/Subtree.antt), over rows of a block. Recursion over the stretch,
 // whose length falls: a stretch of n handles fills exactly 2n - 1 nodes, so the right tree's place is known before the
 // left is built, and no call touches another's nodes.
+ghost use Rattle.words.specs.Answers.{answered};
 ghost use Rattle.std.specs.Prelude.{◌≡◌, List, ◌++◌, ℕ, ◌+◌, ◌*◌, ◌^◌, ◌≤◌, ◌<◌, length};
-ghost use Rattle.words.specs.Answers.{counted};
-ghost use Rattle.light_bounds.specs.LightBounds.{bounded};
 ghost use Rattle.light_rows.specs.Nodes.{node_words};
 ghost use Rattle.light_bvh.specs.Subtree.{label_of, build_subtree};
 ghost use Rattle.light_bvh.specs.AsCoded.Stretches.{subtree, done, subtree_words};
 ghost use Rattle.light_bvh.specs.AsCoded.Stretches.{split_count, split_handles, union_at, joined_words};
 
-use light_bounds::light_bounds::{Bounded, union};
+use light_bounds::light_bounds::union;
 use light_rows::block::{label, light};
 use light_rows::nodes::{NODE_WORDS, bounds_in, write_interior, write_leaf};
 use light_split::partition::partition_handles;
-use light_split::split::{Chosen, choose_split};
-use words::answers::Counted;
+use light_split::split::choose_split;
 use words::refusals::Refusal;
 
-// Whether a stretch has its tree: a union's operand can fail its check.
-#[derive(Drop)]
-pub(crate) enum Subtree {
-    Built,
-    Lost,
-}
-
 // Parts the stretch at its best cut: how many handles the left half has.
-fn part_stretch(block: &[u32], handles: &mut [u32], work: &mut [u32]) -> Counted
+fn part_stretch(block: &[u32], handles: &mut [u32], work: &mut [u32]) -> Result<usize, Refusal>
     requires { length handles.old ≤ length work.old }
-    ensures result_value { counted result ≡ split_count block.now handles.old }
+    ensures result_value { answered result ≡ split_count block.now handles.old }
     ensures handles_after { handles.new ≡ split_handles block.now handles.old }
 {
     match choose_split(block, handles) {
-        Chosen::Cut(split) => partition_handles(block, handles, work, split),
-        Chosen::Lost => Counted::Refused(Refusal::LostUnion),
+        Ok(split) => partition_handles(block, handles, work, split),
+        Err(Refusal::LostUnion) => Err(Refusal::LostUnion),
     }
 }
 
 // The same. It is called in two places, of which one is for the many stretches of two, so that the compiler leaves its
 // words out of the recursion's frame.
-fn split_stretch(block: &[u32], handles: &mut [u32], work: &mut [u32]) -> Counted
+fn split_stretch(block: &[u32], handles: &mut [u32], work: &mut [u32]) -> Result<usize, Refusal>
     requires { length handles.old ≤ length work.old }
-    ensures result_value { counted result ≡ split_count block.now handles.old }
+    ensures result_value { answered result ≡ split_count block.now handles.old }
     ensures handles_after { handles.new ≡ split_handles block.now handles.old }
 {
     if handles.len() == 2 {
@@ -50,9 +41,9 @@ fn split_stretch(block: &[u32], handles: &mut [u32], work: &mut [u32]) -> Counte
 }
 
 // The record around the trees at nodes 1 and `right`, read back from their nodes.
-fn union_children(nodes: &[u32], right: usize) -> Bounded
+fn union_children(nodes: &[u32], right: usize) -> Result<LightBounds, Refusal>
     requires { right < 2 ^ 30 }
-    ensures { bounded result ≡ union_at nodes.now right }
+    ensures { answered result ≡ union_at nodes.now right }
 {
     let left_bounds = bounds_in(nodes, 1);
     let right_bounds = bounds_in(nodes, right as u32);
@@ -61,18 +52,18 @@ fn union_children(nodes: &[u32], right: usize) -> Bounded
 
 // The node over two trees whose words stand behind it, the right one at node `right`: the record around both records,
 // read back from their nodes.
-fn join_children(nodes: &mut [u32], right: usize, at: u32, parent: u32) -> Subtree
+fn join_children(nodes: &mut [u32], right: usize, at: u32, parent: u32) -> Result<(), Refusal>
     requires { at + right < 2 ^ 30 }
     ensures result_value { subtree result ≡ done (union_at nodes.old right) }
     ensures nodes_after { nodes.new ≡
         joined_words at parent right nodes.old (union_at nodes.old right) }
 {
     match union_children(nodes, right) {
-        Bounded::Bounds(bounds) => {
+        Ok(bounds) => {
             write_interior(nodes, 0, at + 1, at + right as u32, parent, bounds);
-            Subtree::Built
+            Ok(())
         }
-        Bounded::Refused(_) => Subtree::Lost,
+        Err(_) => Err(Refusal::LostUnion),
     }
 }
 
@@ -85,7 +76,7 @@ pub(crate) fn build_subtree(
     nodes: &mut [u32],
     at: u32,
     parent: u32,
-) -> Subtree
+) -> Result<(), Refusal>
     requires in_bounds { 1 ≤ length handles.old }
     requires handles_in_bounds { length handles.old ≤ length work.old }
     requires node_words_len { length nodes.old + node_words ≡ node_words * (2 * length handles.old) }
@@ -105,10 +96,10 @@ pub(crate) fn build_subtree(
             parent,
             light(block, handles[0]),
         );
-        return Subtree::Built;
+        return Ok(());
     }
     match split_stretch(block, handles, work) {
-        Counted::Count(left) => {
+        Ok(left) => {
             match build_subtree(
                 block,
                 &mut handles[0..left],
@@ -117,7 +108,7 @@ pub(crate) fn build_subtree(
                 at + 1,
                 at,
             ) {
-                Subtree::Built => match build_subtree(
+                Ok(()) => match build_subtree(
                     block,
                     &mut handles[left..n],
                     &mut work[0..n - left],
@@ -125,12 +116,12 @@ pub(crate) fn build_subtree(
                     at + 2 * left as u32,
                     at,
                 ) {
-                    Subtree::Built => join_children(nodes, 2 * left, at, parent),
-                    Subtree::Lost => Subtree::Lost,
+                    Ok(()) => join_children(nodes, 2 * left, at, parent),
+                    Err(Refusal::LostUnion) => Err(Refusal::LostUnion),
                 },
-                Subtree::Lost => Subtree::Lost,
+                Err(Refusal::LostUnion) => Err(Refusal::LostUnion),
             }
         }
-        Counted::Refused(_) => Subtree::Lost,
+        Err(_) => Err(Refusal::LostUnion),
     }
 }

@@ -1,21 +1,20 @@
-// The light tree for C and Rust, as `include/light_tree.h` tells it: a block from a lamp list, build, draw, chance by
+// The light tree for C and Rust, as `include/light_tree.h` tells it: a block from a lamp list, build, draw, answered by
 // name, packing, the power alias table, and the library's version. Each but the last is its function with numbers and
-// slices for arguments and a number for its answer, and promises what that promises. Draw, chance and packing read and
+// slices for arguments and a number for its answer, and promises what that promises. Draw, answered and packing read and
 // write a tree as bytes, little-endian; the others take words. `light_exports` exports them.
 #![tactic(auto)]
 
 ghost use Rattle.std.specs.Prelude.{◌≡◌, List, [], ◌∷◌, ℕ, ◌*◌, ◌^◌, ◌≤◌, ◌<◌, get_or, length};
 ghost use Rattle.std.proofs.Math.Option.{some};
 ghost use Rattle.std.proofs.lemmas.List.Edits.{sets};
-ghost use Rattle.words.specs.Answers.{code, refused};
+ghost use Rattle.words.specs.Answers.{code, refused, answered, optional};
 ghost use Rattle.words.specs.Refusals.{number};
 ghost use Rattle.words.specs.Tray.{tray};
 ghost use Rattle.light_rows.specs.Block.{block_words, pack_exhaustive_bounds};
 ghost use Rattle.lamps.specs.BuildBounds.{build_light_bounds};
-ghost use Rattle.light_bounds.specs.Bounds.{all_bounds_of};
 ghost use Rattle.light_bounds.specs.Vecmath.{vec};
 ghost use Rattle.light_bvh.specs.Build.{nodes_written, table_written, work_written, nodes_reserve, work_reserve};
-ghost use Rattle.light_sampler.specs.Sampler.{sample, pmf, drawn, chance};
+ghost use Rattle.light_sampler.specs.Sampler.{sample, pmf, drawn};
 ghost use Rattle.packed_bvh.specs.Packed.{pack_light_bvh, packed, packed_bytes, bytes_reserve, words_packed};
 ghost use Rattle.alias_table.specs.AliasTable.{Bin, build_power_alias_table, bin_words};
 ghost use Rattle.light_c.specs.Codes.{answer_reserve, box_words, summary_list, build_answered};
@@ -25,16 +24,16 @@ ghost use Rattle.light_c.specs.Version.{library_version};
 
 use alias_table::build_power_alias_table;
 use lamps::build_bounds::build_light_bounds;
-use light_bounds::bounds::{AllBounds, Bounds3};
+use light_bounds::bounds::Bounds3;
 use light_bounds::importance::Query;
 use light_bounds::vecmath::Vec3;
 use light_bvh::build::{Built, build_light_bvh, check_build};
-use light_sampler::pmf::{Chance, bvh_light_sampler_pmf};
+use light_sampler::pmf::bvh_light_sampler_pmf;
 use light_sampler::sample::{Drawn, bvh_light_sampler_sample};
 use packed_bvh::pack::{Packed, pack_light_bvh};
-use words::answers::{Counted, counted_code};
+use words::answers::code;
 use words::fill::zero_words;
-use words::floats::word_of_f32;
+use words::floats::Float;
 use words::refusals::{Refusal, refusal_number};
 
 // ---- the lamp list to the bounds block
@@ -45,7 +44,7 @@ pub fn light_bounds_block(list: &[u32], block: &mut [u32]) -> u32
     ensures block_after { block.new ≡ tray pack_exhaustive_bounds (block_words (get_or list.now 0 0))
         (build_light_bounds list.now (length block.old)) block.old }
 {
-    counted_code(build_light_bounds(list, block))
+    code(build_light_bounds(list, block))
 }
 
 // ---- the tree
@@ -59,12 +58,12 @@ fn write_summary(answer: &mut [u32], k: usize, bounds: Bounds3)
     ensures { answer.new ≡ sets answer.old 0 (k ∷ box_words (some bounds)) }
 {
     answer[0] = k as u32;
-    answer[1] = word_of_f32(bounds.min.x);
-    answer[2] = word_of_f32(bounds.min.y);
-    answer[3] = word_of_f32(bounds.min.z);
-    answer[4] = word_of_f32(bounds.max.x);
-    answer[5] = word_of_f32(bounds.max.y);
-    answer[6] = word_of_f32(bounds.max.z);
+    answer[1] = bounds.min.x.word();
+    answer[2] = bounds.min.y.word();
+    answer[3] = bounds.min.z.word();
+    answer[4] = bounds.max.x.word();
+    answer[5] = bounds.max.y.word();
+    answer[6] = bounds.max.z.word();
 }
 
 // The refusal's number; one after 4 zeroes the answer.
@@ -73,7 +72,7 @@ fn refuse_build(answer: &mut [u32], why: Refusal) -> u32
     ensures value { result ≡ number why }
     ensures answer_after { answer.new ≡ tray summary_list answer_reserve (refused (number why)) answer.old }
 {
-    let n = refusal_number(why);
+    let n = why.number();
     if n > 4 {
         zero_words(answer, 0, ANSWER_WORDS);
     }
@@ -85,8 +84,8 @@ fn refuse_short(lights: usize, block: &[u32], nodes: usize, table: usize, work: 
     ensures { refused result ≡ short_answer lights block.now nodes table work }
 {
     match check_build(lights, block, nodes, table, work) {
-        Counted::Count(_) => refusal_number(Refusal::ShortTray),
-        Counted::Refused(why) => refusal_number(why),
+        Ok(_) => Refusal::ShortTray.number(),
+        Err(why) => why.number(),
     }
 }
 
@@ -152,13 +151,13 @@ fn draw_code(answer: Drawn) -> u64
     ensures { result ≡ draw_code (drawn answer) }
 {
     match answer {
-        Drawn::Light(handle, p) => handle as u64 * 0x1_0000_0000 + word_of_f32(p) as u64,
+        Drawn::Light(handle, p) => handle as u64 * 0x1_0000_0000 + p.word() as u64,
         Drawn::Nothing => 0x4000_0000_0000_0000,
-        Drawn::Refused(why) => 0x8000_0000_0000_0000 + refusal_number(why) as u64,
+        Drawn::Refused(why) => 0x8000_0000_0000_0000 + why.number() as u64,
     }
 }
 
-// The light above its chance's bits; 2^62 where none is drawn, 2^63 and the refusal's number.
+// The light above its answered's bits; 2^62 where none is drawn, 2^63 and the refusal's number.
 pub fn light_sample(
     nodes: &[u8],
     px: f32,
@@ -174,16 +173,16 @@ pub fn light_sample(
     draw_code(bvh_light_sampler_sample(nodes, query_at(px, py, pz, nx, ny, nz), u))
 }
 
-fn chance_code(answer: Chance) -> u64
-    ensures { result ≡ value_code (chance answer) }
+fn chance_code(answer: Result<f32, Refusal>) -> u64
+    ensures { result ≡ value_code (answered answer) }
 {
     match answer {
-        Chance::Pmf(p) => word_of_f32(p) as u64,
-        Chance::Refused(why) => 0x1_0000_0000 + refusal_number(why) as u64,
+        Ok(p) => p.word() as u64,
+        Err(why) => 0x1_0000_0000 + why.number() as u64,
     }
 }
 
-// The chance's bits, or 2^32 and the refusal's number.
+// The answered's bits, or 2^32 and the refusal's number.
 pub fn light_pmf(
     nodes: &[u8],
     table: &[u8],
@@ -203,13 +202,13 @@ pub fn light_pmf(
 // ---- the packed tree
 
 // The box of two corners, or its absence.
-fn box_of(present: u32, min: Vec3, max: Vec3) -> AllBounds
-    ensures { all_bounds_of result ≡ box_of present min.x min.y min.z max.x max.y max.z }
+fn box_of(present: u32, min: Vec3, max: Vec3) -> Option<Bounds3>
+    ensures { optional result ≡ box_of present min.x min.y min.z max.x max.y max.z }
 {
     if present == 0 {
-        return AllBounds::Absent;
+        return None;
     }
-    AllBounds::Bounds(Bounds3 { min, max })
+    Some(Bounds3 { min, max })
 }
 
 fn packed_code(answer: Packed) -> u64
@@ -218,7 +217,7 @@ fn packed_code(answer: Packed) -> u64
     match answer {
         Packed::Words(n) => n as u64,
         Packed::Nothing => 0x1_0000_0000,
-        Packed::Refused(why) => 0x2_0000_0000 + refusal_number(why) as u64,
+        Packed::Refused(why) => 0x2_0000_0000 + why.number() as u64,
     }
 }
 
@@ -262,7 +261,7 @@ pub fn light_alias_table(weights: &[u32], bins: &mut [u32], work: &mut [u32]) ->
         (build_power_alias_table weights.now (length bins.old) (length work.old))
         work.old }
 {
-    counted_code(build_power_alias_table(weights, bins, work))
+    code(build_power_alias_table(weights, bins, work))
 }
 
 // ---- the version

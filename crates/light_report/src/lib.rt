@@ -6,8 +6,8 @@
 
 mod lines;
 
+ghost use Rattle.words.specs.Answers.{answered};
 ghost use Rattle.std.specs.Prelude.{◌≡◌, ◌+◌, ◌*◌, ◌/◌, ◌%◌, ◌≤◌, length, get_or, take};
-ghost use Rattle.words.specs.Answers.{counted};
 ghost use Rattle.words.specs.LittleEndian.{words_of};
 ghost use Rattle.words.specs.Tray.{tray};
 ghost use Rattle.light_bvh.specs.Build.{summary, nodes_reserve, nodes_written, table_written};
@@ -21,7 +21,6 @@ use light_rows::block::EXHAUSTIVE_BOUNDS_WORDS;
 use light_rows::nodes::NODE_WORDS;
 use lines::put_lines;
 use text::{put_refused, put_text, put_words};
-use words::answers::Counted;
 use words::little_endian::{word_at, words_of_bytes};
 use words::places::wide;
 use words::refusals::Refusal;
@@ -51,20 +50,20 @@ fn front_bytes(head: &[u8]) -> usize
 }
 
 // How many lamps the block has.
-fn block_lamps(input: &[u8]) -> Counted
-    ensures { counted result ≡ block_lamps input.now }
+fn block_lamps(input: &[u8]) -> Result<usize, Refusal>
+    ensures { answered result ≡ block_lamps input.now }
 {
     if input.len() < 4 {
-        return Counted::Refused(Refusal::Ragged);
+        return Err(Refusal::Ragged);
     }
     let lamps = wide(word_at(input, 0));
     if REPORT_LAMPS < lamps {
-        return Counted::Refused(Refusal::Crowded);
+        return Err(Refusal::Crowded);
     }
     if input.len() < 4 * (1 + EXHAUSTIVE_BOUNDS_WORDS * lamps) {
-        return Counted::Refused(Refusal::Ragged);
+        return Err(Refusal::Ragged);
     }
-    Counted::Count(lamps)
+    Ok(lamps)
 }
 
 // The words of bytes, to the front of the slice.
@@ -82,18 +81,18 @@ fn build_tree(
     nodes: &mut [u32],
     table: &mut [u32],
     work: &mut [u32],
-) -> Counted
+) -> Result<usize, Refusal>
     requires { (length nodes.old ≡ 16368) × (length table.old ≡ 512) × (length work.old ≡ 1024) }
-    ensures result_value { counted result ≡ powered (summary (tree_of lamps block.now)) }
+    ensures result_value { answered result ≡ powered (summary (tree_of lamps block.now)) }
     ensures nodes_after { nodes.new ≡ tray nodes_written (nodes_reserve (get_or block.now 0 0))
         (tree_of lamps block.now) nodes.old }
     ensures table_after { table.new ≡ tray table_written (get_or block.now 0 0)
         (tree_of lamps block.now) table.old }
 {
     match build_light_bvh(lamps, block, nodes, table, work) {
-        Built::Tree(k, _) => Counted::Count(k),
-        Built::Nothing => Counted::Count(0),
-        Built::Refused(why) => Counted::Refused(why),
+        Built::Tree(k, _) => Ok(k),
+        Built::Nothing => Ok(0),
+        Built::Refused(why) => Err(why),
     }
 }
 
@@ -105,10 +104,10 @@ fn make_tree(
     nodes: &mut [u32],
     table: &mut [u32],
     work: &mut [u32],
-) -> Counted
+) -> Result<usize, Refusal>
     requires lamps_bound { (lamps ≤ 512) × (block_bytes lamps ≤ length input.now) × (7169 ≤ length block.old) }
     requires nodes_len { (length nodes.old ≡ 16368) × (length table.old ≡ 512) × (length work.old ≡ 1024) }
-    ensures result_value { counted result
+    ensures result_value { answered result
         ≡ powered (summary (tree_of lamps (words_of (take (block_bytes lamps) input.now)))) }
     ensures nodes_after { nodes.new
         ≡ tray nodes_written (nodes_reserve (get_or (words_of (take (block_bytes lamps) input.now)) 0 0))
@@ -140,11 +139,11 @@ fn take_tree(
         (report_tree input.now) table.old }
 {
     match block_lamps(input) {
-        Counted::Count(lamps) => match make_tree(lamps, input, block, nodes, table, work) {
-            Counted::Count(k) => Taken::Tree(lamps, k),
-            Counted::Refused(why) => Taken::Refused(why),
+        Ok(lamps) => match make_tree(lamps, input, block, nodes, table, work) {
+            Ok(k) => Taken::Tree(lamps, k),
+            Err(why) => Taken::Refused(why),
         },
-        Counted::Refused(why) => Taken::Refused(why),
+        Err(why) => Taken::Refused(why),
     }
 }
 

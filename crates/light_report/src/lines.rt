@@ -9,10 +9,10 @@ ghost use Rattle.light_report.specs.Lines.{line, line_bytes, chance_bytes, group
 ghost use Rattle.light_report.specs.Lines.{group_line, report_lines};
 
 use light_rows::query_words::{QUERY_WORDS, float_at, query_of_bytes};
-use light_sampler::pmf::{Chance, bvh_light_sampler_pmf};
+use light_sampler::pmf::bvh_light_sampler_pmf;
 use light_sampler::sample::{Drawn, bvh_light_sampler_sample};
 use text::{put_decimal, put_hex, put_refused, put_text};
-use words::floats::word_of_f32;
+use words::floats::Float;
 use words::refusals::Refusal;
 
 // What a line shows: a lamp with its chance as drawn and its chance by name, that there is none, or why not.
@@ -35,8 +35,8 @@ fn draw_group(nodes: &[u8], table: &[u8], group: &[u8]) -> Line
     let query = query_of_bytes(group);
     match bvh_light_sampler_sample(nodes, query, float_at(group, QUERY_WORDS)) {
         Drawn::Light(handle, drawn) => match bvh_light_sampler_pmf(nodes, table, query, handle) {
-            Chance::Pmf(named) => Line::Lamp(handle, drawn, named),
-            Chance::Refused(why) => Line::Refused(why),
+            Ok(named) => Line::Lamp(handle, drawn, named),
+            Err(why) => Line::Refused(why),
         },
         Drawn::Nothing => Line::Nothing,
         Drawn::Refused(why) => Line::Refused(why),
@@ -53,7 +53,7 @@ fn put_chance(out: &mut [u8], at: usize, x: f32) -> usize
 {
     out[at] = b' ';
     let digits_at = at + 1;
-    digits_at + put_hex(out, digits_at, word_of_f32(x))
+    digits_at + put_hex(out, digits_at, x.word())
 }
 
 fn put_lamp(out: &mut [u8], at: usize, handle: u32, drawn: f32, named: f32) -> usize

@@ -10,8 +10,6 @@ use Rattle.light_bounds.specs.Side.{side_known, side_of, side_word}
 use Rattle.light_bounds.specs.Vecmath.{vec}
 use Rattle.light_bounds.specs.declared.bounds.Bounds3.{Bounds3}
 use Rattle.light_bounds.specs.declared.light_bounds.LightBounds.{LightBounds}
-use Rattle.light_rows.specs.declared.record_words.Found.{Found}
-use Rattle.light_rows.specs.declared.record_words.Found.TheVariants.{Record, Nothing}
 use Rattle.light_bounds.specs.declared.vecmath.Vec3.{Vec3}
 
 -- `RECORD_WORDS`

@@ -2,20 +2,17 @@
 // count, then rows of a handle and a record. Where the words of a row stand is said here alone.
 ghost use Rattle.std.specs.Prelude.{◌≡◌, cond, ◌+◌, ◌≤◌, length, get_or};
 ghost use Rattle.std.proofs.lemmas.List.Edits.{sets};
-ghost use Rattle.words.specs.Answers.{given, refused, counted};
+ghost use Rattle.words.specs.Answers.{given, refused, answered};
 ghost use Rattle.words.specs.Rows.{below};
 ghost use Rattle.light_rows.specs.RecordWords.{read_record};
 ghost use Rattle.light_rows.specs.Block.{block_words, bounds_words, bounds_row};
 ghost use Rattle.light_rows.specs.AsCoded.BlockRow.{row_written};
 ghost use Rattle.light_rows.specs.Block.{handle_place, record_place, side_at, block_layout, block_handles};
 
-use super::record_words::{
-    RECORD_WORDS, SIDE_PLACE, box_at, phi_at, record_or_zeros, write_record,
-};
+use super::record_words::{RECORD_WORDS, SIDE_PLACE, box_at, phi_at, record_or_zeros, write_record};
 use light_bounds::bounds::Bounds3;
 use light_bounds::light_bounds::LightBounds;
 use light_bounds::side::is_side;
-use words::answers::Counted;
 use words::limits::{crowded, fits};
 use words::places::{wide, word_or_zero};
 use words::refusals::Refusal;
@@ -88,37 +85,37 @@ fn put_row(block: &mut [u32], row: u32, record: LightBounds)
 // ---- the block's checks; its records are not judged
 
 // Over the limits is refusal 2, a wrong length or an unknown side 1: how many rows there are.
-pub fn check_layout(block: &[u32]) -> Counted
-    ensures { counted result ≡ block_layout block.now }
+pub fn check_layout(block: &[u32]) -> Result<usize, Refusal>
+    ensures { answered result ≡ block_layout block.now }
 {
     if crowded(block) {
-        return Counted::Refused(Refusal::Crowded);
+        return Err(Refusal::Crowded);
     }
     let m = word_or_zero(block, 0);
     if block.len() == block_words(m) {
         return check_sides(block, m);
     }
-    Counted::Refused(Refusal::Ragged)
+    Err(Refusal::Ragged)
 }
 
-fn check_sides(block: &[u32], m: u32) -> Counted
+fn check_sides(block: &[u32], m: u32) -> Result<usize, Refusal>
     requires { length block.now ≡ block_words m }
-    ensures { counted result ≡ cond (below (side_at block.now) m) (given m) (refused 1) }
+    ensures { answered result ≡ cond (below (side_at block.now) m) (given m) (refused 1) }
 {
     let mut i: u32 = 0;
     while i < m {
         if is_side(block[record_place(i) + SIDE_PLACE]) {
             i += 1;
         } else {
-            return Counted::Refused(Refusal::Ragged);
+            return Err(Refusal::Ragged);
         }
     }
-    Counted::Count(wide(m))
+    Ok(wide(m))
 }
 
 // A handle that is not its place is refusal 4; words past the end are read as 0.
-pub fn check_handles(block: &[u32]) -> Counted
-    ensures { counted result ≡ block_handles block.now }
+pub fn check_handles(block: &[u32]) -> Result<usize, Refusal>
+    ensures { answered result ≡ block_handles block.now }
 {
     let m = word_or_zero(block, 0);
     let mut i: u32 = 0;
@@ -126,8 +123,8 @@ pub fn check_handles(block: &[u32]) -> Counted
         if label(block, i) == i {
             i += 1;
         } else {
-            return Counted::Refused(Refusal::Misplaced);
+            return Err(Refusal::Misplaced);
         }
     }
-    Counted::Count(wide(m))
+    Ok(wide(m))
 }

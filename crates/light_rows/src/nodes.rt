@@ -1,19 +1,18 @@
 // A node as sixteen words (specs/Nodes.antt): head, right child, parent, record. Where the words of a node stand is
 // said here alone.
+ghost use Rattle.words.specs.Answers.{answered};
 ghost use Rattle.std.specs.Prelude.{◌≡◌, cond, ◌∷◌, ◌*◌, ◌+◌, ◌≤◌, length, get_or};
 ghost use Rattle.std.proofs.lemmas.List.Edits.{sets};
-ghost use Rattle.words.specs.Answers.{counted};
 ghost use Rattle.words.specs.Heads.{handle_of};
 ghost use Rattle.words.specs.LittleEndian.{words_of};
-ghost use Rattle.light_rows.specs.RecordWords.{found, read_record, record_list};
+ghost use Rattle.light_rows.specs.RecordWords.{read_record, record_list};
 ghost use Rattle.light_rows.specs.Nodes.{leaf, interior, node, node_count, node_of, node_at, bounds_at, node_words};
 ghost use Rattle.light_rows.specs.Nodes.{node_place, bounds_place};
 ghost use Rattle.light_rows.specs.AsCoded.NodeRow.{node_fits, node_written};
 ghost use Rattle.light_rows.specs.AsCoded.NodeRow.{row_fits};
 
-use super::record_words::{Found, RECORD_WORDS, read_record_bytes, record_or_zeros, write_record};
+use super::record_words::{RECORD_WORDS, read_record_bytes, record_or_zeros, write_record};
 use light_bounds::light_bounds::LightBounds;
-use words::answers::Counted;
 use words::heads::{handle_of, kind_of};
 use words::little_endian::word_at;
 use words::places::{wide, word_or_zero};
@@ -154,17 +153,17 @@ pub fn bounds_in(nodes: &[u32], place: u32) -> LightBounds
 // ---- reading, from little-endian bytes
 
 // How many nodes there are: over 8,191 are refusal 2, a part of a node is 1.
-pub fn node_count(nodes: &[u8]) -> Counted
-    ensures { counted result ≡ node_count nodes.now }
+pub fn node_count(nodes: &[u8]) -> Result<usize, Refusal>
+    ensures { answered result ≡ node_count nodes.now }
 {
     let count = nodes.len() / NODE_BYTES;
     if MAX_NODES < count {
-        return Counted::Refused(Refusal::Crowded);
+        return Err(Refusal::Crowded);
     }
     if nodes.len() % NODE_BYTES == 0 {
-        return Counted::Count(count);
+        return Ok(count);
     }
-    Counted::Refused(Refusal::Ragged)
+    Err(Refusal::Ragged)
 }
 
 fn node_of(head: u32, right_child: u32, parent: u32) -> Node
@@ -196,11 +195,11 @@ pub fn node_at(nodes: &[u8], place: usize) -> Node
 }
 
 // The record of the node at a place; `Nothing` is refusal 12, past the end or of an unknown side.
-pub fn bounds_at(nodes: &[u8], place: usize) -> Found
-    ensures { found 12 result ≡ bounds_at (words_of nodes.now) place }
+pub fn bounds_at(nodes: &[u8], place: usize) -> Result<LightBounds, Refusal>
+    ensures { answered result ≡ bounds_at (words_of nodes.now) place }
 {
     if place < nodes.len() / 4 / NODE_WORDS {
         return read_record_bytes(nodes, NODE_WORDS * place + BOUNDS_PLACE);
     }
-    Found::Nothing
+    Err(why)
 }

@@ -7,7 +7,7 @@ ghost use Rattle.light_rows.specs.QueryWords.{query_of};
 use super::record_words::vec_at;
 use light_bounds::importance::Query;
 use light_bounds::vecmath::Vec3;
-use words::floats::f32_of_word;
+use words::floats::Float;
 use words::little_endian::word_at;
 
 // The words of a query.
@@ -43,5 +43,5 @@ pub fn query_of_bytes(bytes: &[u8]) -> Query
 pub fn float_at(bytes: &[u8], place: usize) -> f32
     ensures { result ≡ single (get_or (words_of bytes.now) place 0) }
 {
-    f32_of_word(word_at(bytes, place))
+    f32::of_word(word_at(bytes, place))
 }

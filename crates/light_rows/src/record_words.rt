@@ -1,12 +1,13 @@
 // Records as words (specs/RecordWords.antt): box min and max, direction, phi, the two cosines, side. Where a record's
 // words stand is said here alone. They are fetched by name, from words or from little-endian bytes
 // (specs/AsCoded/RecordRow.antt), and one decoder makes the record of them.
+ghost use Rattle.words.specs.Answers.{answered};
 ghost use Rattle.std.specs.Prelude.{◌≡◌, ℕ, ◌+◌, ◌/◌, ◌≤◌, get_or, length};
 ghost use Rattle.std.proofs.lemmas.List.Edits.{sets};
 ghost use Rattle.ieee.specs.Single.{single};
 ghost use Rattle.words.specs.LittleEndian.{words_of};
 ghost use Rattle.light_rows.specs.AsCoded.RecordRow.{triple_at, row_at, vec_of, record_of, judged_row};
-ghost use Rattle.light_rows.specs.RecordWords.{record_words, phi_place, read_record, record_at, found, vec_at, box_at};
+ghost use Rattle.light_rows.specs.RecordWords.{record_words, phi_place, read_record, record_at, vec_at, box_at};
 ghost use Rattle.light_rows.specs.RecordWords.{vec_words, rest_words, record_list};
 ghost use Rattle.light_rows.specs.AsCoded.RecordRow.{written_at};
 
@@ -15,7 +16,7 @@ use light_bounds::cones::Cone;
 use light_bounds::light_bounds::LightBounds;
 use light_bounds::side::{is_side, side_of, side_word};
 use light_bounds::vecmath::Vec3;
-use words::floats::{f32_of_word, word_of_f32};
+use words::floats::Float;
 use words::limits::fits;
 use words::little_endian::word_at;
 use words::places::word_or_zero;
@@ -37,13 +38,6 @@ const COS_THETA_O_PLACE: usize = 10;
 const COS_THETA_E_PLACE: usize = 11;
 
 pub const SIDE_PLACE: usize = 12;
-
-// What stands at a place: a record, or none, where there are too few words or the side is unknown.
-#[derive(Drop)]
-pub enum Found {
-    Record(LightBounds),
-    Nothing,
-}
 
 // A vector's words.
 #[derive(Clone, Copy)]
@@ -140,9 +134,9 @@ fn vec_of(row: Triple) -> Vec3
     ensures { result ≡ vec_of row }
 {
     Vec3 {
-        x: f32_of_word(row.x),
-        y: f32_of_word(row.y),
-        z: f32_of_word(row.z),
+        x: f32::of_word(row.x),
+        y: f32::of_word(row.y),
+        z: f32::of_word(row.z),
     }
 }
 
@@ -153,25 +147,25 @@ fn record_of(row: Row) -> LightBounds
     let max = vec_of(row.max);
     let cone = Cone {
         direction: vec_of(row.direction),
-        cos_theta: f32_of_word(row.cos_theta_o),
+        cos_theta: f32::of_word(row.cos_theta_o),
     };
     LightBounds::new(
         Bounds3 { min, max },
         cone,
-        f32_of_word(row.phi),
-        f32_of_word(row.cos_theta_e),
+        f32::of_word(row.phi),
+        f32::of_word(row.cos_theta_e),
         side_of(row.side),
     )
 }
 
 // The side is judged; an unknown one is the refusal of whoever reads.
-fn judged(row: Row) -> Found
+fn judged(row: Row) -> Result<LightBounds, Refusal>
     ensures { (n : ℕ) → found n result ≡ judged_row n row }
 {
     if is_side(row.side) {
-        return Found::Record(record_of(row));
+        return Ok(record_of(row));
     }
-    Found::Nothing
+    Err(why)
 }
 
 // ---- reading
@@ -202,7 +196,7 @@ pub fn phi_at(words: &[u32], at: usize) -> f32
     if words.len() <= at {
         return 0.0;
     }
-    f32_of_word(word_or_zero(words, at + PHI_PLACE))
+    f32::of_word(word_or_zero(words, at + PHI_PLACE))
 }
 
 // The record at a place, words past the end as 0, whatever its side word; any but 1 is one-sided.
@@ -213,25 +207,25 @@ pub fn record_or_zeros(words: &[u32], at: usize) -> LightBounds
 }
 
 // The record at a place of a slice of words, of a list or a block: none is refusal 1.
-pub fn read_record(words: &[u32], at: usize) -> Found
-    ensures { found 1 result ≡ record_at 1 words.now at }
+pub fn read_record(words: &[u32], at: usize) -> Result<LightBounds, Refusal>
+    ensures { answered result ≡ record_at 1 words.now at }
 {
     if fits(words.len(), at, RECORD_WORDS) {
         return judged(row_at(words, at));
     }
-    Found::Nothing
+    Err(why)
 }
 
 // The record at a place of the little-endian bytes of a tree: none is refusal 12. It is fetched from its own bytes: of a
 // part of known length no word is tested.
-pub fn read_record_bytes(bytes: &[u8], at: usize) -> Found
-    ensures { found 12 result ≡ record_at 12 (words_of bytes.now) at }
+pub fn read_record_bytes(bytes: &[u8], at: usize) -> Result<LightBounds, Refusal>
+    ensures { answered result ≡ record_at 12 (words_of bytes.now) at }
 {
     if fits(bytes.len() / 4, at, RECORD_WORDS) {
         let from = 4 * at;
         return judged(row_in(&bytes[from..from + RECORD_BYTES], 0));
     }
-    Found::Nothing
+    Err(why)
 }
 
 // ---- writing
@@ -240,9 +234,9 @@ fn write_vec(words: &mut [u32], at: usize, v: Vec3)
     requires { at + 3 ≤ length words.old }
     ensures { words.new ≡ sets words.old at (vec_words v) }
 {
-    words[at] = word_of_f32(v.x);
-    words[at + 1] = word_of_f32(v.y);
-    words[at + 2] = word_of_f32(v.z);
+    words[at] = v.x.word();
+    words[at + 1] = v.y.word();
+    words[at + 2] = v.z.word();
 }
 
 // The four words behind the vectors.
@@ -250,9 +244,9 @@ fn write_rest(words: &mut [u32], at: usize, record: LightBounds)
     requires { at + 4 ≤ length words.old }
     ensures { words.new ≡ sets words.old at (rest_words «record») }
 {
-    words[at] = word_of_f32(record.phi);
-    words[at + 1] = word_of_f32(record.cos_theta_o);
-    words[at + 2] = word_of_f32(record.cos_theta_e);
+    words[at] = record.phi.word();
+    words[at + 1] = record.cos_theta_o.word();
+    words[at + 2] = record.cos_theta_e.word();
     words[at + 3] = side_word(record.side);
 }
 

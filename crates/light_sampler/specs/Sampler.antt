@@ -1,5 +1,5 @@
 -- `bvh_light_sampler_sample` and `bvh_light_sampler_pmf` of `light_bvh.rs`, over words as little-endian bytes: the
--- checks of R6 and R7, then the walk. A draw and a chance by name are the outcomes of `sample_walk` and `pmf_walk`, which
+-- checks of R6 and R7, then the walk. A draw and a answered by name are the outcomes of `sample_walk` and `pmf_walk`, which
 -- also tell the places entered. Definitions only. Assumes nothing.
 use Rattle.std.specs.Prelude.{ℕ, zero, suc, ◌/◌, ◌%◌, cond, ◌&&◌, List, eqb, ltb, Float, length, get_or}
 use Rattle.std.proofs.Math.Option.{none, some}
@@ -16,8 +16,6 @@ use Rattle.light_sampler.specs.Fork.{most}
 use Rattle.light_sampler.specs.Walks.{Walked, ended, after_check, Draw, descend, ascend}
 use Rattle.light_sampler.specs.declared.sample.Drawn.{Drawn}
 use Rattle.light_sampler.specs.declared.sample.Drawn.TheVariants.{Light, Nothing, Refused}
-use Rattle.light_sampler.specs.declared.pmf.Chance.{Chance}
-use Rattle.light_sampler.specs.declared.pmf.Chance.TheVariants.{Pmf, Refused as Chance-as-Refused}
 
 -- ---- draw
 
@@ -36,7 +34,7 @@ sample_walk nodes q u = after_check (sample_check nodes u) (from_root (words_of 
 abbrev pub sample : List ℕ → Query → Float → Answer Draw
 sample nodes q u = (sample_walk nodes q u).outcome
 
--- ---- chance by name
+-- ---- answered by name
 
 -- 2 of the nodes or of the table, then 1: how many nodes
 unfoldable pub pmf_check : List ℕ → List ℕ → Answer ℕ
@@ -48,7 +46,7 @@ pmf_check nodes table =
 unfoldable pub leaf_of : List ℕ → ℕ → ℕ
 leaf_of table handle = get_or table handle invalid_index
 
--- a light without a leaf has chance 0
+-- a light without a leaf has answered 0
 unfoldable pub from_leaf : List ℕ → Query → ℕ → ℕ → Walked Float
 from_leaf ws q i n = cond (eqb i invalid_index) (ended (given zerof)) (ascend ws q n i onef)
 
@@ -65,7 +63,3 @@ abbrev pub drawn : Drawn → Answer Draw
 drawn (Light h p) = given (some (h, p))
 drawn Nothing = given none
 drawn (Refused r) = refused (number r)
-
-abbrev pub chance : Chance → Answer Float
-chance (Pmf p) = given p
-chance (Chance-as-Refused r) = refused (number r)

@@ -1,27 +1,19 @@
-// A chance by name (specs/Sampler.antt): from the light's leaf up to the root, by parent words.
+// A answered by name (specs/Sampler.antt): from the light's leaf up to the root, by parent words.
+ghost use Rattle.words.specs.Answers.{answered};
 ghost use Rattle.std.specs.Prelude.{◌≡◌};
 ghost use Rattle.ieee.specs.Single.{onef};
-ghost use Rattle.words.specs.Answers.{counted};
 ghost use Rattle.words.specs.LittleEndian.{words_of};
-ghost use Rattle.light_sampler.specs.Sampler.{pmf_check, leaf_of, pmf as pmf_of, chance};
+ghost use Rattle.light_sampler.specs.Sampler.{pmf_check, leaf_of, pmf as pmf_of};
 ghost use Rattle.light_sampler.specs.Walks.{part_of, rise as rise_of, ascend as ascend_of};
 ghost use Rattle.light_rows.specs.Nodes.{node, node_at};
 ghost use Rattle.light_sampler.specs.AsCoded.Turns.{by_prepared, factor_of, parent_of, above_of};
 
-use super::weigh::{Weights, weigh_children};
+use super::weigh::weigh_children;
 use light_bounds::importance::{Prepared, Query, prepare};
 use light_rows::nodes::{INVALID_INDEX, Node, node_at, node_count};
-use words::answers::Counted;
 use words::limits::MAX_LAMPS;
 use words::little_endian::word_at;
 use words::refusals::Refusal;
-
-// The chance of a light, or why there is none.
-#[derive(Drop)]
-pub enum Chance {
-    Pmf(f32),
-    Refused(Refusal),
-}
 
 // An upward step: no child has weight, or the child's part of the two weights, or why not.
 #[derive(Drop)]
@@ -54,8 +46,8 @@ fn rise(nodes: &[u8], query: Prepared, place: usize, parent: u32, above: Node) -
 {
     match above {
         Node::Interior(_, right, _) => match weigh_children(nodes, query, parent as usize, right) {
-            Weights::Both(x, y) => part_of(place, parent as usize + 1, right as usize, x, y),
-            Weights::Refused(why) => Factor::Refused(why),
+            Ok((x, y)) => part_of(place, parent as usize + 1, right as usize, x, y),
+            Err(why) => Factor::Refused(why),
         },
         Node::Leaf(_, _) => Factor::Refused(Refusal::BrokenTree),
         Node::Unknown => Factor::Refused(Refusal::BrokenTree),
@@ -80,8 +72,8 @@ fn parent_of(here: Node) -> Above
 }
 
 // The walk: at most `count` nodes are entered. Each is read once, when it is the parent of the one before.
-fn ascend(nodes: &[u8], query: Query, count: usize, leaf: u32) -> Chance
-    ensures { chance result ≡ (ascend_of (words_of nodes.now) query count leaf onef).outcome }
+fn ascend(nodes: &[u8], query: Query, count: usize, leaf: u32) -> Result<f32, Refusal>
+    ensures { answered result ≡ (ascend_of (words_of nodes.now) query count leaf onef).outcome }
 {
     let held = prepare(query);
     let mut entries = count;
@@ -93,7 +85,7 @@ fn ascend(nodes: &[u8], query: Query, count: usize, leaf: u32) -> Chance
         match parent_of(here) {
             Above::Parent(parent) => {
                 if parent == INVALID_INDEX {
-                    return Chance::Pmf(pmf);
+                    return Ok(pmf);
                 }
                 let above = node_at(nodes, parent as usize);
                 match rise(nodes, held, place, parent, above) {
@@ -103,36 +95,36 @@ fn ascend(nodes: &[u8], query: Query, count: usize, leaf: u32) -> Chance
                         here = above;
                     }
                     Factor::Nought => {
-                        return Chance::Pmf(0.0);
+                        return Ok(0.0);
                     }
                     Factor::Refused(why) => {
-                        return Chance::Refused(why);
+                        return Err(why);
                     }
                 }
             }
             Above::Unknown => {
-                return Chance::Refused(Refusal::BrokenTree);
+                return Err(Refusal::BrokenTree);
             }
         }
     }
-    Chance::Refused(Refusal::BrokenTree)
+    Err(Refusal::BrokenTree)
 }
 
 // 2 of the nodes or of the table, then 1: how many nodes there are.
-fn check_pmf(nodes: &[u8], table: &[u8]) -> Counted
-    ensures { counted result ≡ pmf_check nodes.now table.now }
+fn check_pmf(nodes: &[u8], table: &[u8]) -> Result<usize, Refusal>
+    ensures { answered result ≡ pmf_check nodes.now table.now }
 {
     if MAX_LAMPS < table.len() / 4 {
-        return Counted::Refused(Refusal::Crowded);
+        return Err(Refusal::Crowded);
     }
     match node_count(nodes) {
-        Counted::Count(n) => {
+        Ok(n) => {
             if table.len() % 4 == 0 {
-                return Counted::Count(n);
+                return Ok(n);
             }
-            Counted::Refused(Refusal::Ragged)
+            Err(Refusal::Ragged)
         }
-        Counted::Refused(why) => Counted::Refused(why),
+        Err(why) => Err(why),
     }
 }
 
@@ -146,20 +138,20 @@ fn leaf_of(table: &[u8], handle: u32) -> u32
     INVALID_INDEX
 }
 
-// The chance of a light for a query, as the product of its weights' parts along the way up. Refusals: 2 over 8,191
+// The answered of a light for a query, as the product of its weights' parts along the way up. Refusals: 2 over 8,191
 // nodes or 4,096 table words, 1 of a part of a node or of a word; then those that the walk meets, 12 where the words do
-// not hang together. A light past the table or without a leaf has chance 0.
-pub fn bvh_light_sampler_pmf(nodes: &[u8], table: &[u8], query: Query, handle: u32) -> Chance
-    ensures { chance result ≡ pmf_of nodes.now table.now query handle }
+// not hang together. A light past the table or without a leaf has answered 0.
+pub fn bvh_light_sampler_pmf(nodes: &[u8], table: &[u8], query: Query, handle: u32) -> Result<f32, Refusal>
+    ensures { answered result ≡ pmf_of nodes.now table.now query handle }
 {
     match check_pmf(nodes, table) {
-        Counted::Count(n) => {
+        Ok(n) => {
             let leaf = leaf_of(table, handle);
             if leaf == INVALID_INDEX {
-                return Chance::Pmf(0.0);
+                return Ok(0.0);
             }
             ascend(nodes, query, n, leaf)
         }
-        Counted::Refused(why) => Chance::Refused(why),
+        Err(why) => Err(why),
     }
 }

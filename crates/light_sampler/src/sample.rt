@@ -1,18 +1,17 @@
 // A draw (specs/Sampler.antt): from the root down, into one child at each fork.
+ghost use Rattle.words.specs.Answers.{answered};
 ghost use Rattle.std.specs.Prelude.{◌≡◌, ◌<◌, ◌^◌};
 ghost use Rattle.ieee.specs.Single.{onef};
-ghost use Rattle.words.specs.Answers.{counted};
 ghost use Rattle.words.specs.LittleEndian.{words_of};
 ghost use Rattle.light_sampler.specs.Sampler.{sample_check, sample, drawn};
 ghost use Rattle.light_sampler.specs.Walks.{turn as turn_of, descend as descend_of};
 ghost use Rattle.light_sampler.specs.AsCoded.Turns.{by_prepared, way_of};
 
 use super::fork::{MOST, Turn, fork};
-use super::weigh::{Weights, weigh_children};
+use super::weigh::weigh_children;
 use floats::choose::min;
 use light_bounds::importance::{Prepared, Query, prepare};
 use light_rows::nodes::{Node, node_at, node_count};
-use words::answers::Counted;
 use words::refusals::Refusal;
 
 // What a draw gives: a light and its chance, none, or why not.
@@ -35,8 +34,8 @@ fn turn(nodes: &[u8], query: Prepared, place: usize, right: u32, u: f32) -> Way
     ensures { way_of result ≡ turn_of (words_of nodes.now) (by_prepared query) place right u }
 {
     match weigh_children(nodes, query, place, right) {
-        Weights::Both(x, y) => Way::On(fork(x, y, u)),
-        Weights::Refused(why) => Way::Refused(why),
+        Ok((x, y)) => Way::On(fork(x, y, u)),
+        Err(why) => Way::Refused(why),
     }
 }
 
@@ -84,19 +83,19 @@ fn descend(nodes: &[u8], query: Query, count: usize, u: f32) -> Drawn
 }
 
 // 2 and 1 of the nodes, 11 of u: how many nodes there are.
-fn check_sample(nodes: &[u8], u: f32) -> Counted
-    ensures { counted result ≡ sample_check nodes.now u }
+fn check_sample(nodes: &[u8], u: f32) -> Result<usize, Refusal>
+    ensures { answered result ≡ sample_check nodes.now u }
 {
     match node_count(nodes) {
-        Counted::Count(n) => {
+        Ok(n) => {
             if 0.0 <= u {
                 if u <= 1.0 {
-                    return Counted::Count(n);
+                    return Ok(n);
                 }
             }
-            Counted::Refused(Refusal::BadU)
+            Err(Refusal::BadU)
         }
-        Counted::Refused(why) => Counted::Refused(why),
+        Err(why) => Err(why),
     }
 }
 
@@ -108,12 +107,12 @@ pub fn bvh_light_sampler_sample(nodes: &[u8], query: Query, u: f32) -> Drawn
     ensures { drawn result ≡ sample nodes.now query u }
 {
     match check_sample(nodes, u) {
-        Counted::Count(n) => {
+        Ok(n) => {
             if n == 0 {
                 return Drawn::Nothing;
             }
             descend(nodes, query, n, min(u, MOST))
         }
-        Counted::Refused(why) => Drawn::Refused(why),
+        Err(why) => Drawn::Refused(why),
     }
 }

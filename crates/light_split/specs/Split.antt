@@ -12,8 +12,6 @@ use Rattle.words.specs.Lists.{folded}
 use Rattle.light_split.specs.Buckets.{Bucket, fill_buckets, empty_buckets, cut_cost}
 use Rattle.light_split.specs.declared.split.Split.{Split}
 use Rattle.light_split.specs.declared.split.Best.{Best}
-use Rattle.light_split.specs.declared.split.Chosen.{Chosen}
-use Rattle.light_split.specs.declared.split.Chosen.TheVariants.{Cut, Lost}
 
 abbrev pub split : ℕ → ℕ → Split
 split d k = record { dimension = d; bucket = k }
@@ -50,8 +48,3 @@ choose_split ws hs =
     axis ws hs ends parent 0 no_best then λ (b : Best). axis ws hs ends parent 1 b then λ (b : Best). axis ws hs ends
     parent 2 b then λ (b : Best).
     given b.best
-
--- what the enums `Chosen` and `Bested` answer
-abbrev pub chosen : Chosen → Answer Split
-chosen (Cut s) = given s
-chosen Lost = refused 10

@@ -1,8 +1,7 @@
 // The twelve buckets of an axis (specs/Buckets.antt): filled, joined, and what a side of a cut costs.
 ghost use Rattle.std.specs.Prelude.{◌≡◌, ◌≤◌, ◌<◌, drop};
 ghost use Rattle.std.proofs.Math.Option.{none, some};
-ghost use Rattle.words.specs.Answers.{given, ◌then◌};
-ghost use Rattle.light_bounds.specs.LightBounds.{bounded};
+ghost use Rattle.words.specs.Answers.{given, ◌then◌, answered};
 ghost use Rattle.light_split.specs.Buckets.{join_to, fill_buckets, empty_buckets, union_range};
 ghost use Rattle.light_split.specs.AsCoded.Slots.{slot_of, slot_list, filled, ranged};
 ghost use Rattle.light_split.specs.Buckets.{m_omega, kr as kr_of, evaluate_cost, side_cost};
@@ -12,12 +11,12 @@ use super::lights::{bucket_of, component};
 use floats::choose::{max, min};
 use light_bounds::bounds::{Bounds3, diagonal, surface_area};
 use light_bounds::cones::{Cone, safe_sqrt};
-use light_bounds::light_bounds::{Bounded, LightBounds, union};
+use light_bounds::light_bounds::{LightBounds, union};
 use light_bounds::side::side_of;
 use light_bounds::vecmath::Vec3;
 use light_rows::block::light;
 use trig::{acos, cos};
-use words::floats::word_of_f32;
+use words::floats::Float;
 
 // A bucket: the record around what fell into it, or nothing.
 #[derive(Clone, Copy)]
@@ -69,11 +68,11 @@ pub(crate) fn join_to(slot: Slot, bounds: LightBounds) -> Ranged
 {
     if slot.filled {
         return match union(slot.bounds, bounds) {
-            Bounded::Bounds(bounds) => Ranged::Bucket(Slot {
+            Ok(bounds) => Ranged::Bucket(Slot {
                 filled: true,
                 bounds,
             }),
-            Bounded::Refused(_) => Ranged::Lost,
+            Err(_) => Ranged::Lost,
         };
     }
     Ranged::Bucket(Slot {
@@ -189,8 +188,8 @@ fn omega_for(last: Omega, cos_theta_o: f32, cos_theta_e: f32) -> Omega
     ensures m_omega_value { result.m_omega ≡ m_omega cos_theta_o cos_theta_e }
 {
     if last.known
-        && word_of_f32(last.cos_theta_o) == word_of_f32(cos_theta_o)
-        && word_of_f32(last.cos_theta_e) == word_of_f32(cos_theta_e)
+        && last.cos_theta_o.word() == cos_theta_o.word()
+        && last.cos_theta_e.word() == cos_theta_e.word()
     {
         return last;
     }

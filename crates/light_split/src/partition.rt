@@ -1,6 +1,6 @@
 // A stretch of handles parted in two (specs/Partition.antt), in place.
+ghost use Rattle.words.specs.Answers.{answered};
 ghost use Rattle.std.specs.Prelude.{◌≡◌, ◌++◌, ◌+◌, ◌-◌, ◌≤◌, length, take};
-ghost use Rattle.words.specs.Answers.{counted};
 ghost use Rattle.light_split.specs.Partition.{goes_left, goes_right};
 ghost use Rattle.light_split.specs.AsCoded.Parted.{parted_count, parted_handles, parted_work};
 ghost use Rattle.words.specs.Lists.{kept};
@@ -9,7 +9,6 @@ ghost use Rattle.words.specs.AsCoded.ListParts.{laid};
 use super::lights::{bucket_of, centroid_ends};
 use super::split::Split;
 use light_bounds::bounds::Bounds3;
-use words::answers::Counted;
 use words::refusals::Refusal;
 
 fn goes_left(block: &[u32], ends: Bounds3, split: Split, handle: u32) -> bool
@@ -66,8 +65,8 @@ pub fn partition_handles(
     handles: &mut [u32],
     work: &mut [u32],
     split: Split,
-) -> Counted
-    ensures result_value { counted result ≡ parted_count block.now handles.old split
+) -> Result<usize, Refusal>
+    ensures result_value { answered result ≡ parted_count block.now handles.old split
         (length work.old) }
     ensures handles_after { handles.new ≡
         parted_handles block.now handles.old split (length work.old) }
@@ -76,13 +75,13 @@ pub fn partition_handles(
 {
     let n = handles.len();
     if work.len() < n {
-        return Counted::Refused(Refusal::ShortTray);
+        return Err(Refusal::ShortTray);
     }
     let ends = centroid_ends(block, handles);
     let left = part(block, ends, split, handles, work);
     put_behind(handles, left, work);
     if left == 0 || left == n {
-        return Counted::Count(n / 2);
+        return Ok(n / 2);
     }
-    Counted::Count(left)
+    Ok(left)
 }

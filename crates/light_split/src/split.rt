@@ -1,15 +1,12 @@
 // The choice of a cut (specs/Split.antt).
 ghost use Rattle.std.specs.Prelude.{◌≡◌, length};
-ghost use Rattle.words.specs.Answers.{given, ◌then◌};
+ghost use Rattle.words.specs.Answers.{given, ◌then◌, answered};
 ghost use Rattle.light_split.specs.AsCoded.Slots.{slot_list};
 ghost use Rattle.light_split.specs.Lights.{centroid_ends};
 ghost use Rattle.light_split.specs.Split.{combined_bounds, cuts, axis as axis_of};
-ghost use Rattle.light_split.specs.Split.{better as better_of, choose_split, chosen};
-ghost use Rattle.light_split.specs.AsCoded.Bests.{bested};
+ghost use Rattle.light_split.specs.Split.{better as better_of, choose_split};
 
-use super::buckets::{
-    Ranged, Slot, Slots, empty_slot, fill_buckets, join_to, no_omega, side_cost, union_from,
-};
+use super::buckets::{Ranged, Slot, Slots, empty_slot, fill_buckets, join_to, no_omega, side_cost, union_from};
 use super::lights::{centroid_ends, component};
 use light_bounds::bounds::{Bounds3, union};
 use light_rows::block::light_box;
@@ -21,25 +18,11 @@ pub struct Split {
     pub bucket: usize,
 }
 
-// A cut, or refusal 10.
-#[derive(Drop)]
-pub enum Chosen {
-    Cut(Split),
-    Lost,
-}
-
 // The best cut so far and its cost.
 #[derive(Clone, Copy)]
 pub struct Best {
     pub min_cost: f32,
     pub best: Split,
-}
-
-// The best cut, or refusal 10.
-#[derive(Drop)]
-pub enum Bested {
-    Found(Best),
-    Lost,
 }
 
 // The box of all that the stretch names.
@@ -72,8 +55,8 @@ fn better(best: Best, split: Split, cost: f32) -> Best
 
 // The eleven cuts of an axis. A cut behind an empty bucket has the sides of the cut before it, so it costs the same and
 // does not win: it is left out.
-fn best_cut(buckets: Slots, parent: Bounds3, dimension: usize, best: Best) -> Bested
-    ensures { bested result ≡ cuts (slot_list buckets.slots) parent dimension best 11 }
+fn best_cut(buckets: Slots, parent: Bounds3, dimension: usize, best: Best) -> Result<Best, Refusal>
+    ensures { answered result ≡ cuts (slot_list buckets.slots) parent dimension best 11 }
 {
     let mut best = best;
     let mut left = empty_slot();
@@ -87,7 +70,7 @@ fn best_cut(buckets: Slots, parent: Bounds3, dimension: usize, best: Best) -> Be
                     left = joined;
                 }
                 Ranged::Lost => {
-                    return Bested::Lost;
+                    return Err(Refusal::LostUnion);
                 }
             }
         }
@@ -100,13 +83,13 @@ fn best_cut(buckets: Slots, parent: Bounds3, dimension: usize, best: Best) -> Be
                     best = better(best, Split { dimension, bucket }, before.cost + behind.cost);
                 }
                 Ranged::Lost => {
-                    return Bested::Lost;
+                    return Err(Refusal::LostUnion);
                 }
             }
         }
         bucket += 1;
     }
-    Bested::Found(best)
+    Ok(best)
 }
 
 // One axis; it is left out where its centroids are equal.
@@ -117,36 +100,36 @@ fn axis(
     parent: Bounds3,
     dimension: usize,
     best: Best,
-) -> Bested
-    ensures { bested result ≡ axis_of block.now handles.now ends parent dimension best }
+) -> Result<Best, Refusal>
+    ensures { answered result ≡ axis_of block.now handles.now ends parent dimension best }
 {
     if component(ends.min, dimension) == component(ends.max, dimension) {
-        return Bested::Found(best);
+        return Ok(best);
     }
     let buckets = fill_buckets(block, handles, ends, dimension);
     if buckets.lost {
-        return Bested::Lost;
+        return Err(Refusal::LostUnion);
     }
     best_cut(buckets, parent, dimension, best)
 }
 
-fn three_axes(block: &[u32], handles: &[u32], ends: Bounds3, parent: Bounds3, best: Best) -> Bested
-    ensures { bested result ≡ (axis_of block.now handles.now ends parent 0 best then
+fn three_axes(block: &[u32], handles: &[u32], ends: Bounds3, parent: Bounds3, best: Best) -> Result<Best, Refusal>
+    ensures { answered result ≡ (axis_of block.now handles.now ends parent 0 best then
         λ b. axis_of block.now handles.now ends parent 1 b then λ b. axis_of block.now
         handles.now ends parent 2 b) }
 {
     match axis(block, handles, ends, parent, 0, best) {
-        Bested::Found(best) => match axis(block, handles, ends, parent, 1, best) {
-            Bested::Found(best) => axis(block, handles, ends, parent, 2, best),
-            Bested::Lost => Bested::Lost,
+        Ok(best) => match axis(block, handles, ends, parent, 1, best) {
+            Ok(best) => axis(block, handles, ends, parent, 2, best),
+            Err(Refusal::LostUnion) => Err(Refusal::LostUnion),
         },
-        Bested::Lost => Bested::Lost,
+        Err(Refusal::LostUnion) => Err(Refusal::LostUnion),
     }
 }
 
 // The cut of a stretch.
-pub fn choose_split(block: &[u32], handles: &[u32]) -> Chosen
-    ensures { chosen result ≡ choose_split block.now handles.now }
+pub fn choose_split(block: &[u32], handles: &[u32]) -> Result<Split, Refusal>
+    ensures { answered result ≡ choose_split block.now handles.now }
 {
     let ends = centroid_ends(block, handles);
     let parent = combined_bounds(block, handles);
@@ -158,10 +141,10 @@ pub fn choose_split(block: &[u32], handles: &[u32]) -> Chosen
         },
     };
     match three_axes(block, handles, ends, parent, first) {
-        Bested::Found(found) => {
+        Ok(found) => {
             let cut = found.best;
-            Chosen::Cut(cut)
+            Ok(cut)
         }
-        Bested::Lost => Chosen::Lost,
+        Err(Refusal::LostUnion) => Err(Refusal::LostUnion),
     }
 }

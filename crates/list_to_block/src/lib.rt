@@ -12,7 +12,6 @@ ghost use Rattle.list_to_block.specs.ListToBlock.{block_room, answer_bytes, conv
 use lamps::build_bounds::build_light_bounds;
 use light_rows::block::EXHAUSTIVE_BOUNDS_WORDS;
 use text::{put_refused, put_words};
-use words::answers::Counted;
 use words::limits::crowded;
 use words::little_endian::words_of_bytes;
 use words::refusals::Refusal;
@@ -27,11 +26,11 @@ fn convert(list: &[u32], block: &mut [u32], out: &mut [u8]) -> usize
     ensures value { result ≡ length (answer_bytes (build_light_bounds list.now block_room)) }
 {
     match build_light_bounds(list, block) {
-        Counted::Count(m) => {
+        Ok(m) => {
             let end = 1 + EXHAUSTIVE_BOUNDS_WORDS * m;
             put_words(out, &block[0..end])
         }
-        Counted::Refused(why) => put_refused(out, 0, why),
+        Err(why) => put_refused(out, 0, why),
     }
 }
 

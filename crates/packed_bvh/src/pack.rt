@@ -2,12 +2,11 @@
 ghost use Rattle.std.specs.Prelude.{◌||◌, ◌≡◌, eqb, ltb, ◌+◌, ◌*◌, ◌≤◌, ◌<◌, length};
 ghost use Rattle.std.proofs.Math.Option.{some};
 ghost use Rattle.std.proofs.lemmas.List.Edits.{sets};
-ghost use Rattle.words.specs.Answers.{counted, refused};
+ghost use Rattle.words.specs.Answers.{refused, answered, optional};
 ghost use Rattle.words.specs.Refusals.{number};
 ghost use Rattle.words.specs.LittleEndian.{words_of, bytes_of};
 ghost use Rattle.words.specs.AsCoded.Fill.{filled};
 ghost use Rattle.words.specs.Tray.{tray};
-ghost use Rattle.light_bounds.specs.Bounds.{all_bounds_of};
 ghost use Rattle.light_rows.specs.Nodes.{leaf, interior, invalid_index};
 ghost use Rattle.packed_bvh.specs.Packed.{header_words, packed_node_words};
 ghost use Rattle.packed_bvh.specs.Packed.{paired, cone_word, compact_words, pack_node, header, packed_reserve};
@@ -18,13 +17,11 @@ ghost use Rattle.packed_bvh.specs.AsCoded.PackedParts.{compact_list, placing, pl
 ghost use Rattle.packed_bvh.specs.AsCoded.PackedParts.{pack_bounds, pack_placed, node_packed};
 
 use super::quantize::{octahedral, quantize_axis, quantize_cos, quantize_down, quantize_up};
-use light_bounds::bounds::{AllBounds, Bounds3, Validity, check};
+use light_bounds::bounds::{Bounds3, check};
 use light_bounds::light_bounds::{LightBounds, validate};
-use light_bounds::vecmath::{Direction, Vec3, normalize_by_division};
+use light_bounds::vecmath::{Vec3, normalize_by_division};
 use light_rows::nodes::{INVALID_INDEX, Node, bounds_at, node_at, node_count};
-use light_rows::record_words::Found;
-use words::answers::Counted;
-use words::floats::word_of_f32;
+use words::floats::Float;
 use words::little_endian::set_word;
 use words::refusals::Refusal;
 
@@ -109,7 +106,7 @@ fn compact_words(all: Bounds3, bounds: LightBounds, d: Vec3, payload: u32, paren
             quantize_axis(octahedral_direction.x),
             quantize_axis(octahedral_direction.y),
         ),
-        phi: word_of_f32(bounds.phi),
+        phi: bounds.phi.word(),
         cone: cone_word(bounds),
         payload,
         parent,
@@ -171,13 +168,13 @@ fn pack_bounds(all: Bounds3, bounds: LightBounds, place: Placed) -> PackedNode
     ensures { node_packed result ≡ pack_bounds all bounds (placed place) }
 {
     match normalize_by_division(bounds.direction) {
-        Direction::Unit(d) => match place {
+        Ok(d) => match place {
             Placed::Words(payload, parent) => {
                 PackedNode::Words(compact_words(all, bounds, d, payload, parent))
             }
             Placed::Refused(why) => PackedNode::Refused(why),
         },
-        Direction::Refused(why) => PackedNode::Refused(why),
+        Err(why) => PackedNode::Refused(why),
     }
 }
 
@@ -185,11 +182,11 @@ fn pack_placed(nodes: &[u8], all: Bounds3, index: usize, place: Placed) -> Packe
     ensures { node_packed result ≡ pack_placed all (words_of nodes.now) index (placed place) }
 {
     match bounds_at(nodes, index) {
-        Found::Record(bounds) => match validate(bounds) {
-            Validity::Valid => pack_bounds(all, bounds, place),
-            Validity::Refused(why) => PackedNode::Refused(why),
+        Ok(bounds) => match validate(bounds) {
+            Ok(()) => pack_bounds(all, bounds, place),
+            Err(why) => PackedNode::Refused(why),
         },
-        Found::Nothing => PackedNode::Refused(Refusal::BrokenTree),
+        Err(why) => PackedNode::Refused(Refusal::BrokenTree),
     }
 }
 
@@ -231,13 +228,13 @@ fn write_header(out: &mut [u8], all: Bounds3)
     requires { 4 * header_words ≤ length out.old }
     ensures { out.new ≡ sets out.old 0 (bytes_of (header all)) }
 {
-    set_word(out, 0, word_of_f32(all.min.x));
-    set_word(out, 1, word_of_f32(all.min.y));
-    set_word(out, 2, word_of_f32(all.min.z));
+    set_word(out, 0, all.min.x.word());
+    set_word(out, 1, all.min.y.word());
+    set_word(out, 2, all.min.z.word());
     set_word(out, 3, 0);
-    set_word(out, 4, word_of_f32(all.max.x));
-    set_word(out, 5, word_of_f32(all.max.y));
-    set_word(out, 6, word_of_f32(all.max.z));
+    set_word(out, 4, all.max.x.word());
+    set_word(out, 5, all.max.y.word());
+    set_word(out, 6, all.max.z.word());
     set_word(out, 7, 0);
 }
 
@@ -294,17 +291,17 @@ fn pack_nodes(nodes: &[u8], all: Bounds3, n: usize, out: &mut [u8]) -> Packed
 // ---- the checks
 
 // 2, 1, 3: how many nodes there are.
-fn check_pack(nodes: &[u8], room: usize) -> Counted
-    ensures { counted result ≡ pack_check nodes.now room }
+fn check_pack(nodes: &[u8], room: usize) -> Result<usize, Refusal>
+    ensures { answered result ≡ pack_check nodes.now room }
 {
     match node_count(nodes) {
-        Counted::Count(n) => {
+        Ok(n) => {
             if room < 4 * reserve(n) {
-                return Counted::Refused(Refusal::ShortTray);
+                return Err(Refusal::ShortTray);
             }
-            Counted::Count(n)
+            Ok(n)
         }
-        Counted::Refused(why) => Counted::Refused(why),
+        Err(why) => Err(why),
     }
 }
 
@@ -324,16 +321,16 @@ fn refuse(out: &mut [u8], n: usize, why: Refusal) -> Packed
 // nodes and k do not agree, 5 and 6 of the box, then node by node 12 of its kind and its side, 5 to 8 of its record, 7
 // of its direction's length, 13 of a payload over INDEX_MAX, 12 of its parent and its left child: these zero the
 // reserve. No tree gives none.
-pub fn pack_light_bvh(nodes: &[u8], k: usize, all_bounds: AllBounds, out: &mut [u8]) -> Packed
+pub fn pack_light_bvh(nodes: &[u8], k: usize, all_bounds: Option<Bounds3>, out: &mut [u8]) -> Packed
     ensures result_value { packed result
-        ≡ words_packed (pack_light_bvh nodes.now k (all_bounds_of all_bounds) (length out.old)) }
+        ≡ words_packed (pack_light_bvh nodes.now k (optional all_bounds) (length out.old)) }
     ensures out_after { out.new ≡ tray packed_bytes (bytes_reserve nodes.now)
-        (pack_light_bvh nodes.now k (all_bounds_of all_bounds) (length out.old))
+        (pack_light_bvh nodes.now k (optional all_bounds) (length out.old))
         out.old }
 {
     match check_pack(nodes, out.len()) {
-        Counted::Count(n) => match all_bounds {
-            AllBounds::Bounds(all) => {
+        Ok(n) => match all_bounds {
+            Some(all) => {
                 if n == 0 {
                     return Packed::Refused(Refusal::BrokenTree);
                 }
@@ -341,11 +338,11 @@ pub fn pack_light_bvh(nodes: &[u8], k: usize, all_bounds: AllBounds, out: &mut [
                     return refuse(out, n, Refusal::BrokenTree);
                 }
                 match check(all) {
-                    Validity::Valid => pack_nodes(nodes, all, n, out),
-                    Validity::Refused(why) => refuse(out, n, why),
+                    Ok(()) => pack_nodes(nodes, all, n, out),
+                    Err(why) => refuse(out, n, why),
                 }
             }
-            AllBounds::Absent => {
+            None => {
                 if n == 0 {
                     if k == 0 {
                         return Packed::Nothing;
@@ -354,6 +351,6 @@ pub fn pack_light_bvh(nodes: &[u8], k: usize, all_bounds: AllBounds, out: &mut [
                 refuse(out, n, Refusal::BrokenTree)
             }
         },
-        Counted::Refused(why) => Packed::Refused(why),
+        Err(why) => Packed::Refused(why),
     }
 }

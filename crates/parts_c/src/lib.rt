@@ -11,10 +11,8 @@ ghost use Rattle.ieee.specs.Sqrt.{sqrt};
 ghost use Rattle.words.specs.AsCoded.Fill.{filled};
 ghost use Rattle.words.specs.LittleEndian.{words_of, bytes_of};
 ghost use Rattle.words.specs.AsCoded.WordSlices.{set_word, word_count, read_words, written_words};
-ghost use Rattle.words.specs.Answers.{counted, code};
+ghost use Rattle.words.specs.Answers.{code, answered};
 ghost use Rattle.words.specs.Tray.{tray};
-ghost use Rattle.light_bounds.specs.Bounds.{validity};
-ghost use Rattle.light_bounds.specs.Importance.{weight};
 ghost use Rattle.light_bounds.specs.LightBounds.{union as union_of};
 ghost use Rattle.light_rows.specs.RecordWords.{record_list, record_words};
 ghost use Rattle.light_rows.specs.Block.{block_check};
@@ -22,15 +20,14 @@ ghost use Rattle.light_c.specs.Codes.{value_code};
 ghost use Rattle.parts_c.specs.LibraryFunctions.{of_one, of_two, angle_of, to_whole};
 ghost use Rattle.parts_c.specs.PartCodes.{count_code, validate_words, importance_words, union_words};
 
-use light_bounds::bounds::Validity;
-use light_bounds::importance::{Weight, importance};
-use light_bounds::light_bounds::{Bounded, LightBounds, union, validate};
+use light_bounds::importance::importance;
+use light_bounds::light_bounds::{LightBounds, union, validate};
 use light_rows::block::{check_handles, check_layout};
 use light_rows::query_words::{QUERY_WORDS, query_of};
-use light_rows::record_words::{Found, RECORD_WORDS, read_record, write_record};
-use words::answers::{Counted, counted_code};
+use light_rows::record_words::{RECORD_WORDS, read_record, write_record};
+use words::answers::code;
 use words::fill::zero_words;
-use words::floats::word_of_f32;
+use words::floats::Float;
 use words::refusals::refusal_number;
 
 // ---- words and floats: plain numbers, and slices as a pointer and a length
@@ -85,7 +82,7 @@ pub extern "C" fn floats_to_whole(which: u32, x: f32) -> u64
         0 => floats::whole::to_u16(x) as u64,
         1 => floats::whole::to_u32(x) as u64,
         2 => floats::whole::to_usize(x) as u64,
-        3 => words::floats::word_of_f32(x) as u64,
+        3 => x.word() as u64,
         _ => 0,
     }
 }
@@ -129,21 +126,21 @@ pub extern "C" fn floats_widen(x: f32) -> f64
 pub extern "C" fn words_f32_of_word(w: u32) -> f32
     ensures { result ≡ of_bits binary32 w }
 {
-    words::floats::f32_of_word(w)
+    f32::of_word(w)
 }
 
 #[unsafe(no_mangle)]
 pub extern "C" fn words_f64_of_word(w: u64) -> f64
     ensures { result ≡ of_bits binary64 w }
 {
-    words::floats::f64_of_word(w)
+    f64::of_word(w)
 }
 
 #[unsafe(no_mangle)]
 pub extern "C" fn words_word_of_f64(x: f64) -> u64
     ensures { result ≡ to_bits binary64 x }
 {
-    words::floats::word_of_f64(x)
+    x.word()
 }
 
 #[unsafe(no_mangle)]
@@ -164,15 +161,15 @@ pub extern "C" fn words_set_word(bytes: &mut [u8], place: usize, w: u32)
 pub extern "C" fn words_fill(s: &mut [u32], from: usize, to: usize, v: u32)
     ensures { s.new ≡ filled s.old from to v }
 {
-    words::fill::fill_words(s, from, to, v);
+    words::fill::fill(s, from, to, v);
 }
 
-fn count_of(answer: Counted) -> usize
-    ensures { result ≡ count_code (counted answer) }
+fn count_of(answer: Result<usize, Refusal>) -> usize
+    ensures { result ≡ count_code (answered answer) }
 {
     match answer {
-        Counted::Count(n) => n,
-        Counted::Refused(_) => 0xffff_ffff_ffff_ffff,
+        Ok(n) => n,
+        Err(_) => 0xffff_ffff_ffff_ffff,
     }
 }
 
@@ -192,7 +189,7 @@ pub extern "C" fn words_words_of_bytes(bytes: &[u8], words: &mut [u32]) -> u32
         tray (λ (n : ℕ). words_of bytes.now) (length bytes.now / 4)
         (read_words bytes.now (length words.old)) words.old }
 {
-    counted_code(words::little_endian::words_of_bytes(bytes, words))
+    code(words::little_endian::words_of_bytes(bytes, words))
 }
 
 #[unsafe(no_mangle)]
@@ -202,7 +199,7 @@ pub extern "C" fn words_bytes_of_words(words: &[u32], bytes: &mut [u8]) -> u32
         tray (λ (n : ℕ). bytes_of words.now) (4 * length words.now)
         (written_words words.now (length bytes.old)) bytes.old }
 {
-    counted_code(words::little_endian::bytes_of_words(words, bytes))
+    code(words::little_endian::bytes_of_words(words, bytes))
 }
 
 // ---- bounds of lamps, records and queries as slices of words
@@ -213,17 +210,17 @@ pub extern "C" fn bounds_validate(record: &[u32]) -> u32
     ensures { result ≡ code (validate_words «record».now) }
 {
     match read_record(record, 0) {
-        Found::Record(whole) => validity_code(validate(whole)),
-        Found::Nothing => 1,
+        Ok(whole) => validity_code(validate(whole)),
+        Err(why) => 1,
     }
 }
 
-fn validity_code(answer: Validity) -> u32
-    ensures { result ≡ code (validity answer) }
+fn validity_code(answer: Result<(), Refusal>) -> u32
+    ensures { result ≡ code (answered answer) }
 {
     match answer {
-        Validity::Valid => 0,
-        Validity::Refused(why) => refusal_number(why),
+        Ok(()) => 0,
+        Err(why) => why.number(),
     }
 }
 
@@ -236,17 +233,17 @@ pub extern "C" fn bounds_importance(record: &[u32], query: &[u32]) -> u64
         return 0x1_0000_0001;
     }
     match read_record(record, 0) {
-        Found::Record(whole) => weight_code(importance(whole, query_of(query))),
-        Found::Nothing => 0x1_0000_0001,
+        Ok(whole) => weight_code(importance(whole, query_of(query))),
+        Err(why) => 0x1_0000_0001,
     }
 }
 
-fn weight_code(answer: Weight) -> u64
-    ensures { result ≡ value_code (weight answer) }
+fn weight_code(answer: Result<f32, Refusal>) -> u64
+    ensures { result ≡ value_code (answered answer) }
 {
     match answer {
-        Weight::Importance(x) => word_of_f32(x) as u64,
-        Weight::Refused(why) => 0x1_0000_0000 + refusal_number(why) as u64,
+        Ok(x) => x.word() as u64,
+        Err(why) => 0x1_0000_0000 + why.number() as u64,
     }
 }
 
@@ -257,13 +254,13 @@ fn write_union(a: LightBounds, b: LightBounds, out: &mut [u32]) -> u32
     ensures out_after { out.new ≡ tray record_list record_words (union_of a b) out.old }
 {
     match union(a, b) {
-        Bounded::Bounds(record) => {
+        Ok(record) => {
             write_record(out, 0, record);
             0
         }
-        Bounded::Refused(why) => {
+        Err(why) => {
             zero_words(out, 0, RECORD_WORDS);
-            refusal_number(why)
+            why.number()
         }
     }
 }
@@ -277,17 +274,17 @@ pub extern "C" fn bounds_union(a: &[u32], b: &[u32], out: &mut [u32]) -> u32
         out.old }
 {
     match read_record(a, 0) {
-        Found::Record(first) => match read_record(b, 0) {
-            Found::Record(second) => {
+        Ok(first) => match read_record(b, 0) {
+            Ok(second) => {
                 if out.len() < RECORD_WORDS {
                     3
                 } else {
                     write_union(first, second, out)
                 }
             }
-            Found::Nothing => 1,
+            Err(why) => 1,
         },
-        Found::Nothing => 1,
+        Err(why) => 1,
     }
 }
 
@@ -299,7 +296,7 @@ pub extern "C" fn lamps_check_block(block: &[u32]) -> u32
     ensures { result ≡ code (block_check block.now) }
 {
     match check_layout(block) {
-        Counted::Count(_) => counted_code(check_handles(block)),
-        Counted::Refused(why) => refusal_number(why),
+        Ok(_) => code(check_handles(block)),
+        Err(why) => why.number(),
     }
 }

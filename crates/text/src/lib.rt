@@ -11,7 +11,6 @@ ghost use Rattle.words.specs.Refusals.{number};
 ghost use Rattle.text.specs.Text.{places as places_of, decimal_bytes, hex_bytes, refusal_line};
 ghost use Rattle.text.specs.AsCoded.Puts.{fitting};
 
-use words::answers::Counted;
 use words::limits::fits;
 use words::little_endian::bytes_of_words;
 use words::refusals::{Refusal, refusal_number};
@@ -124,7 +123,7 @@ pub fn put_refused(out: &mut [u8], at: usize, why: Refusal) -> usize
         ≡ sets out.old at (fitting out.old at (refusal_line (number why))) }
     ensures value { result ≡ length (fitting out.old at (refusal_line (number why))) }
 {
-    let n = refusal_number(why);
+    let n = why.number();
     let k = places(n);
     let count = 9 + k;
     if fits(out.len(), at, count) {
@@ -143,7 +142,7 @@ pub fn put_words(out: &mut [u8], words: &[u32]) -> usize
     ensures value { result ≡ length (fitting out.old 0 (bytes_of words.now)) }
 {
     match bytes_of_words(words, out) {
-        Counted::Count(n) => 4 * n,
-        Counted::Refused(_) => 0,
+        Ok(n) => 4 * n,
+        Err(_) => 0,
     }
 }

@@ -9,7 +9,7 @@ ghost use Rattle.trig.specs.Trig.{cos as cos_of, sin as sin_of, acos as acos_of,
 use floats::choose::abs;
 use floats::narrow::{narrow, widen};
 use floats::sqrt::sqrt64;
-use words::floats::word_of_f32;
+use words::floats::Float;
 
 // One turn of the cosine's series at s = 1, of the sine's at s = 0.
 fn series_step(s: u32, z: f64, m: u32, q: f64) -> f64
@@ -96,7 +96,7 @@ pub fn sin(x: f32) -> f32
 pub fn acos(x: f32) -> f32
     ensures { result ≡ acos_of x }
 {
-    let word = word_of_f32(x);
+    let word = x.word();
     if word == 0x3f80_0000 {
         return 0.0;
     }
@@ -135,7 +135,7 @@ fn acos_steps(x: f32) -> f32
 pub fn asin(x: f32) -> f32
     ensures { result ≡ asin_of x }
 {
-    if word_of_f32(x) == 0 {
+    if x.word() == 0 {
         return 0.0;
     }
     asin_steps(x)

@@ -1,8 +1,8 @@
--- The lamps are counted, then the tree is made; what is refused before build leaves the trays as they are. Assumes
+-- The lamps are answered, then the tree is made; what is refused before build leaves the trays as they are. Assumes
 -- nothing.
 use mathlib.Core.Path.{◌≡◌, refl, sym, ap, ◌∙◌}
 use native.Mathlib.Omega.{arith}
-use Rattle.words.specs.Answers.{counted, given, ◌then◌}
+use Rattle.words.specs.Answers.{given, ◌then◌, answered}
 use Rattle.light_report.specs.Report.{block_bytes, report_tree, block_lamps}
 use Rattle.light_report.specs.AsCoded.Written.{sizes}
 use Rattle.light_report.specs.Laws.ReportLaws.{front-word, lamps-there}
@@ -12,7 +12,7 @@ use Rattle.light_report.proofs.take_tree.Goals.{In-Count}
 
 -- how many lamps there are, and that they are there
 count : (c : In-Count) → block_lamps c.args.input.now ≡ given c.in-Count.lamps
-count c = sym c.block_lamps.ensures ∙ ap counted c.in-Count.is
+count c = sym c.block_lamps.ensures ∙ ap answered c.in-Count.is
 
 pub make_tree-requires : goal.make_tree-requires
 make_tree-requires c =
@@ -43,5 +43,5 @@ returns-in-Refused-make_tree c =
 pub returns-in-Refused : goal.returns-in-Refused
 unfolding report_tree ◌then◌ sizes
 returns-in-Refused c =
-    let none = sym c.block_lamps.ensures ∙ ap counted c.in-Refused.is in
+    let none = sym c.block_lamps.ensures ∙ ap answered c.in-Refused.is in
     rw none (record { result_value = refl; nodes_after = unbuilt _ _ none _ _ _; table_after = unbuilt _ _ none _ _ _ })

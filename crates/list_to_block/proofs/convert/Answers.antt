@@ -1,11 +1,11 @@
 -- The block's words stand at its front, and there is room for the bytes of any answer. Assumes nothing.
+use Rattle.words.specs.Answers.{answered}
 use Prim.Native.Nat.{ℕ, ◌+◌, ◌≤◌}
 use mathlib.Core.Path.{◌≡◌, sym, ap, ◌∙◌}
 use mathlib.Core.List.{List}
 use native.Mathlib.Nat.{sub-zero}
 use native.Mathlib.Omega.{arith}
 use lib.ListN.{length, take}
-use Rattle.words.specs.Answers.{counted}
 use Rattle.words.specs.LittleEndian.{bytes_of}
 use Rattle.words.specs.Limits.{max_lamps}
 use Rattle.light_rows.specs.Block.{block_words}
@@ -30,7 +30,7 @@ block : (c : In-Count)
     ≡ answer_bytes (build_light_bounds c.args.list.now block_room))
 block c =
     let built = c.build_light_bounds.ensures in
-    block-bytes c.args.list.now _ c.requires.0 _ _ c.in-Count.m (sym (ap counted c.in-Count.is) ∙ built.result_value)
+    block-bytes c.args.list.now _ c.requires.0 _ _ c.in-Count.m (sym (ap answered c.in-Count.is) ∙ built.result_value)
     built.block_after
 
 pub overflow_mul-end : goal.overflow_mul-end

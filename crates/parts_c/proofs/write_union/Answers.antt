@@ -1,11 +1,11 @@
 -- `parts_c::write_union`: its words fill the reserve, or zeros do. Assumes nothing.
+use Rattle.words.specs.Answers.{answered}
 use mathlib.Core.Path.{refl, sym, ap, ◌∙◌}
 use mathlib.Core.List.{[]}
 use Rattle.words.specs.Laws.TrayLaws.{tray-full}
 use Rattle.words.proofs.AnswerLaws.{only-number}
 use Rattle.words.proofs.Reserves.{tray-zeroed}
 use Rattle.words.proofs.Stores.{stored}
-use Rattle.light_bounds.specs.LightBounds.{bounded}
 use Rattle.light_rows.specs.RecordWords.{record_list, record_words}
 use Rattle.light_bounds.proofs.LateLaws.{late-union}
 use Rattle.light_rows.specs.Laws.RecordPlaces.{written_at-sets}
@@ -16,7 +16,7 @@ unfolding record_list
 returns-in-Bounds c =
     let out = c.args.out.now in
     let r = c.in-Bounds.«record» in
-    rw (sym c.union.ensures ∙ ap bounded c.in-Bounds.is) (record {
+    rw (sym c.union.ensures ∙ ap answered c.in-Bounds.is) (record {
       value = refl;
       out_after =
           c.write_record.ensures ∙ written_at-sets out 0 r c.requires
@@ -26,7 +26,7 @@ returns-in-Bounds c =
 pub returns-in-Refused : goal.returns-in-Refused
 returns-in-Refused c =
     let out = c.args.out.now in
-    let told = sym c.union.ensures ∙ ap bounded c.in-Refused.is in
+    let told = sym c.union.ensures ∙ ap answered c.in-Refused.is in
     rw told (record {
       value = c.refusal_number.ensures;
       out_after =

@@ -3,7 +3,7 @@ use Prim.Native.Nat.{◌≤◌}
 use mathlib.Core.Path.{◌≡◌, refl, ap, sym, ◌∙◌}
 use native.Mathlib.Omega.{arith}
 use lib.ListN.{length, get_or}
-use Rattle.words.specs.Answers.{given, count, counted}
+use Rattle.words.specs.Answers.{given, count, answered}
 use Rattle.words.specs.Limits.{max_lamps}
 use Rattle.words.specs.Refusals.{number}
 use Rattle.words.specs.Tray.{tray}
@@ -19,7 +19,7 @@ use Rattle.lamps.proofs.build_bounds.build_light_bounds.Goals.{In-Count}
 read : (c : In-Count) →
     count (lamp_list c.args.list.now) ≡
     given c.in-Count.m
-read c = sym c.check_list.ensures ∙ ap counted c.in-Count.is
+read c = sym c.check_list.ensures ∙ ap answered c.in-Count.is
 
 few : (c : In-Count) → c.in-Count.m ≤ max_lamps
 few c =
@@ -46,7 +46,7 @@ pub returns-in-Refused : goal.returns-in-Refused
 returns-in-Refused c = let args = c.args in
     let n = number c.in-Refused.why in
     let unread = count-refused (lamp_list args.list.now) n
-    (sym c.check_list.ensures ∙ ap counted c.in-Refused.is) in
+    (sym c.check_list.ensures ∙ ap answered c.in-Refused.is) in
     rw (build_unread args.list.now (length args.block.now) n unread)
     (record {
       result_value = refl;

@@ -3,8 +3,7 @@
 use Prim.Native.Nat.{◌+◌, ◌*◌, ◌-◌}
 use mathlib.Core.Path.{◌≡◌, refl, sym, ◌∙◌}
 use native.Mathlib.Omega.{arith}
-use Rattle.light_bounds.specs.LightBounds.{bounded}
-use Rattle.words.specs.Answers.{given, ◌then◌}
+use Rattle.words.specs.Answers.{given, ◌then◌, answered}
 use Rattle.lamps.specs.LampBounds.{union_from}
 use Rattle.lamps.proofs.LampBoundsLaws.{union_from-next, union_from-end}
 use Rattle.lamps.proofs.lamp_bounds.union_rest.Goals as goal
@@ -18,7 +17,7 @@ next : (c : After-grown)
     c.args.triangles.now 13
     (c.args.n - 1)
     (given c.args.first)
-    ≡ bounded c.grown.result
+    ≡ answered c.grown.result
     then λ s. union_from c.args.emission_max
     c.args.scale
     c.args.two_sided

@@ -6,10 +6,10 @@ use mathlib.Core.List.{[], ◌∷◌, ◌++◌}
 use native.Mathlib.Omega.{arith}
 use borrow.Author.Tests.{eq-eqb, ne_eqb}
 use lib.ListN.{length, get_or}
-use Rattle.words.specs.Answers.{given}
+use Rattle.words.specs.Answers.{given, answered}
 use Rattle.words.specs.Refusals.{number}
 use Rattle.words.proofs.RowLaws.{walked_none, walked_one}
-use Rattle.lamps.specs.LampList.{in_place, step}
+use Rattle.lamps.specs.LampList.{in_place}
 use Rattle.lamps.proofs.WalkLaws.{lamp_walk, in_place-snoc, placed-refused, placed_ragged, placed-all}
 use Rattle.lamps.proofs.lamp_list.check_lamps.Goals as goal
 
@@ -25,7 +25,7 @@ pub returns-in-Refused : goal.returns-in-Refused
 returns-in-Refused c = let loop = c.loop-i in
     rw (placed-refused c.args.list.now c.loop-i.invariant.2.1
     (number c.in-Refused.why) (omega (arith, c.loop-i.invariant.0))
-    (sym c.next.ensures ∙ ap step c.in-Refused.is))
+    (sym c.next.ensures ∙ ap answered c.in-Refused.is))
 
 pub loop-i-preserved : goal.loop-i-preserved
 loop-i-preserved c = let loop = c.loop-i in
@@ -39,7 +39,7 @@ loop-i-preserved c = let loop = c.loop-i in
         done ++ r ∷ [],
         walked_one (lamp_walk list) r c.loop-i.invariant.2.1 (omega (arith, c.loop-i.invariant.0))
             (sym c.next.ensures ∙
-            ap step c.in-Read.is),
+            ap answered c.in-Read.is),
         c.still_placed-placed.ensures ∙
             rw (c.loop-i.invariant.2.2, c.lamp_handle.ensures, in_place-snoc 0 done r, z),
       ),

@@ -1,8 +1,8 @@
 -- The invariant: the box of the powered rows up to i, absent at the start. Assumes nothing.
+use Rattle.words.specs.Answers.{optional}
 use Prim.Native.Nat.{ℕ}
 use mathlib.Core.Path.{◌≡◌, refl, sym, ap, ◌∙◌}
 use native.Mathlib.Omega.{arith}
-use Rattle.light_bounds.specs.Bounds.{all_bounds_of}
 use Rattle.light_bvh.specs.Build.{all_bounds}
 use Rattle.light_bvh.proofs.BuildLaws.{all_in, all-out}
 use Rattle.light_bvh.proofs.build.all_bounds.Goals as goal
@@ -19,10 +19,10 @@ loop-all-preserved c =
     let powered = c.is_powered.ensures in (
       omega arith,
       elim c.if-is_powered.branch [
-        | then-is_powered w ↦ ap all_bounds_of w.all-is ∙ w.grow-all.ensures ∙
+        | then-is_powered w ↦ ap optional w.all-is ∙ w.grow-all.ensures ∙
             rw (loop.invariant.1, w.light_box.ensures)
             (sym (all_in block loop.i (sym powered ∙ w.if-is_powered.true)))
-        | else-is_powered w ↦ ap all_bounds_of w.all-is ∙ loop.invariant.1 ∙
+        | else-is_powered w ↦ ap optional w.all-is ∙ loop.invariant.1 ∙
             sym (all-out block loop.i (sym powered ∙ w.if-is_powered.false))
       ],
     )

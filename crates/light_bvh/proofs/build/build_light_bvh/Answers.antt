@@ -4,10 +4,9 @@ use Prim.Native.Nat.{ℕ, ◌≤◌}
 use mathlib.Core.Path.{◌≡◌, sym, ap, ◌∙◌}
 use mathlib.Core.Bool.{false}
 use lib.ListN.{length, get_or}
-use Rattle.words.specs.Answers.{given, counted}
+use Rattle.words.specs.Answers.{given, answered}
 use Rattle.words.specs.Limits.{max_lamps}
 use Rattle.words.specs.Refusals.{number}
-use Rattle.light_bounds.specs.Bounds.{validity}
 use Rattle.light_rows.specs.Block.{block_words, block_handles}
 use Rattle.light_bvh.specs.Build.{is_short, build_check}
 use Rattle.light_bvh.proofs.BuildLaws.{build-checked, outcome-early, outcome_late, outcome-rows}
@@ -21,7 +20,7 @@ checked : (c : In-Count)
     → (let args = c.args in
     build_check args.lights args.block.now (length args.nodes.now) (length args.table.now)
     (length args.work.now) ≡ given (rows c))
-checked c = sym c.check_build.ensures ∙ ap counted c.in-Count.is
+checked c = sym c.check_build.ensures ∙ ap answered c.in-Count.is
 
 facts : (c : In-Count)
     → (let args = c.args in
@@ -50,7 +49,7 @@ returns-in-Valid c =
     let told = c.build_rows.ensures in
     let h = outcome-rows args.lights args.block.now args.nodes.now args.table.now args.work.now c.in-Count.m
     (checked (goal.at.returns-in-Valid c).In-Count)
-    (sym c.check_records.ensures ∙ ap validity c.in-Valid.is) told.result_value told.nodes_after told.table_after
+    (sym c.check_records.ensures ∙ ap answered c.in-Valid.is) told.result_value told.nodes_after told.table_after
     told.work_after in
     record { result_value = h.0; nodes_after = h.1.0; table_after = h.1.1.0; work_after = h.1.1.1 }
 
@@ -61,7 +60,7 @@ returns-in-Refused-check_records c =
     let h = outcome_late args.lights args.block.now args.nodes.now args.table.now args.work.now c.in-Count.m
     (checked (goal.at.returns-in-Refused-check_records c).In-Count)
     (number c.in-Refused-check_records.why)
-    (sym c.check_records.ensures ∙ ap validity c.in-Refused-check_records.is) told.nodes_after told.table_after
+    (sym c.check_records.ensures ∙ ap answered c.in-Refused-check_records.is) told.nodes_after told.table_after
     told.work_after in
     record { result_value = h.0; nodes_after = h.1.0; table_after = h.1.1.0; work_after = h.1.1.1 }
 
@@ -69,5 +68,5 @@ pub returns-in-Refused : goal.returns-in-Refused
 returns-in-Refused c =
     let args = c.args in
     let h = outcome-early args.lights args.block.now args.nodes.now args.table.now args.work.now
-    (number c.in-Refused.why) (sym c.check_build.ensures ∙ ap counted c.in-Refused.is) in
+    (number c.in-Refused.why) (sym c.check_build.ensures ∙ ap answered c.in-Refused.is) in
     record { result_value = h.0; nodes_after = h.1.0; table_after = h.1.1.0; work_after = h.1.1.1 }

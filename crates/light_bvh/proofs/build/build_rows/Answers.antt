@@ -1,10 +1,10 @@
 -- The fronts of the table, the work and the nodes are lent for the tree of the powered rows, and what is left of them
 -- is the definition's at each of the three ends; where there is a tree there is a box. Assumes nothing.
+use Rattle.words.specs.Answers.{optional}
 use Prim.Native.Nat.{◌≤◌}
 use mathlib.Core.Path.{sym, ap, ◌∙◌}
 use native.Mathlib.Omega.{arith}
 use lib.ListN.{length}
-use Rattle.light_bounds.specs.Bounds.{all_bounds_of}
 use Rattle.light_bvh.proofs.BuildLaws.{reserves-fit}
 use Rattle.light_bvh.proofs.RowTrays.{Gathered, gathered, end_of, asks, Lent, nodes-size}
 use Rattle.light_bvh.proofs.RowTrays.{rows_none, rows_lost, rows-tree, rows-boxed}
@@ -102,13 +102,13 @@ returns-in-Bounds c =
     let told = c.build_subtree.ensures in
     let h = rows-tree (lent (goal.at.returns-in-Bounds c).After-build_subtree) told.result_value c.in-Built.is
     told.nodes_after c.zero_words.ensures c.fill_words-in-Built.ensures c.table_leaves.ensures
-    c.zero_words-in-Built.ensures _ (sym (ap all_bounds_of c.in-Bounds.is) ∙ c.all_bounds.ensures) in
+    c.zero_words-in-Built.ensures _ (sym (ap optional c.in-Bounds.is) ∙ c.all_bounds.ensures) in
     record { result_value = h.0; nodes_after = h.1.0; table_after = h.1.1.0; work_after = h.1.1.1 }
 
 pub returns-in-Absent : goal.returns-in-Absent
 returns-in-Absent c =
     absurd (rows-boxed (lent (goal.at.returns-in-Absent c).After-build_subtree)
-    (sym (ap all_bounds_of c.in-Absent.is) ∙ c.all_bounds.ensures))
+    (sym (ap optional c.in-Absent.is) ∙ c.all_bounds.ensures))
 
 pub returns-in-Lost : goal.returns-in-Lost
 returns-in-Lost c =

@@ -3,7 +3,7 @@
 use mathlib.Core.Path.{sym, ap, ◌∙◌}
 use native.Mathlib.Omega.{arith}
 use borrow.Author.Tests.{eq-eqb, ne_eqb}
-use Rattle.words.specs.Answers.{◌then◌, counted}
+use Rattle.words.specs.Answers.{◌then◌, answered}
 use Rattle.light_bvh.specs.Build.{build_check}
 use Rattle.light_bvh.proofs.BuildLaws.{layout-count, handles-count}
 use Rattle.light_bvh.proofs.build.check_build.Goals as goal
@@ -21,9 +21,9 @@ pub check_reserves-requires : goal.check_reserves-requires
 check_reserves-requires c =
     let block = c.args.block.now in
     let (is, few, _) = layout-count block _
-    (sym c.check_layout.ensures ∙ ap counted c.in-Count.is) in
+    (sym c.check_layout.ensures ∙ ap answered c.in-Count.is) in
     let is' = handles-count block _
-    (sym c.check_handles.ensures ∙ ap counted c.in-Count-check_handles.is) in
+    (sym c.check_handles.ensures ∙ ap answered c.in-Count-check_handles.is) in
     omega (arith, is, few, is')
 
 pub returns-in-Count-check_handles : goal.returns-in-Count-check_handles

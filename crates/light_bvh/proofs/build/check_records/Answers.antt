@@ -2,9 +2,8 @@
 use Prim.Native.Nat.{ℕ}
 use mathlib.Core.Path.{◌≡◌, refl, sym, ap, subst, ◌∙◌}
 use native.Mathlib.Omega.{arith}
-use Rattle.words.specs.Answers.{given}
+use Rattle.words.specs.Answers.{given, answered}
 use Rattle.words.specs.Refusals.{number}
-use Rattle.light_bounds.specs.Bounds.{validity}
 use Rattle.light_bounds.specs.LightBounds.{validate}
 use Rattle.light_bvh.specs.Build.{validated}
 use Rattle.light_bvh.proofs.BuildLaws.{validated-refused, validated-next}
@@ -18,7 +17,7 @@ pub loop-i-preserved : goal.loop-i-preserved
 loop-i-preserved c =
     let block = c.args.block.now in
     let one = ap validate (sym c.light.ensures) ∙ sym c.validate.ensures
-    ∙ ap validity c.in-Valid.is in (
+    ∙ ap answered c.in-Valid.is in (
       omega arith,
       validated-next block c.loop-i.i c.loop-i.invariant.1 one,
     )
@@ -28,7 +27,7 @@ returns-in-Refused c =
     let args = c.args in
     let one = ap validate (sym c.light.ensures) ∙
     sym c.validate.ensures
-    ∙ ap validity c.in-Refused.is in
+    ∙ ap answered c.in-Refused.is in
     sym (validated-refused args.block.now args.m c.loop-i.i (number c.in-Refused.why)
     (omega arith) c.loop-i.invariant.1 one)
 

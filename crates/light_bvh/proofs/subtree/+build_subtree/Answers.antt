@@ -5,7 +5,7 @@ use mathlib.Core.Path.{◌≡◌, sym, ap, ◌∙◌}
 use native.Mathlib.Omega.{arith}
 use lib.ListN.{length, take}
 use lib.Seq.{length-take-le}
-use Rattle.words.specs.Answers.{given, counted}
+use Rattle.words.specs.Answers.{given, answered}
 use Rattle.light_bvh.specs.AsCoded.Stretches.{split_count}
 use Rattle.light_bvh.specs.declared.subtree.Subtree.TheVariants.{Built, Lost}
 use Rattle.light_bvh.proofs.SubtreeLaws.{cut_of, Stand, leaf-left, lost-left, no-left}
@@ -28,7 +28,7 @@ stand t c =
     let pre = c.requires in
     let two : 2 ≤ length hs = omega (arith, pre.in_bounds, c.if-n-eq1.false) in
     let kept : length c.split_stretch.new.work ≡ length c.args.work.now = c.split_stretch.auto.work in
-    let count : split_count ws hs ≡ given c.in-Count.left = sym told.result_value ∙ ap counted c.in-Count.is in
+    let count : split_count ws hs ≡ given c.in-Count.left = sym told.result_value ∙ ap answered c.in-Count.is in
     record {
       cut = cut_of ws hs c.split_stretch.new.handles c.in-Count.left count told.handles_after two;
       room = omega (arith, pre.handles_in_bounds, kept);
@@ -178,5 +178,5 @@ returns-in-Refused t c =
     let args = c.args in
     let two : 2 ≤ length args.handles.now = omega (arith, c.requires.in_bounds, c.if-n-eq1.false) in
     let h = lost-left args.block.now args.handles.now args.at args.parent _ args.nodes.now
-    (sym c.split_stretch.ensures.result_value ∙ ap counted c.in-Refused.is) two in
+    (sym c.split_stretch.ensures.result_value ∙ ap answered c.in-Refused.is) two in
     record { result_value = h.0; nodes_after = h.1 }

@@ -1,8 +1,7 @@
 -- `light_split::buckets::join_to`: an empty bucket holds the record, another the union, which is refused by 10 alone.
 -- Assumes nothing.
 use mathlib.Core.Path.{sym, ◌∙◌, ap}
-use Rattle.words.specs.Answers.{◌then◌}
-use Rattle.light_bounds.specs.LightBounds.{bounded}
+use Rattle.words.specs.Answers.{◌then◌, answered}
 use Rattle.light_split.specs.Buckets.{join_to}
 use Rattle.light_split.proofs.BucketLaws.{union-refused}
 use Rattle.light_split.proofs.buckets.join_to.Goals as goal
@@ -19,7 +18,7 @@ pub returns-in-Refused : goal.returns-in-Refused
 unfolding join_to ◌then◌
 returns-in-Refused c =
     let args = c.args in
-    let told = sym c.union.ensures ∙ ap bounded c.in-Refused.is in
+    let told = sym c.union.ensures ∙ ap answered c.in-Refused.is in
     rw (c.if-slot.true, union-refused args.slot.bounds args.bounds _ told)
 
 pub returns : goal.returns
