@@ -45,7 +45,11 @@ impl Float for f32 {
     fn word(self) -> u32
         ensures { result ≡ to_bits binary32 self }
     {
-        if self != self { 0x7fc0_0000 } else { f32::to_bits(self) }
+        if self != self {
+            0x7fc0_0000
+        } else {
+            f32::to_bits(self)
+        }
     }
 }
 
