@@ -8,4 +8,4 @@ use Rattle.floats.proofs.sqrt.sqrt.Goals as goal
 pub returns : goal.returns
 returns c =
     through-words binary32 binary32 (sqrt binary32) c.args.x _ _ _ c.well_formed.0.1 (sqrt-fits binary32 c.args.x)
-    c.word_of_f32.ensures c.root_word.ensures c.f32_of_word.ensures
+    c.word.ensures c.root_word.ensures c.of_word.ensures

@@ -8,4 +8,4 @@ use Rattle.floats.proofs.sqrt.sqrt64.Goals as goal
 pub returns : goal.returns
 returns c =
     through-words binary64 binary64 (sqrt binary64) c.args.x _ _ _ c.well_formed.0.1 (sqrt-fits binary64 c.args.x)
-    c.word_of_f64.ensures c.sqrt64_word.ensures c.f64_of_word.ensures
+    c.word.ensures c.sqrt64_word.ensures c.of_word.ensures
