@@ -1,1 +1,2 @@
 pub mod Saturated
+pub mod RootWords

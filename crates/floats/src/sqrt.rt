@@ -16,12 +16,14 @@ use words::floats::Float;
 pub trait Root: Float {
     // The word of the root.
     fn root_word(self) -> Self::Word
-        ensures { of_bits Self.format (Self.number result) ≡ rooted Self.format (Self.value self) };
+        ensures word { Self.number result ≡ to_bits Self.format (rooted Self.format (Self.value self)) }
+        ensures read { of_bits Self.format (Self.number result) ≡ rooted Self.format (Self.value self) };
 }
 
 impl Root for f32 {
     fn root_word(self) -> u32
-        ensures { of_bits binary32 result ≡ rooted binary32 self }
+        ensures word { result ≡ to_bits binary32 (rooted binary32 self) }
+        ensures read { of_bits binary32 result ≡ rooted binary32 self }
     {
         root_word(self.word())
     }
@@ -29,7 +31,8 @@ impl Root for f32 {
 
 impl Root for f64 {
     fn root_word(self) -> u64
-        ensures { of_bits binary64 result ≡ rooted binary64 self }
+        ensures word { result ≡ to_bits binary64 (rooted binary64 self) }
+        ensures read { of_bits binary64 result ≡ rooted binary64 self }
     {
         sqrt64_word(self.word())
     }
