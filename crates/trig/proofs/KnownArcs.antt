@@ -35,7 +35,8 @@ acos-zero = refl
 
 -- a quarter turn's cosine as it is rounded
 pub acos-quarter : of_bits binary32 0x3fc9_0fdb ≡ acos (of_bits binary32 0xb33b_bd2e)
-unfolding of_bits to_bits of_int span climb size odd units round neg sum add sub mul div lt eq le fabs narrow turns arc_step
+unfolding of_bits to_bits of_int span climb size odd units round neg sum add sub mul div lt eq le fabs narrow turns
+    arc_step
     arc acos
 acos-quarter = refl
 

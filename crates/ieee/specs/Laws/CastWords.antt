@@ -1,7 +1,10 @@
 -- The saturating casts of an f32: by its bit pattern, over the integer's width, which is 25 at least where the word's
 -- digits are shifted; and a cast to fewer bits from one to more. Assumes nothing.
 use Rattle.std.specs.Prelude.{ℕ, suc, ◌+◌, ◌-◌, ◌*◌, ◌/◌, ◌%◌, ◌^◌, ◌≤◌, ◌<◌, min, ◌≡◌, true, false, ◌⊎◌, Float}
-use Rattle.std.proofs.Common.{zero-le, sym, ◌∙◌, ap, inl, inr, mul_assoc, mul_comm, mod-eq_of_lt, eq-or-lt_of_le, lt_of_lt_of_le, lt_of_le_of_lt, le_trans, le_of_eq, le_of_lt, mul-div_cancel, div-le_self, le-div_iff_mul-le, mul-lt-mul_of_pos_right, mul-le-mul_left, sub-le, arith, lit<, lit≤, pow_pos, pow-add, pow_mono}
+use Rattle.std.proofs.Common.{zero-le, sym, ◌∙◌, ap, inl, inr, mul_assoc, mul_comm, mod-eq_of_lt, eq-or-lt_of_le}
+use Rattle.std.proofs.Common.{lt_of_lt_of_le, lt_of_le_of_lt, le_trans, le_of_eq, le_of_lt, mul-div_cancel}
+use Rattle.std.proofs.Common.{div-le_self, le-div_iff_mul-le, mul-lt-mul_of_pos_right, mul-le-mul_left, sub-le, arith}
+use Rattle.std.proofs.Common.{lit<, lit≤, pow_pos, pow-add, pow_mono}
 use Rattle.std.proofs.Math.Path.{refl}
 use Rattle.std.proofs.Math.Nat.{div-eq_of_lt, mul-div-mul_right, zero-min, min-eq_left, min-eq_right}
 use Rattle.std.proofs.Math.Pow.{le_ones}

@@ -2,7 +2,9 @@
 -- no cast; ceil's is n + 1 where n lies below the value, else n; round's is n + 1 where n and a half is at most the
 -- value, else n. Assumes nothing.
 use Rattle.std.specs.Prelude.{ℕ, suc, ◌+◌, ◌*◌, ◌-◌, ◌/◌, ◌^◌, ◌≤◌, ◌<◌, min, ◌≡◌, refl, ◌↔◌, ◌⊎◌, ℤ, pos}
-use Rattle.std.proofs.Common.{zero-le, sym, ◌∙◌, inl, inr, le_trans, le_of_eq, le_of_mul-le-mul_right, mul-le-mul_right, mul-pos, div-add-mod', mod-lt, lt_of_lt_of_le, lt_of_not-le, arith, lit<, lit≤, ltb→lt, lt→ltb, pow_pos, pow_mono, shl_lt}
+use Rattle.std.proofs.Common.{zero-le, sym, ◌∙◌, inl, inr, le_trans, le_of_eq, le_of_mul-le-mul_right}
+use Rattle.std.proofs.Common.{mul-le-mul_right, mul-pos, div-add-mod', mod-lt, lt_of_lt_of_le, lt_of_not-le, arith}
+use Rattle.std.proofs.Common.{lit<, lit≤, ltb→lt, lt→ltb, pow_pos, pow_mono, shl_lt}
 use Rattle.std.proofs.Math.Path.{ap, subst}
 use mathlib.Core.Bool.{Bool, true, false, cond}
 use Rattle.std.proofs.Math.Nat.{lt_of_mul-lt-mul_right, mul-lt-mul_of_pos_right, eq_of_mul-eq-mul_right}
@@ -279,7 +281,9 @@ module _ (w : ℕ) (x : Float) (F : T (fits binary32 x)) (n : ℕ) (is : n ≡ t
       value = and-half n few
 
       past : (m : ℕ) (e : ℤ) → T (fits binary32 (fin false m e)) → n * down e ≤ m * up e → m * up e < suc n * down e
-          → (b : Bool) → le v (fin false m e) ≡ b → to_unsigned w (round_away binary32 (fin false m e)) ≡ cond b (n + 1) n
+          → (b : Bool) → le v (fin false m e) ≡ b
+              → to_unsigned w (round_away binary32 (fin false m e)) ≡ cond b
+                  (n + 1) n
       past m e F lo hi true k =
           let l = (le-value v (2 * n + 1) 2 m e (lit< tt) value).0 (subst T (sym k) tt) in
           whole_cast w (round_away binary32 (fin false m e)) (half_up m e) (round_away-value binary32 false m e F)

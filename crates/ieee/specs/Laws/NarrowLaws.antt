@@ -1,6 +1,10 @@
 -- Narrowing by cases of the magnitude's bit pattern: which digits go, and the pattern of what is kept. Assumes nothing.
-use Rattle.std.specs.Prelude.{ℕ, suc, ◌+◌, ◌-◌, ◌*◌, ◌/◌, ◌%◌, ◌^◌, ◌≤◌, ◌<◌, min, ◌≡◌, refl, Bool, cond, ◌≢◌, ◌⊎◌, T, leb, Float}
-use Rattle.std.proofs.Common.{sym, ◌∙◌, ap, subst, inl, inr, zero-add, eq-or-lt_of_le, add-zero, mul-le-mul_left, mul_assoc, mul_comm, mul-one, mul_right_comm, le-div_iff_mul-le, div-lt_iff_lt-mul, mul-le-mul_right, mul-lt-mul_of_pos_right, lt_of_lt_of_le, lt_of_le_of_lt, le_trans, le_of_eq, sub-eq-zero_of_le, mul-pos, arith, lit<, lit≤, pow_pos, pow_mono, pow-add}
+use Rattle.std.specs.Prelude.{ℕ, suc, ◌+◌, ◌-◌, ◌*◌, ◌/◌, ◌%◌, ◌^◌, ◌≤◌, ◌<◌, min, ◌≡◌, refl, Bool, cond, ◌≢◌, ◌⊎◌, T}
+use Rattle.std.specs.Prelude.{leb, Float}
+use Rattle.std.proofs.Common.{sym, ◌∙◌, ap, subst, inl, inr, zero-add, eq-or-lt_of_le, add-zero, mul-le-mul_left}
+use Rattle.std.proofs.Common.{mul_assoc, mul_comm, mul-one, mul_right_comm, le-div_iff_mul-le, div-lt_iff_lt-mul}
+use Rattle.std.proofs.Common.{mul-le-mul_right, mul-lt-mul_of_pos_right, lt_of_lt_of_le, lt_of_le_of_lt, le_trans}
+use Rattle.std.proofs.Common.{le_of_eq, sub-eq-zero_of_le, mul-pos, arith, lit<, lit≤, pow_pos, pow_mono, pow-add}
 use Rattle.std.proofs.Math.Nat.{mul-div-mul_right, min-eq_left, min-eq_right}
 use Rattle.std.specs.Float.{binary32, binary64, nan, inf, fin}
 use Rattle.std.specs.Float.Ieee.{hid, ones, top, up, down, size, of_bits, to_bits, round, fits}

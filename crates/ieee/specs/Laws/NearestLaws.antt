@@ -4,7 +4,11 @@
 -- middle, the result's bit pattern is even. Over the format. Assumes nothing.
 use Prim.Native.Nat.{ℕ, zero, suc, ◌+◌, ◌-◌, ◌*◌, ◌/◌, ◌%◌, ◌^◌, ◌≤◌, ◌<◌, min, compare, Ordering}
 use Rattle.std.specs.Prelude.{◌≡◌, refl, Bool, false, ◌&&◌, ◌≢◌, ◌⊎◌, ℤ, pos, negsuc, T, ltb, leb, eqb, Float}
-use Rattle.std.proofs.Common.{sym, ◌∙◌, ap, subst, inl, inr, le_trans, le_of_eq, le_of_lt, le_of_suc-le-suc, lt_of_lt_of_le, lt_of_le_of_lt, lt_of_not-le, not-le_of_lt, eq-zero-or-pos, mul-one, one-mul, zero-mul, mul_assoc, mul_comm, mul_left_comm, mul-pos, mul-le-mul_right, mul-lt-mul_of_pos_right, lt_of_mul-lt-mul_right, div-add-mod', le-div_iff_mul-le, mod-lt, arith, ltb→lt, leb→le, eqb→eq, pow_pos, pow-add}
+use Rattle.std.proofs.Common.{sym, ◌∙◌, ap, subst, inl, inr, le_trans, le_of_eq, le_of_lt, le_of_suc-le-suc}
+use Rattle.std.proofs.Common.{lt_of_lt_of_le, lt_of_le_of_lt, lt_of_not-le, not-le_of_lt, eq-zero-or-pos, mul-one}
+use Rattle.std.proofs.Common.{one-mul, zero-mul, mul_assoc, mul_comm, mul_left_comm, mul-pos, mul-le-mul_right}
+use Rattle.std.proofs.Common.{mul-lt-mul_of_pos_right, lt_of_mul-lt-mul_right, div-add-mod', le-div_iff_mul-le}
+use Rattle.std.proofs.Common.{mod-lt, arith, ltb→lt, leb→le, eqb→eq, pow_pos, pow-add}
 use Rattle.std.proofs.Math.Nat.{lt_of_mul-lt-mul_left, eq_of_mul-eq-mul_right, pow-succ', div-div-eq-div-mul}
 use Rattle.std.proofs.Math.Decide.{dec_le}
 use Rattle.std.proofs.Math.Arith.{lt_of_le-ne}

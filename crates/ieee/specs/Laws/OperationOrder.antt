@@ -1,10 +1,12 @@
 -- How sums, differences, products and quotients keep the order of floats, over the format but for the last lemma.
 -- Assumes nothing.
-use Rattle.std.specs.Prelude.{ℕ, ◌+◌, ◌*◌, ◌≤◌, ◌<◌, ◌≡◌, refl, Bool, true, false, not, ◌&&◌, ◌||◌, cond, ◌⊎◌, T, eqb, ℤ, pos, Float}
+use Rattle.std.specs.Prelude.{ℕ, ◌+◌, ◌*◌, ◌≤◌, ◌<◌, ◌≡◌, refl, Bool, true, false, not, ◌&&◌, ◌||◌, cond, ◌⊎◌, T, eqb}
+use Rattle.std.specs.Prelude.{ℤ, pos, Float}
 use Rattle.std.proofs.Common.{zero-le, sym, ◌∙◌, ap, subst, inl, inr, arith, eqb→eq, ltb→lt, lt→ltb, le-ltb, ne_eqb}
 use native.Mathlib.Nat.{mul-pos, mul_comm, mul-le-mul, mul-one, eq-zero-or-pos, zero-mul, mul-le-mul_right}
 use Rattle.std.specs.Float.{Format, nan, inf, fin}
-use Rattle.std.specs.Float.Ieee.{binary32, unlike, up, down, round, sum, neg, add, sub, mul, div, lt, le, fits, is_nan, of_bits}
+use Rattle.std.specs.Float.Ieee.{binary32, unlike, up, down, round, sum, neg, add, sub, mul, div, lt, le, fits}
+use Rattle.std.specs.Float.Ieee.{is_nan, of_bits}
 use Rattle.std.specs.Float.Ieee.Fits.{up_pos, down_pos, and_l, and_r}
 use Rattle.std.specs.Float.Ieee.Scale.{finite}
 use Rattle.std.specs.Float.Ieee.Positive.{num, den, den_pos, positive}
@@ -33,7 +35,8 @@ cross (inf s) y p q a b h = absurd a
 cross (fin s m e) nan p q a b h = absurd b
 cross (fin s m e) (inf t) p q a b h = absurd b
 cross (fin s m e) (fin t n d) p q a b h =
-    omega (arith, (le-sizes s (m * up e * down d) t (n * up d * down e)).0 h, own s m e (down d) p, own t n d (down e) q)
+    omega (arith, (le-sizes s (m * up e * down d) t (n * up d * down e)).0 h, own s m e (down d) p,
+        own t n d (down e) q)
 
 add_rounds : (f : Format) (x y : Float) → T (nonneg x) → T (nonneg y) → T (finite x) → T (finite y)
     → Rounds f (add f x y) (num x * den y + num y * den x) (den x * den y)

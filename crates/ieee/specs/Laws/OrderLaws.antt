@@ -1,7 +1,10 @@
 -- The order of floats: `le` and `lt` compare by value, so -0 equals +0, and a NaN is in no order. `nonneg` is "not
 -- below zero" by value, so -0 counts. Assumes nothing.
-use Rattle.std.specs.Prelude.{ℕ, ◌+◌, ◌*◌, ◌≤◌, ◌<◌, ◌≡◌, refl, Bool, true, false, not, ◌&&◌, ◌||◌, cond, ◌⊎◌, ◌↔◌, T, ltb, eqb, ℤ, pos, Float}
-use Rattle.std.proofs.Common.{zero-le, sym, ap, inl, inr, le_of_lt, le_of_eq, mul-pos, eq-or-lt_of_le, eq-zero-or-pos, lt_of_not-le, zero-mul, le_of_mul-le-mul_right, mul-le-mul_right, arith, eqb→eq, ltb→lt, lt→ltb, T_not}
+use Rattle.std.specs.Prelude.{ℕ, ◌+◌, ◌*◌, ◌≤◌, ◌<◌, ◌≡◌, refl, Bool, true, false, not, ◌&&◌, ◌||◌, cond, ◌⊎◌, ◌↔◌, T}
+use Rattle.std.specs.Prelude.{ltb, eqb, ℤ, pos, Float}
+use Rattle.std.proofs.Common.{zero-le, sym, ap, inl, inr, le_of_lt, le_of_eq, mul-pos, eq-or-lt_of_le, eq-zero-or-pos}
+use Rattle.std.proofs.Common.{lt_of_not-le, zero-mul, le_of_mul-le-mul_right, mul-le-mul_right, arith, eqb→eq, ltb→lt}
+use Rattle.std.proofs.Common.{lt→ltb, T_not}
 use Rattle.std.proofs.Math.Decide.{dec_le}
 use Rattle.std.proofs.Math.Dec.{not_T}
 use Rattle.std.specs.Float.{nan, inf, fin}
@@ -255,7 +258,9 @@ unfolding le
 nonneg→le nan h = h
 nonneg→le (inf true) h = h
 nonneg→le (inf false) h = tt
-nonneg→le (fin true m e) h = (le-fin false 0 (pos 0) true m e).1 (omega (arith, ap (λ (z : ℕ). z * up e) (eqb→eq m 0 h)))
+nonneg→le (fin true m e) h = (le-fin false 0 (pos 0) true m e).1 (omega (arith,
+    ap (λ (z : ℕ). z * up e)
+        (eqb→eq m 0 h)))
 nonneg→le (fin false m e) h = (le-fin false 0 (pos 0) false m e).1 (omega arith)
 
 pub le→nonneg : (x : Float) → T (le (fin false 0 (pos 0)) x) → T (nonneg x)

@@ -1,12 +1,21 @@
 -- Bit patterns without their sign. `magnitude f a` is what the pattern a stands for, in units of the format's smallest
 -- value 2 ^ -low, and a finite value of u units has the pattern `pattern f u`. Over the format. Assumes nothing.
-use Rattle.std.specs.Prelude.{ℕ, zero, suc, ◌+◌, ◌-◌, ◌*◌, ◌/◌, ◌%◌, ◌^◌, ◌≤◌, ◌<◌, ◌≡◌, refl, Bool, true, false, cond, ◌≢◌, ◌⊎◌, T, ltb, leb, Float}
-use Rattle.std.proofs.Common.{sym, ◌∙◌, ap, subst, inl, inr, mod-eq_of_lt, mul-one, one-mul, mul-div_cancel, le-div_iff_mul-le, lt_irrefl, lt_of_not-le, not-le_of_lt, le_refl, le_of_lt, le_antisymm, eq-or-lt_of_le, lt_of_le_of_lt, le_of_suc-le-suc, zero-lt-suc, add_assoc, sub-eq-zero_of_le, mul-le-mul_right, mul_left_comm, mul_right_comm, mul_assoc, mul-le-mul_left, mod-lt, div-lt_iff_lt-mul, lt_of_lt_of_le, mul-lt-mul_of_pos_right, le_trans, le_of_eq, mul-le-mul, le-add_right, mul-pos, zero-mul, arith, lit<, one-add, add-one, pow_pos, pow_mono, pow-add, shl_lt, shl_exact, lt-ltb, le-ltb, le-leb, eq-eqb, ne_eqb}
+use Rattle.std.specs.Prelude.{ℕ, zero, suc, ◌+◌, ◌-◌, ◌*◌, ◌/◌, ◌%◌, ◌^◌, ◌≤◌, ◌<◌, ◌≡◌, refl, Bool, true, false}
+use Rattle.std.specs.Prelude.{cond, ◌≢◌, ◌⊎◌, T, ltb, leb, Float}
+use Rattle.std.proofs.Common.{sym, ◌∙◌, ap, subst, inl, inr, mod-eq_of_lt, mul-one, one-mul, mul-div_cancel}
+use Rattle.std.proofs.Common.{le-div_iff_mul-le, lt_irrefl, lt_of_not-le, not-le_of_lt, le_refl, le_of_lt}
+use Rattle.std.proofs.Common.{le_antisymm, eq-or-lt_of_le, lt_of_le_of_lt, le_of_suc-le-suc, zero-lt-suc, add_assoc}
+use Rattle.std.proofs.Common.{sub-eq-zero_of_le, mul-le-mul_right, mul_left_comm, mul_right_comm, mul_assoc}
+use Rattle.std.proofs.Common.{mul-le-mul_left, mod-lt, div-lt_iff_lt-mul, lt_of_lt_of_le, mul-lt-mul_of_pos_right}
+use Rattle.std.proofs.Common.{le_trans, le_of_eq, mul-le-mul, le-add_right, mul-pos, zero-mul, arith, lit<, one-add}
+use Rattle.std.proofs.Common.{add-one, pow_pos, pow_mono, pow-add, shl_lt, shl_exact, lt-ltb, le-ltb, le-leb, eq-eqb}
+use Rattle.std.proofs.Common.{ne_eqb}
 use Rattle.std.proofs.Math.Nat.{mod-mod_of_dvd, dvd-mul_right, pow-succ', mul-mod_left, div-eq_of_lt-le, div-eq_of_lt}
 use Rattle.std.proofs.Math.Decide.{dec_le}
 use Rattle.std.proofs.Math.Pow.{pow-lt}
 use Rattle.std.specs.Float.{Format, binary32, binary64, nan, inf, fin}
-use Rattle.std.specs.Float.Ieee.{prec, emax, low, hid, ones, top, up, down, size, of_bits, of_fields, to_bits, odd, round, fits}
+use Rattle.std.specs.Float.Ieee.{prec, emax, low, hid, ones, top, up, down, size, of_bits, of_fields, to_bits, odd}
+use Rattle.std.specs.Float.Ieee.{round, fits}
 use Rattle.std.specs.Float.Ieee.Digits.{size-lt, size-le}
 use Rattle.std.specs.Float.Ieee.Bits.{of_bits-to_bits, of_bits-fits}
 use Rattle.std.specs.Float.Ieee.Exact.{HasValue, odd_sign, round_exact}
@@ -293,7 +302,9 @@ exactly f s a h = go (dec_le (hid f) a)
 pub same-value : (f : Format) (v y : Float) (s : Bool) (a c : ℕ) → 0 < c → T (fits f v) → T (fits f y) →
     HasValue v s a c → HasValue y s a c → v ≡ y
 same-value f v y s a c C p q h k =
-    sym (of_bits-to_bits f v p) ∙ ap (of_bits f) (to_bits_fraction f v s a c C h ∙ sym (to_bits_fraction f y s a c C k)) ∙
+    sym (of_bits-to_bits f v p) ∙ ap (of_bits f) (to_bits_fraction f v s a c C h
+        ∙ sym (to_bits_fraction f y s a c C k))
+            ∙
     of_bits-to_bits f y q
 
 pub round_decoded : (f : Format) (w : ℕ) → w % top f < ones f * hid f →
@@ -301,6 +312,7 @@ pub round_decoded : (f : Format) (w : ℕ) → w % top f < ones f * hid f →
 round_decoded f w h =
     let s = leb (top f) w in
     let u = magnitude f (w % top f) in
-    same-value f (round f s u (2 ^ low f)) (of_bits f w) s u (2 ^ low f) (pow_pos (low f)) (round-fits f s u (2 ^ low f))
+    same-value f (round f s u (2 ^ low f)) (of_bits f w) s u (2 ^ low f) (pow_pos (low f)) (round-fits f s u
+        (2 ^ low f))
     (of_bits-fits f w)
     (exactly f s (w % top f) h) (decode f w (field_of f (w % top f) h))

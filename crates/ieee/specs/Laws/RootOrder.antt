@@ -4,12 +4,14 @@
 -- much lies from 0 to 1 (`share-any`). Assumes nothing.
 use Rattle.std.specs.Prelude.{ℕ, zero, suc, ◌+◌, ◌*◌, ◌^◌, ◌≤◌, ◌<◌, ◌≡◌, ◌⊎◌, ℤ, pos, negsuc, Float}
 use Rattle.std.proofs.Math.Path.{refl, subst}
-use Rattle.std.proofs.Common.{sym, ◌∙◌, ap, zero-mul, mul-pos, mul-le-mul, mul-le-mul_right, lt_of_not-le, le_of_lt, le_of_mul-le-mul_right, arith, eqb→eq, ltb→lt, ne_eqb, pow_pos}
+use Rattle.std.proofs.Common.{sym, ◌∙◌, ap, zero-mul, mul-pos, mul-le-mul, mul-le-mul_right, lt_of_not-le, le_of_lt}
+use Rattle.std.proofs.Common.{le_of_mul-le-mul_right, arith, eqb→eq, ltb→lt, ne_eqb, pow_pos}
 use mathlib.Core.Bool.{Bool, true, false, not}
 use Rattle.std.proofs.Math.Logic.{inl, inr}
 use Rattle.std.proofs.Math.Dec.{T, not_T}
 use Rattle.std.specs.Float.{Format, nan, inf, fin}
-use Rattle.std.specs.Float.Ieee.{binary32, low, up, down, round, add, sub, mul, div, lt, le, fits, is_nan, of_bits, eq, neg}
+use Rattle.std.specs.Float.Ieee.{binary32, low, up, down, round, add, sub, mul, div, lt, le, fits, is_nan, of_bits}
+use Rattle.std.specs.Float.Ieee.{eq, neg}
 use Rattle.std.specs.Float.Ieee.Bits.{is_false, of_bits-fits}
 use Rattle.std.specs.Float.Ieee.Exact.{HasValue}
 use Rattle.std.specs.Float.Ieee.Fits.{up_pos, down_pos}

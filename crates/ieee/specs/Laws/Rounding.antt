@@ -5,9 +5,15 @@ use Prim.Native.Nat.{ℕ, zero, suc, ◌+◌, ◌-◌, ◌*◌, ◌/◌, ◌%◌
 use Prim.Native.Nat.{◌≤◌, ◌<◌, min, compare, Ordering}
 use Rattle.std.specs.Prelude.{◌≡◌, refl, Bool, not, ◌⊎◌, T, ltb, eqb}
 use Rattle.std.proofs.Math.Path.{sym, ap, subst}
-use Rattle.std.proofs.Common.{◌∙◌, inl, inr, le_trans, le_of_eq, lt_of_le_of_lt, eq-or-lt_of_le, eq-zero-or-pos, le-div_iff_mul-le, mul-le-mul_right, mul_assoc, mul_comm, mul_left_comm, zero-mul, mul-lt-mul_of_pos_right, div-add-mod', mod-lt, div-lt_iff_lt-mul, mod-eq_of_lt, add-zero, add-suc, mul-pos, add-one, eq-eqb, ne_eqb, arith, ltb→lt, nltb→le, lit<, lit≤, leb→le, eqb→eq, pow_pos, pow-add}
+use Rattle.std.proofs.Common.{◌∙◌, inl, inr, le_trans, le_of_eq, lt_of_le_of_lt, eq-or-lt_of_le, eq-zero-or-pos}
+use Rattle.std.proofs.Common.{le-div_iff_mul-le, mul-le-mul_right, mul_assoc, mul_comm, mul_left_comm, zero-mul}
+use Rattle.std.proofs.Common.{mul-lt-mul_of_pos_right, div-add-mod', mod-lt, div-lt_iff_lt-mul, mod-eq_of_lt}
+use Rattle.std.proofs.Common.{add-zero, add-suc, mul-pos, add-one, eq-eqb, ne_eqb, arith, ltb→lt, nltb→le, lit<, lit≤}
+use Rattle.std.proofs.Common.{leb→le, eqb→eq, pow_pos, pow-add}
 use Rattle.std.proofs.Math.Bool.{true, false, cond}
-use Rattle.std.proofs.Math.Nat.{div-div-eq-div-mul, le_of_mul-le-mul_left, lt_of_mul-lt-mul_left, min-eq_left, min-eq_right, pow-succ', mul-add-div_right, mul-add-mod_self_right, div-eq_of_lt-le, div-eq_of_lt}
+use Rattle.std.proofs.Math.Nat.{div-div-eq-div-mul, le_of_mul-le-mul_left, lt_of_mul-lt-mul_left, min-eq_left}
+use Rattle.std.proofs.Math.Nat.{min-eq_right, pow-succ', mul-add-div_right, mul-add-mod_self_right, div-eq_of_lt-le}
+use Rattle.std.proofs.Math.Nat.{div-eq_of_lt}
 use Rattle.std.proofs.Math.Arith.{lt_of_le-ne, mod-mul}
 use Rattle.std.proofs.Math.Dec.{is_le, compare_is_eq, nleb→lt}
 use Rattle.std.specs.Float.{Format, binary32, binary64, inf}

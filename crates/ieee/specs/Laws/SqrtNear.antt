@@ -1,7 +1,8 @@
 -- The whole number nearest to the root of n / 64, by squares. The root of n has three digits more than that number, and
 -- what it leaves over counts as half a digit more (`sticky`): q is what a rounding of four digits keeps where n lies
 -- between the squares of 8 q - 4 and 8 q + 4. Assumes nothing.
-use Rattle.std.specs.Prelude.{ℕ, zero, suc, ◌+◌, ◌*◌, ◌^◌, ◌≤◌, ◌<◌, ◌≡◌, refl, Bool, true, false, cond, ◌&&◌, T, eqb, ltb}
+use Rattle.std.specs.Prelude.{ℕ, zero, suc, ◌+◌, ◌*◌, ◌^◌, ◌≤◌, ◌<◌, ◌≡◌, refl, Bool, true, false, cond, ◌&&◌, T, eqb}
+use Rattle.std.specs.Prelude.{ltb}
 use Rattle.std.proofs.Common.{sym, ◌∙◌, subst, le_of_lt, arith, lit≤, ltb→lt, eqb-true}
 use Rattle.std.specs.Float.Ieee.Fits.{and_l, and_r}
 use Rattle.std.specs.Float.Ieee.Nearest.{closest}

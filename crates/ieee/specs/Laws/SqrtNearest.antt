@@ -1,8 +1,12 @@
 -- The square root of Sqrt.antt is a nearest value of the format to the root, ties to even. In units of the format's
 -- smallest value 2 ^ -low, the root of u units is the root of the whole number u * 2 ^ low, so it is compared by
 -- squares. Over the format. Assumes nothing.
-use Rattle.std.specs.Prelude.{ℕ, zero, suc, ◌+◌, ◌*◌, ◌/◌, ◌%◌, ◌^◌, ◌≤◌, ◌<◌, ◌≡◌, refl, Bool, true, cond, ◌≢◌, ℤ, pos, T, eqb, Float}
-use Rattle.std.proofs.Common.{sym, ◌∙◌, ap, subst, true≢false, le_trans, le_of_eq, pos_of_ne-zero, one-mul, le_of_lt, lt_of_lt_of_le, lt_of_le_of_lt, lt_of_not-le, mul-one, zero-mul, mul-pos, mul-le-mul, mul-le-mul_right, mul-lt-mul_of_pos_right, le_of_mul-le-mul_right, mul-div_cancel, arith, lit≤, pow_pos, eq-eqb, eqb-true}
+use Rattle.std.specs.Prelude.{ℕ, zero, suc, ◌+◌, ◌*◌, ◌/◌, ◌%◌, ◌^◌, ◌≤◌, ◌<◌, ◌≡◌, refl, Bool, true, cond, ◌≢◌, ℤ}
+use Rattle.std.specs.Prelude.{pos, T, eqb, Float}
+use Rattle.std.proofs.Common.{sym, ◌∙◌, ap, subst, true≢false, le_trans, le_of_eq, pos_of_ne-zero, one-mul, le_of_lt}
+use Rattle.std.proofs.Common.{lt_of_lt_of_le, lt_of_le_of_lt, lt_of_not-le, mul-one, zero-mul, mul-pos, mul-le-mul}
+use Rattle.std.proofs.Common.{mul-le-mul_right, mul-lt-mul_of_pos_right, le_of_mul-le-mul_right, mul-div_cancel}
+use Rattle.std.proofs.Common.{arith, lit≤, pow_pos, eq-eqb, eqb-true}
 use Rattle.std.proofs.Math.Bool.{false}
 use Rattle.std.proofs.Math.Nat.{eq_of_mul-eq-mul_right, pow-succ'}
 use Rattle.std.proofs.Math.Decide.{dec_le}

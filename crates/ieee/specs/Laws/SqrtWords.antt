@@ -19,7 +19,8 @@ use Rattle.std.proofs.Math.Dec.{T, eqb}
 use Rattle.std.specs.Int.Count.{count_leading_zeros}
 use Rattle.std.proofs.lemmas.Nat.{leading_top}
 use Rattle.std.specs.Float.{Format}
-use Rattle.std.specs.Float.Ieee.{nan, inf, fin, prec, low, hid, ones, top, up, down, size, odd, of_bits, of_fields, to_bits, is_nan}
+use Rattle.std.specs.Float.Ieee.{nan, inf, fin, prec, low, hid, ones, top, up, down, size, odd, of_bits, of_fields}
+use Rattle.std.specs.Float.Ieee.{to_bits, is_nan}
 use Rattle.std.specs.Float.Ieee.Bits.{to_bits-of_bits}
 use Rattle.std.specs.Float.Ieee.Exact.{HasValue}
 use Rattle.std.specs.Float.Ieee.Fits.{down_pos, two}
@@ -428,7 +429,8 @@ module _ (f : Format) (w : ℕ) (W : w < 2 * top f) where
       let x : w % top f / hid f ≡ 0 = ap (λ (k : ℕ). k / hid f) z ∙ zero-div (hid f) in
       let t : w % hid f ≡ 0 = sym (mod-mod_of_dvd (hid f) w (dvd-mul_right (hid f) (suc (ones f)))) ∙
       ap (λ (k : ℕ). k % hid f) z ∙ zero-mod (hid f) in
-      let v : of_bits f w ≡ fin (leb (top f) w) 0 (pos 0) = ap (λ (k : ℕ). of_fields f (leb (top f) w) k (w % hid f)) x ∙
+      let v : of_bits f w ≡ fin (leb (top f) w) 0 (pos 0) = ap (λ (k : ℕ). of_fields f (leb (top f) w) k
+          (w % hid f)) x ∙
       ap (of_fields f (leb (top f) w) 0) t in
       sym (ap (λ (y : Float). to_bits f (sqrt f y)) v ∙ ap (to_bits f) (sym v)
       ∙ to_bits-of_bits f w W (subst (λ (y : Float). T (not (is_nan y))) (sym v) (unfold is_nan in tt)))
@@ -475,7 +477,8 @@ module _ (f : Format) (w : ℕ) (W : w < 2 * top f) where
       no_zero : (s : Bool) (e : ℤ) → of_bits f w ≡ fin s 0 e → ⊥
       no_zero s e v =
           let known : T (not (is_nan (of_bits f w))) = rw v (unfold is_nan in tt) in
-          n (ap (λ (k : ℕ). k % top f) (sym (to_bits-of_bits f w W known) ∙ ap (to_bits f) v ∙ zero_bits s e) ∙ remains s)
+          n (ap (λ (k : ℕ). k % top f) (sym (to_bits-of_bits f w W known) ∙ ap (to_bits f) v ∙ zero_bits s e)
+              ∙ remains s)
 
 module _ (f : Format) (w : ℕ) (n : w % top f ≢ 0) where
   finite-root : w < ones f * hid f → sqrt f (of_bits f w) ≡ root_of f (suc (low f)) (magnitude f w * 2 ^ (low f + 2))

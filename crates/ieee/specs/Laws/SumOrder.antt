@@ -5,13 +5,16 @@
 -- Assumes nothing.
 use Rattle.std.specs.Prelude.{ℕ, suc, ◌+◌, ◌*◌, ◌^◌, ◌-◌, ◌≤◌, ◌<◌, ◌≡◌, Bool, not, cond, ◌⊎◌, T, ltb, ℤ, pos, Float}
 use Rattle.std.proofs.Math.Path.{refl, subst}
-use Rattle.std.proofs.Common.{ap, sym, inl, inr, add-le-add, le_trans as le_then, le_of_eq, mul_comm, lt_of_mul-lt-mul_right, lt_of_not-le, mul-le-mul_right, mul-lt-mul_of_pos_right, le_of_lt, lt-ltb, le-ltb, nltb→le, pow_pos}
+use Rattle.std.proofs.Common.{ap, sym, inl, inr, add-le-add, le_trans as le_then, le_of_eq, mul_comm}
+use Rattle.std.proofs.Common.{lt_of_mul-lt-mul_right, lt_of_not-le, mul-le-mul_right, mul-lt-mul_of_pos_right}
+use Rattle.std.proofs.Common.{le_of_lt, lt-ltb, le-ltb, nltb→le, pow_pos}
 use Rattle.std.proofs.Math.Bool.{true, false}
 use Rattle.std.proofs.Math.Nat.{mul-pos}
 use Rattle.std.proofs.Math.Decide.{dec_le}
 use native.Mathlib.Omega.{arith}
 use Rattle.std.proofs.Math.Dec.{ltb→lt}
-use Rattle.std.specs.Float.Ieee.{nan, low, up, down, size, span, climb, odd, units, round, neg, sum, add, sub, lt, le, eq, fits, is_nan}
+use Rattle.std.specs.Float.Ieee.{nan, low, up, down, size, span, climb, odd, units, round, neg, sum, add, sub, lt, le}
+use Rattle.std.specs.Float.Ieee.{eq, fits, is_nan}
 use Rattle.std.specs.Float.{inf, fin, Format, binary32, binary64}
 use Rattle.std.specs.Float.Ieee.Fits.{down_pos}
 use Rattle.std.specs.Float.Ieee.Order.{round_mono}
@@ -76,7 +79,9 @@ neg-le (fin s m e) (inf false) h = tt
 neg-le (fin true m e) (fin true n d) h = (le-fin true m e true n d).1 (omega (arith, (le-fin false n d false m e).0 h))
 neg-le (fin true m e) (fin false n d) h = (le-fin true m e false n d).1 (omega (arith, (le-fin true n d false m e).0 h))
 neg-le (fin false m e) (fin true n d) h = (le-fin false m e true n d).1 (omega (arith, (le-fin false n d true m e).0 h))
-neg-le (fin false m e) (fin false n d) h = (le-fin false m e false n d).1 (omega (arith, (le-fin true n d true m e).0 h))
+neg-le (fin false m e) (fin false n d) h = (le-fin false m e false n d).1 (omega (arith,
+    (le-fin true n d true m e).0
+        h))
 
 turn-back : (x : Float) → neg (neg x) ≡ x
 unfolding neg

@@ -1,12 +1,16 @@
 -- The functions of Whole.antt by units: of a value of u units of 1 / d the next whole number is (u + d - 1) / d away
 -- from zero and u / d toward it, and the nearest is (2 u + d) / (2 d). Assumes nothing.
-use Rattle.std.specs.Prelude.{ℕ, zero, suc, ◌+◌, ◌-◌, ◌*◌, ◌/◌, ◌%◌, ◌^◌, ◌≤◌, ◌<◌, min, ◌≡◌, refl, ◌⊎◌, T, leb, eqb, ℤ, Float}
-use Rattle.std.proofs.Common.{sym, ◌∙◌, ap, subst, inl, inr, mul_assoc, mul-one, zero-mul, mul-pos, mul_right_comm, div-add-mod', mod-lt, add-mul, eq-zero-or-pos, lt_irrefl, add-zero, mod-eq_of_lt, lt_of_not-le, arith, pow-add, eq-eqb, ne_eqb, le-leb}
+use Rattle.std.specs.Prelude.{ℕ, zero, suc, ◌+◌, ◌-◌, ◌*◌, ◌/◌, ◌%◌, ◌^◌, ◌≤◌, ◌<◌, min, ◌≡◌, refl, ◌⊎◌, T, leb, eqb}
+use Rattle.std.specs.Prelude.{ℤ, Float}
+use Rattle.std.proofs.Common.{sym, ◌∙◌, ap, subst, inl, inr, mul_assoc, mul-one, zero-mul, mul-pos, mul_right_comm}
+use Rattle.std.proofs.Common.{div-add-mod', mod-lt, add-mul, eq-zero-or-pos, lt_irrefl, add-zero, mod-eq_of_lt}
+use Rattle.std.proofs.Common.{lt_of_not-le, arith, pow-add, eq-eqb, ne_eqb, le-leb}
 use mathlib.Core.Bool.{Bool, true, false, cond, not}
 use Rattle.std.proofs.Math.Nat.{div-eq_of_lt-le}
 use Rattle.std.proofs.Math.Decide.{dec_le}
 use Rattle.std.specs.Float.{Format, nan, inf, fin}
-use Rattle.std.specs.Float.Ieee.{prec, low, hid, ones, top, up, down, odd, round, of_fields, of_bits, to_bits, to_unsigned, fits}
+use Rattle.std.specs.Float.Ieee.{prec, low, hid, ones, top, up, down, odd, round, of_fields, of_bits, to_bits}
+use Rattle.std.specs.Float.Ieee.{to_unsigned, fits}
 use Rattle.std.specs.Float.Ieee.Exact.{HasValue}
 use Rattle.std.specs.Float.Ieee.Back.{round_whole}
 use Rattle.std.specs.Float.Ieee.Fits.{down_pos, nan-fits, inf-fits, round-fits}

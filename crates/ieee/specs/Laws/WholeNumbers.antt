@@ -2,7 +2,9 @@
 -- is the fraction m * up e / down e, and the whole number that stands for it is a value of the format, so that rounding
 -- it changes nothing. Over the format. Assumes nothing.
 use Rattle.std.specs.Prelude.{ℕ, suc, ◌+◌, ◌*◌, ◌/◌, ◌%◌, ◌^◌, ◌≤◌, ◌<◌, ◌≡◌, Bool, cond, ◌⊎◌, ℤ, pos, negsuc, T, Float}
-use Rattle.std.proofs.Common.{subst, inl, inr, le_of_mul-le-mul_right, lt_of_mul-lt-mul_right, le_trans, le_of_lt, le_of_suc-le-suc, lt_of_not-le, mul-le-mul_left, mul-le-mul_right, mul-pos, eq-zero-or-pos, div-add-mod', mod-lt, arith, lit≤, pow_pos, eq-eqb, ne_eqb}
+use Rattle.std.proofs.Common.{subst, inl, inr, le_of_mul-le-mul_right, lt_of_mul-lt-mul_right, le_trans, le_of_lt}
+use Rattle.std.proofs.Common.{le_of_suc-le-suc, lt_of_not-le, mul-le-mul_left, mul-le-mul_right, mul-pos}
+use Rattle.std.proofs.Common.{eq-zero-or-pos, div-add-mod', mod-lt, arith, lit≤, pow_pos, eq-eqb, ne_eqb}
 use Rattle.std.proofs.Math.Bool.{true, false}
 use Rattle.std.specs.Float.{Format, fin}
 use Rattle.std.specs.Float.Ieee.{up, down, round, fits}
@@ -134,4 +136,5 @@ ceil-value f false m e F = next f false m e true F
 -- round is the whole number nearest to the value, and at a half the one away from zero
 pub round-value : (f : Format) (s : Bool) (m : ℕ) (e : ℤ) → T (fits f (fin s m e))
     → WholeNumber (Nearest m e) s (round_away f (fin s m e))
-round-value f s m e F = record { magnitude = half_up m e; value = round_away-value f s m e F; law = half_up-nearest m e }
+round-value f s m e F = record { magnitude = half_up m e; value = round_away-value f s m e F; law = half_up-nearest m
+    e }

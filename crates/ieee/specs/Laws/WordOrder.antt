@@ -1,7 +1,9 @@
 -- Words in order have values in order, from 0 up to the infinity's word: within one exponent the digits grow, and from
 -- one to the next the values double. Over the format. Assumes nothing.
 use Rattle.std.specs.Prelude.{ℕ, suc, ◌+◌, ◌-◌, ◌*◌, ◌/◌, ◌%◌, ◌^◌, ◌≤◌, ◌<◌, ◌≡◌, false, ◌⊎◌, T, ℤ, Float}
-use Rattle.std.proofs.Common.{sym, ◌∙◌, ap, subst, true≢false, inl, inr, le_trans as le_then, le_of_lt, lt_of_lt_of_le, lt_of_le_of_lt, lt_of_not-le, eq-or-lt_of_le, mod-lt, le_of_eq, mul-le-mul_right, mod-eq_of_lt, div-add-mod', arith, pow_pos}
+use Rattle.std.proofs.Common.{sym, ◌∙◌, ap, subst, true≢false, inl, inr, le_trans as le_then, le_of_lt}
+use Rattle.std.proofs.Common.{lt_of_lt_of_le, lt_of_le_of_lt, lt_of_not-le, eq-or-lt_of_le, mod-lt, le_of_eq}
+use Rattle.std.proofs.Common.{mul-le-mul_right, mod-eq_of_lt, div-add-mod', arith, pow_pos}
 use Rattle.std.proofs.Math.Nat.{div-eq_of_lt, div-eq_of_lt-le}
 use Rattle.std.proofs.Math.Decide.{dec_le}
 use Rattle.std.specs.Float.{Format, fin}

@@ -1,6 +1,7 @@
 -- What a lent slice holds after a call, word by word: the sentences of Tray's header. Assumes nothing.
 use Rattle.std.specs.Prelude.{ℕ, ◌-◌, ◌≤◌, ◌<◌, ◌≡◌, refl, Bool, cond, leb, take, replicate, get_or}
-use Rattle.std.proofs.Common.{ap, ◌∙◌, add-sub_of_le, arith, length-drop, take-append-drop, take_at, get_or-append-add, get_or-drop}
+use Rattle.std.proofs.Common.{ap, ◌∙◌, add-sub_of_le, arith, length-drop, take-append-drop, take_at}
+use Rattle.std.proofs.Common.{get_or-append-add, get_or-drop}
 use Rattle.std.proofs.Math.Path.{sym}
 use Rattle.std.proofs.Math.Bool.{true, false}
 use mathlib.Core.List.{List, ◌++◌, append-nil, append_assoc}
