@@ -282,8 +282,8 @@ module _ (w : ℕ) (x : Float) (F : T (fits binary32 x)) (n : ℕ) (is : n ≡ t
 
       past : (m : ℕ) (e : ℤ) → T (fits binary32 (fin false m e)) → n * down e ≤ m * up e → m * up e < suc n * down e
           → (b : Bool) → le v (fin false m e) ≡ b
-              → to_unsigned w (round_away binary32 (fin false m e)) ≡ cond b
-                  (n + 1) n
+          → to_unsigned w (round_away binary32 (fin false m e)) ≡ cond b
+          (n + 1) n
       past m e F lo hi true k =
           let l = (le-value v (2 * n + 1) 2 m e (lit< tt) value).0 (subst T (sym k) tt) in
           whole_cast w (round_away binary32 (fin false m e)) (half_up m e) (round_away-value binary32 false m e F)

@@ -22,8 +22,8 @@ only_nan (fin s m e) t = absurd t
 pub nan-bits : (f : Format) (w : ℕ) → ones f * hid f < w % top f → of_bits f w ≡ nan
 nan-bits f w h =
     only_nan (of_bits f w) (subst T (sym (nan_bits_above f w)
-        ∙ nan_bits_is f w) (lt→ltb (ones f * hid f)
-            (w % top f) h))
+    ∙ nan_bits_is f w) (lt→ltb (ones f * hid f)
+    (w % top f) h))
 
 -- a float that does not differ from itself, and one that does
 pub no_nan : (x : Float) → ne x x ≡ false → T (not (is_nan x))

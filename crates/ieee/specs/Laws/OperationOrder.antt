@@ -35,8 +35,12 @@ cross (inf s) y p q a b h = absurd a
 cross (fin s m e) nan p q a b h = absurd b
 cross (fin s m e) (inf t) p q a b h = absurd b
 cross (fin s m e) (fin t n d) p q a b h =
-    omega (arith, (le-sizes s (m * up e * down d) t (n * up d * down e)).0 h, own s m e (down d) p,
-        own t n d (down e) q)
+    omega (
+      arith,
+      (le-sizes s (m * up e * down d) t (n * up d * down e)).0 h,
+      own s m e (down d) p,
+      own t n d (down e) q,
+    )
 
 add_rounds : (f : Format) (x y : Float) → T (nonneg x) → T (nonneg y) → T (finite x) → T (finite y)
     → Rounds f (add f x y) (num x * den y + num y * den x) (den x * den y)

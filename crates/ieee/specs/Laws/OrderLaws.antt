@@ -258,9 +258,11 @@ unfolding le
 nonneg→le nan h = h
 nonneg→le (inf true) h = h
 nonneg→le (inf false) h = tt
-nonneg→le (fin true m e) h = (le-fin false 0 (pos 0) true m e).1 (omega (arith,
-    ap (λ (z : ℕ). z * up e)
-        (eqb→eq m 0 h)))
+nonneg→le (fin true m e) h = (le-fin false 0 (pos 0) true m e).1 (omega (
+  arith,
+  ap (λ (z : ℕ). z * up e)
+      (eqb→eq m 0 h),
+))
 nonneg→le (fin false m e) h = (le-fin false 0 (pos 0) false m e).1 (omega arith)
 
 pub le→nonneg : (x : Float) → T (le (fin false 0 (pos 0)) x) → T (nonneg x)

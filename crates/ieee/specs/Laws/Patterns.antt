@@ -303,8 +303,8 @@ pub same-value : (f : Format) (v y : Float) (s : Bool) (a c : ℕ) → 0 < c →
     HasValue v s a c → HasValue y s a c → v ≡ y
 same-value f v y s a c C p q h k =
     sym (of_bits-to_bits f v p) ∙ ap (of_bits f) (to_bits_fraction f v s a c C h
-        ∙ sym (to_bits_fraction f y s a c C k))
-            ∙
+    ∙ sym (to_bits_fraction f y s a c C k))
+    ∙
     of_bits-to_bits f y q
 
 pub round_decoded : (f : Format) (w : ℕ) → w % top f < ones f * hid f →
@@ -313,6 +313,6 @@ round_decoded f w h =
     let s = leb (top f) w in
     let u = magnitude f (w % top f) in
     same-value f (round f s u (2 ^ low f)) (of_bits f w) s u (2 ^ low f) (pow_pos (low f)) (round-fits f s u
-        (2 ^ low f))
+    (2 ^ low f))
     (of_bits-fits f w)
     (exactly f s (w % top f) h) (decode f w (field_of f (w % top f) h))

@@ -91,9 +91,11 @@ abs-le (fin true m e) h =
       (le-fin false m e true m e).1
           (omega (arith, ap (λ (k : ℕ). k * down e) z)),
     )
-abs-le (fin false m e) h = (le_refl (fin false m e) (unfold is_nan in tt),
-    le_refl (fin false m e) (unfold is_nan in
-        tt))
+abs-le (fin false m e) h = (
+  le_refl (fin false m e) (unfold is_nan in tt),
+  le_refl (fin false m e) (unfold is_nan in
+      tt),
+)
 
 pub le-rounds : (f : Format) (x y : Float) (a b c d : ℕ) → 0 < b → 0 < d → Rounds f x a b → Rounds f y c d
     → a * d ≤ c * b → T (le x y)

@@ -430,7 +430,7 @@ module _ (f : Format) (w : ℕ) (W : w < 2 * top f) where
       let t : w % hid f ≡ 0 = sym (mod-mod_of_dvd (hid f) w (dvd-mul_right (hid f) (suc (ones f)))) ∙
       ap (λ (k : ℕ). k % hid f) z ∙ zero-mod (hid f) in
       let v : of_bits f w ≡ fin (leb (top f) w) 0 (pos 0) = ap (λ (k : ℕ). of_fields f (leb (top f) w) k
-          (w % hid f)) x ∙
+      (w % hid f)) x ∙
       ap (of_fields f (leb (top f) w) 0) t in
       sym (ap (λ (y : Float). to_bits f (sqrt f y)) v ∙ ap (to_bits f) (sym v)
       ∙ to_bits-of_bits f w W (subst (λ (y : Float). T (not (is_nan y))) (sym v) (unfold is_nan in tt)))
@@ -478,7 +478,7 @@ module _ (f : Format) (w : ℕ) (W : w < 2 * top f) where
       no_zero s e v =
           let known : T (not (is_nan (of_bits f w))) = rw v (unfold is_nan in tt) in
           n (ap (λ (k : ℕ). k % top f) (sym (to_bits-of_bits f w W known) ∙ ap (to_bits f) v ∙ zero_bits s e)
-              ∙ remains s)
+          ∙ remains s)
 
 module _ (f : Format) (w : ℕ) (n : w % top f ≢ 0) where
   finite-root : w < ones f * hid f → sqrt f (of_bits f w) ≡ root_of f (suc (low f)) (magnitude f w * 2 ^ (low f + 2))

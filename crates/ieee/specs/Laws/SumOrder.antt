@@ -79,9 +79,11 @@ neg-le (fin s m e) (inf false) h = tt
 neg-le (fin true m e) (fin true n d) h = (le-fin true m e true n d).1 (omega (arith, (le-fin false n d false m e).0 h))
 neg-le (fin true m e) (fin false n d) h = (le-fin true m e false n d).1 (omega (arith, (le-fin true n d false m e).0 h))
 neg-le (fin false m e) (fin true n d) h = (le-fin false m e true n d).1 (omega (arith, (le-fin false n d true m e).0 h))
-neg-le (fin false m e) (fin false n d) h = (le-fin false m e false n d).1 (omega (arith,
-    (le-fin true n d true m e).0
-        h))
+neg-le (fin false m e) (fin false n d) h = (le-fin false m e false n d).1 (omega (
+  arith,
+  (le-fin true n d true m e).0
+      h,
+))
 
 turn-back : (x : Float) → neg (neg x) ≡ x
 unfolding neg

@@ -136,5 +136,9 @@ ceil-value f false m e F = next f false m e true F
 -- round is the whole number nearest to the value, and at a half the one away from zero
 pub round-value : (f : Format) (s : Bool) (m : ℕ) (e : ℤ) → T (fits f (fin s m e))
     → WholeNumber (Nearest m e) s (round_away f (fin s m e))
-round-value f s m e F = record { magnitude = half_up m e; value = round_away-value f s m e F; law = half_up-nearest m
-    e }
+round-value f s m e F = record {
+  magnitude = half_up m e;
+  value = round_away-value f s m e F;
+  law = half_up-nearest m
+      e;
+}

@@ -79,11 +79,11 @@ module _ (w : ℕ) (W : w < 2 ^ 32) (lo : 150 * 2 ^ 23 ≤ w % 2 ^ 31) where
           next_whole binary32 away (of_bits binary32 w) ≡ of_bits binary32 w
       go (inl e) =
           ap (next_whole binary32 away) (inf_bits binary32 w e) ∙ infinite (leb (2 ^ 31) w)
-              ∙ sym (inf_bits binary32 w
-                  e)
+          ∙ sym (inf_bits binary32 w
+          e)
       go (inr l) =
           next_whole-units binary32 away (of_bits binary32 w) (leb (2 ^ 31) w) (magnitude binary32 (w % 2 ^ 31))
-              (2 ^ 149)
+          (2 ^ 149)
           (pow_pos 149) (value w l)
           ∙ ap (λ (z : ℕ). round binary32 (leb (2 ^ 31) w) z 1)
           (ap (λ (z : ℕ). (z + cond away (2 ^ 149 - 1) 0) / 2 ^ 149) units_of ∙
@@ -180,7 +180,7 @@ module _ (w : ℕ) (W : w < 2 ^ 32) (hi : w % 2 ^ 31 < 127 * 2 ^ 23) where
 
   nearest : (n : ℕ) → (2 * magnitude binary32 (w % 2 ^ 31) + 2 ^ 149) / (2 * 2 ^ 149) ≡ n
       → to_bits binary32 (round_away binary32 (of_bits binary32 w)) ≡ to_bits binary32 (round binary32 (leb
-          (2 ^ 31) w) n 1)
+      (2 ^ 31) w) n 1)
   nearest n e =
       ap (to_bits binary32)
       (round_away-units binary32 (of_bits binary32 w) (leb (2 ^ 31) w) (magnitude binary32 (w % 2 ^ 31)) (2 ^ 149)

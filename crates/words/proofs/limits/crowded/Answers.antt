@@ -9,5 +9,7 @@ returns-then-word_or_zero-gt-MAX_LAMPS c = rw (← c.word_or_zero.ensures, lt-lt
 
 pub returns-else-word_or_zero-gt-MAX_LAMPS : goal.returns-else-word_or_zero-gt-MAX_LAMPS
 unfolding crowded
-returns-else-word_or_zero-gt-MAX_LAMPS c = rw (← c.word_or_zero.ensures,
-    le-ltb _ _ c.if-word_or_zero-gt-MAX_LAMPS.false)
+returns-else-word_or_zero-gt-MAX_LAMPS c = rw (
+  ← c.word_or_zero.ensures,
+  le-ltb _ _ c.if-word_or_zero-gt-MAX_LAMPS.false,
+)
