@@ -6,6 +6,7 @@ ghost use Rattle.std.specs.Prelude.{◌≡◌, ℕ, ◌+◌, ◌/◌, ◌≤◌,
 ghost use Rattle.std.proofs.lemmas.List.Edits.{sets};
 ghost use Rattle.ieee.specs.Single.{single};
 ghost use Rattle.words.specs.LittleEndian.{words_of};
+ghost use Rattle.words.specs.Refusals.{number};
 ghost use Rattle.light_rows.specs.AsCoded.RecordRow.{triple_at, row_at, vec_of, record_of, judged_row};
 ghost use Rattle.light_rows.specs.RecordWords.{record_words, phi_place, read_record, record_at, vec_at, box_at};
 ghost use Rattle.light_rows.specs.RecordWords.{vec_words, rest_words, record_list};
@@ -20,6 +21,7 @@ use words::floats::Float;
 use words::limits::fits;
 use words::little_endian::word_at;
 use words::places::word_or_zero;
+use words::refusals::Refusal;
 
 // The words of a record.
 pub const RECORD_WORDS: usize = 13;
@@ -159,13 +161,13 @@ fn record_of(row: Row) -> LightBounds
 }
 
 // The side is judged; an unknown one is the refusal of whoever reads.
-fn judged(row: Row) -> Result<LightBounds, Refusal>
-    ensures { (n : ℕ) → found n result ≡ judged_row n row }
+fn judged(row: Row, unknown: Refusal) -> Result<LightBounds, Refusal>
+    ensures { answered result ≡ judged_row (number unknown) row }
 {
     if is_side(row.side) {
         return Ok(record_of(row));
     }
-    Err(why)
+    Err(unknown)
 }
 
 // ---- reading
@@ -211,9 +213,9 @@ pub fn read_record(words: &[u32], at: usize) -> Result<LightBounds, Refusal>
     ensures { answered result ≡ record_at 1 words.now at }
 {
     if fits(words.len(), at, RECORD_WORDS) {
-        return judged(row_at(words, at));
+        return judged(row_at(words, at), Refusal::Ragged);
     }
-    Err(why)
+    Err(Refusal::Ragged)
 }
 
 // The record at a place of the little-endian bytes of a tree: none is refusal 12. It is fetched from its own bytes: of a
@@ -223,9 +225,12 @@ pub fn read_record_bytes(bytes: &[u8], at: usize) -> Result<LightBounds, Refusal
 {
     if fits(bytes.len() / 4, at, RECORD_WORDS) {
         let from = 4 * at;
-        return judged(row_in(&bytes[from..from + RECORD_BYTES], 0));
+        return judged(
+            row_in(&bytes[from..from + RECORD_BYTES], 0),
+            Refusal::BrokenTree,
+        );
     }
-    Err(why)
+    Err(Refusal::BrokenTree)
 }
 
 // ---- writing
