@@ -6,13 +6,13 @@ use Rattle.std.specs.Float.Ieee.Scale.{finite}
 use Rattle.ieee.specs.Choose.{fmin}
 use Rattle.ieee.specs.Single.{◌⊕◌, zerof, onef, minus_one}
 use Rattle.words.specs.Answers.{Answer, given, refused, ◌then◌}
-use Rattle.words.specs.Refusals.{number}
 use Rattle.light_bounds.specs.Bounds.{box_check, box_union}
 use Rattle.light_bounds.specs.Cones.{union_direction_cones}
 use Rattle.light_bounds.specs.Side.{lamp_side, either}
 use Rattle.light_bounds.specs.Vecmath.{finite_vec, dot}
 use Rattle.light_bounds.specs.declared.light_bounds.LightBounds.{LightBounds}
 use Rattle.light_bounds.specs.declared.bounds.Bounds3.{Bounds3}
+use Rattle.light_bounds.specs.declared.cones.Cone.{Cone}
 use Rattle.light_bounds.specs.declared.side.Side.{Side}
 use Rattle.light_bounds.specs.declared.vecmath.Vec3.{Vec3}
 
@@ -31,6 +31,10 @@ light_bounds bounds direction phi cos_o cosE side =
 -- of a lamp in a list
 abbrev pub lamp_record : Bounds3 → Vec3 → Float → Float → Float → Bool → LightBounds
 lamp_record bounds direction phi cos_o cosE side = light_bounds bounds direction phi cos_o cosE (lamp_side side)
+
+-- the cone of the directions that a record's lights face
+abbrev pub cone_of : LightBounds → Cone
+cone_of r = record { direction = r.direction; cos_theta = r.cos_theta_o }
 
 -- a cosine lies from -1 to 1
 unfoldable pub is_cosine : Float → Bool

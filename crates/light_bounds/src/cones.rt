@@ -12,6 +12,7 @@ use floats::choose::{clamp, max, min};
 use floats::sqrt::sqrt as root;
 use trig::{acos, cos};
 use words::floats::Float;
+use words::refusals::Refusal;
 
 // The directions within an angle of one, by its cosine.
 #[derive(Clone, Copy)]
@@ -44,37 +45,33 @@ pub(crate) fn subtended(bounds: Bounds3, p: Vec3, diagonal_length: f32) -> f32
 }
 
 // The cone around both cones. One of all directions holds any other.
-pub fn union_direction_cones(a: Vec3, cos_a: f32, b: Vec3, cos_b: f32) -> Cone
-    ensures { result ≡ union_direction_cones a cos_a b cos_b }
+pub fn union_direction_cones(a: Cone, b: Cone) -> Cone
+    ensures { result ≡ union_direction_cones a.direction a.cos_theta b.direction b.cos_theta }
 {
-    if cos_a.word() == 0xbf80_0000 {
-        return Cone {
-            direction: a,
-            cos_theta: cos_a,
-        };
+    if a.cos_theta.word() == 0xbf80_0000 {
+        return a;
     }
-    union_by_angles(a, cos_a, b, cos_b)
+    union_by_angles(a, b)
 }
 
-fn union_by_angles(a: Vec3, cos_a: f32, b: Vec3, cos_b: f32) -> Cone
-    ensures { result ≡ union_direction_cones a cos_a b cos_b }
+fn union_by_angles(a: Cone, b: Cone) -> Cone
+    ensures { result ≡ union_direction_cones a.direction a.cos_theta b.direction b.cos_theta }
 {
-    let theta_a = acos(clamp(cos_a, -1.0, 1.0));
-    let theta_b = acos(clamp(cos_b, -1.0, 1.0));
-    let theta_d = angle_between(a, b);
+    let theta_a = acos(clamp(a.cos_theta, -1.0, 1.0));
+    let theta_b = acos(clamp(b.cos_theta, -1.0, 1.0));
+    let theta_d = angle_between(a.direction, b.direction);
     if min(theta_d + theta_b, 3.1415927) <= theta_a {
-        return Cone {
-            direction: a,
-            cos_theta: cos_a,
-        };
+        return a;
     }
     if min(theta_d + theta_a, 3.1415927) <= theta_b {
-        return Cone {
-            direction: b,
-            cos_theta: cos_b,
-        };
+        return b;
     }
-    join(a, b, theta_a, (theta_a + theta_d + theta_b) * 0.5)
+    join(
+        a.direction,
+        b.direction,
+        theta_a,
+        (theta_a + theta_d + theta_b) * 0.5,
+    )
 }
 
 // The cone of half the angle theta_o, from a's far side to b's: every direction where that is half a turn or more, or

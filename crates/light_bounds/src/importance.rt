@@ -8,8 +8,8 @@ ghost use Rattle.light_bounds.specs.Cones.{cos_sub_clamped};
 ghost use Rattle.light_bounds.specs.Importance.{importance as importance_of, checked_importance, finite_query};
 ghost use Rattle.light_bounds.specs.Importance.{geometry as geometry_of, toward as toward_of};
 ghost use Rattle.light_bounds.specs.Importance.{distance2 as distance2_of};
-ghost use Rattle.light_bounds.specs.Importance.{finish_view, normal_factor, cos_p, cos_w, sine as sine_of};
-ghost use Rattle.light_bounds.specs.AsCoded.Views.{viewed};
+ghost use Rattle.light_bounds.specs.Importance.{finish, normal_factor, cos_p, cos_w, sine as sine_of};
+ghost use Rattle.light_bounds.specs.AsCoded.Views.{seen, viewed};
 ghost use Rattle.light_bounds.specs.AsCoded.Weighing.{prepared, unit_normal, with_held, weigh_held, is_plain};
 
 use super::bounds::{centroid, diagonal};
@@ -36,20 +36,13 @@ pub fn importance(record: LightBounds, query: Query) -> Result<f32, Refusal>
 
 // ---- the query as a walk holds it
 
-// No normal; the normal at length 1; or a normal that has no length to divide by.
-#[derive(Clone, Copy)]
-pub enum Normal {
-    Nothing,
-    Unit(Vec3),
-    Lengthless,
-}
-
-// The point, whether all of the query is finite, and its normal.
+// The point, whether all of the query is finite, and its normal where there is one: at length 1, or why it has no length
+// to divide by.
 #[derive(Clone, Copy)]
 pub struct Prepared {
     pub p: Vec3,
     pub is_finite: bool,
-    pub normal: Normal,
+    pub normal: Option<Result<Vec3, Refusal>>,
 }
 
 pub fn prepare(query: Query) -> Prepared
@@ -69,16 +62,13 @@ fn is_finite_query(query: Query) -> bool
     is_finite_vec(query.p) && is_finite_vec(query.n)
 }
 
-fn unit_normal(n: Vec3) -> Normal
+fn unit_normal(n: Vec3) -> Option<Result<Vec3, Refusal>>
     ensures { result ≡ unit_normal n }
 {
     if dot(n, n) == 0.0 {
-        return Normal::Nothing;
+        return None;
     }
-    match normalize(n) {
-        Ok(unit) => Normal::Unit(unit),
-        Err(_) => Normal::Lengthless,
-    }
+    Some(normalize(n))
 }
 
 // ---- weighing
@@ -87,10 +77,8 @@ fn unit_normal(n: Vec3) -> Normal
 pub fn weigh_prepared(record: LightBounds, query: Prepared) -> Result<f32, Refusal>
     ensures { answered result ≡ weigh_held «record» query }
 {
-    match validate(record) {
-        Ok(()) => weigh_valid(record, query),
-        Err(why) => Err(why),
-    }
+    validate(record)?;
+    weigh_valid(record, query)
 }
 
 // Of a record that passed its check.
@@ -99,45 +87,41 @@ fn weigh_valid(record: LightBounds, query: Prepared) -> Result<f32, Refusal>
         ≡ checked_importance «record» query.p query.is_finite (with_held query.normal) }
 {
     if query.is_finite {
-        return finished(record.phi, geometry(record, query));
+        return Ok(finished(record.phi, geometry(record, query)?));
     }
     Err(Refusal::NotFinite)
 }
 
 // How a query sees a record: `Dark` weighs nothing; `Lit` has a cosine and a squared distance, `Facing` the
 // normal's factor too.
-#[derive(Drop)]
+#[derive(Clone, Copy)]
 enum View {
     Dark,
-    Lit(f32, f32),
-    Facing(f32, f32, f32),
-    Refused(Refusal),
+    Lit { cos_p: f32, d2: f32 },
+    Facing { cos_p: f32, d2: f32, factor: f32 },
 }
 
 // The power enters here alone.
-fn finished(phi: f32, view: View) -> Result<f32, Refusal>
-    ensures { answered result ≡ finish_view phi (viewed view) }
+fn finished(phi: f32, view: View) -> f32
+    ensures { result ≡ finish phi (seen view) }
 {
     match view {
-        View::Dark => Ok(0.0),
-        View::Lit(p, d2) => Ok(max(phi * p / d2, 0.0)),
-        View::Facing(p, d2, i) => Ok(max(phi * p / d2 * i, 0.0)),
-        View::Refused(why) => Err(why),
+        View::Dark => 0.0,
+        View::Lit { cos_p, d2 } => max(phi * cos_p / d2, 0.0),
+        View::Facing { cos_p, d2, factor } => max(phi * cos_p / d2 * factor, 0.0),
     }
 }
 
-fn geometry(record: LightBounds, query: Prepared) -> View
+fn geometry(record: LightBounds, query: Prepared) -> Result<View, Refusal>
     ensures { viewed result ≡ geometry_of «record» query.p (with_held query.normal) }
 {
     let delta = sub(query.p, centroid(record.bounds));
     let d2 = distance2(record, delta);
     if d2 <= 0.0 {
-        return View::Dark;
+        return Ok(View::Dark);
     }
-    match normalize(delta) {
-        Ok(wi) => toward(record, query, d2, wi),
-        Err(why) => View::Refused(why),
-    }
+    let wi = normalize(delta)?;
+    toward(record, query, d2, wi)
 }
 
 // The squared distance to the centre, at least half the diagonal's length. From far enough the length is not
@@ -154,39 +138,46 @@ fn distance2(record: LightBounds, delta: Vec3) -> f32
 }
 
 // Without a normal the box's cosine is needed outside the cone alone: inside it the smallest angle is none.
-fn toward(record: LightBounds, query: Prepared, d2: f32, wi: Vec3) -> View
+fn toward(record: LightBounds, query: Prepared, d2: f32, wi: Vec3) -> Result<View, Refusal>
     ensures { viewed result ≡ toward_of «record» query.p (with_held query.normal) d2 wi }
 {
     let normal = query.normal;
     if is_plain(record, normal, wi) {
-        return View::Lit(1.0, d2);
+        return Ok(View::Lit { cos_p: 1.0, d2 });
     }
     let cos_b = subtended(record.bounds, query.p, length(diagonal(record.bounds)));
     let cos_p = smallest_angle(record, wi, cos_b);
     if cos_p <= record.cos_theta_e {
-        return View::Dark;
+        return Ok(View::Dark);
     }
     with_unit(normal, wi, cos_b, cos_p, d2)
 }
 
 // Whether there is no normal, the direction is inside the cone, and the cone's edge is not at its axis.
-fn is_plain(record: LightBounds, normal: Normal, wi: Vec3) -> bool
+fn is_plain(record: LightBounds, normal: Option<Result<Vec3, Refusal>>, wi: Vec3) -> bool
     ensures { result ≡ is_plain «record» normal wi }
 {
     match normal {
-        Normal::Nothing => record.cos_theta_e < 1.0 && cos_w(record, wi) > record.cos_theta_o,
-        Normal::Unit(_) => false,
-        Normal::Lengthless => false,
+        None => record.cos_theta_e < 1.0 && cos_w(record, wi) > record.cos_theta_o,
+        Some(_) => false,
     }
 }
 
-fn with_unit(normal: Normal, wi: Vec3, cos_b: f32, cos_p: f32, d2: f32) -> View
+fn with_unit(
+    normal: Option<Result<Vec3, Refusal>>,
+    wi: Vec3,
+    cos_b: f32,
+    cos_p: f32,
+    d2: f32,
+) -> Result<View, Refusal>
     ensures { viewed result ≡ with_held normal wi cos_b cos_p d2 }
 {
     match normal {
-        Normal::Nothing => View::Lit(cos_p, d2),
-        Normal::Unit(unit) => View::Facing(cos_p, d2, facing(dot(wi, unit), cos_b)),
-        Normal::Lengthless => View::Refused(Refusal::NoDirection),
+        None => Ok(View::Lit { cos_p, d2 }),
+        Some(unit) => {
+            let factor = facing(dot(wi, unit?), cos_b);
+            Ok(View::Facing { cos_p, d2, factor })
+        }
     }
 }
 

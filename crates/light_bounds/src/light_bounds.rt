@@ -1,14 +1,14 @@
 // Bounds records (specs/LightBounds.antt): the check and the union of pbrt-r4's LightBounds, refusals in its order.
 ghost use Rattle.words.specs.Answers.{answered};
 ghost use Rattle.std.specs.Prelude.{◌≡◌};
-ghost use Rattle.light_bounds.specs.LightBounds.{light_bounds, lamp_record, validate as validate_of, cone_check};
+ghost use Rattle.light_bounds.specs.LightBounds.{light_bounds, lamp_record, cone_of, validate as validate_of, cone_check};
 ghost use Rattle.light_bounds.specs.LightBounds.{finite_cone, range_check, is_cosine};
 ghost use Rattle.light_bounds.specs.LightBounds.{are_cosines};
 ghost use Rattle.light_bounds.specs.LightBounds.{union as union_of, join as join_of};
 
 use super::bounds::{Bounds3, check, union as box_union};
 use super::cones::{Cone, union_direction_cones};
-use super::side::{Side, either, lamp_side};
+use super::side::{Side, either};
 use super::vecmath::{Vec3, dot, is_finite, is_finite_vec};
 use floats::choose::min;
 use words::refusals::Refusal;
@@ -43,7 +43,17 @@ impl LightBounds {
     pub fn of_lamp(bounds: Bounds3, cone: Cone, phi: f32, cos_theta_e: f32, two_sided: bool) -> Self
         ensures { result ≡ lamp_record bounds cone.direction phi cone.cos_theta cos_theta_e two_sided }
     {
-        LightBounds::new(bounds, cone, phi, cos_theta_e, lamp_side(two_sided))
+        LightBounds::new(bounds, cone, phi, cos_theta_e, Side::from(two_sided))
+    }
+
+    // The cone of the directions that its lights face.
+    pub fn cone(self) -> Cone
+        ensures { result ≡ cone_of self }
+    {
+        Cone {
+            direction: self.direction,
+            cos_theta: self.cos_theta_o,
+        }
     }
 }
 
@@ -52,10 +62,7 @@ impl LightBounds {
 pub fn validate(record: LightBounds) -> Result<(), Refusal>
     ensures { answered result ≡ validate_of «record» }
 {
-    let boxed = check(record.bounds);
-    let Ok(()) = boxed else {
-        return boxed;
-    };
+    check(record.bounds)?;
     validate_cone(record)
 }
 
@@ -111,12 +118,9 @@ pub fn are_cosines(x: f32, y: f32) -> bool
 pub fn union(a: LightBounds, b: LightBounds) -> Result<LightBounds, Refusal>
     ensures { answered result ≡ union_of a b }
 {
-    let Ok(()) = validate(a) else {
+    if validate(a).is_err() || validate(b).is_err() {
         return Err(Refusal::LostUnion);
-    };
-    let Ok(()) = validate(b) else {
-        return Err(Refusal::LostUnion);
-    };
+    }
     Ok(join(a, b))
 }
 
@@ -130,10 +134,9 @@ fn join(a: LightBounds, b: LightBounds) -> LightBounds
     if b.phi == 0.0 {
         return a;
     }
-    let cone = union_direction_cones(a.direction, a.cos_theta_o, b.direction, b.cos_theta_o);
     LightBounds::new(
         box_union(a.bounds, b.bounds),
-        cone,
+        union_direction_cones(a.cone(), b.cone()),
         a.phi + b.phi,
         min(a.cos_theta_e, b.cos_theta_e),
         either(a.side, b.side),

@@ -15,7 +15,8 @@ use Rattle.light_rows.specs.Tree.{Tree, leaf, fork, right_place, tree_words}
 use Rattle.light_split.specs.Lights.{light_of}
 use Rattle.light_bvh.specs.Subtree.{build_subtree}
 use Rattle.light_bvh.specs.declared.build.Built.{Built}
-use Rattle.light_bvh.specs.declared.build.Built.TheVariants.{Tree as Built-as-Tree, Nothing, Refused}
+use Rattle.std.specs.Prelude.{Option as Option-of-std, Some, None, Result, Ok, Err}
+use Rattle.words.specs.declared.refusals.Refusal.{Refusal}
 
 -- ---- the powered lamps
 
@@ -112,7 +113,7 @@ abbrev pub summary : Answer LightBVH → Answer (ℕ × Option Bounds3)
 summary (given b) = given (b.k, b.all-bounds)
 summary (refused n) = refused n
 
-abbrev pub built : Built → Answer (ℕ × Option Bounds3)
-built (Built-as-Tree k box) = given (k, some box)
-built Nothing = given (0, none)
-built (Refused r) = refused (number r)
+abbrev pub built : Result (Option-of-std Built) Refusal → Answer (ℕ × Option Bounds3)
+built (Ok (Some b)) = given (b.powered, some b.bounds)
+built (Ok None) = given (0, none)
+built (Err why) = refused (number why)

@@ -22,12 +22,11 @@ use words::heads::{handle_of, kind_of};
 use words::places::wide;
 use words::refusals::Refusal;
 
-// How many lamps have power, and the box of just these; or that none has.
-#[derive(Drop)]
-pub enum Built {
-    Tree(usize, Bounds3),
-    Nothing,
-    Refused(Refusal),
+// A tree: how many lamps have power, and the box of just these.
+#[derive(Clone, Copy)]
+pub struct Built {
+    pub powered: usize,
+    pub bounds: Bounds3,
 }
 
 // ---- the checks that leave the lent words alone: 2, 1, 4, 3
@@ -178,7 +177,7 @@ fn build_rows(
     nodes: &mut [u32],
     table: &mut [u32],
     work: &mut [u32],
-) -> Built
+) -> Result<Option<Built>, Refusal>
     requires m_bound { m ≤ 4096 }
     requires block_len { length block.now ≡ block_words m }
     requires block_value { block_handles block.now ≡ given m }
@@ -194,7 +193,7 @@ fn build_rows(
     if k == 0 {
         zero_reserves(m, nodes, table, work);
         fill(table, 0, m, INVALID_INDEX);
-        return Built::Nothing;
+        return Ok(None);
     }
     let end = NODE_WORDS * (2 * k - 1);
     match build_subtree(
@@ -211,13 +210,13 @@ fn build_rows(
             table_leaves(nodes, 2 * k - 1, table);
             zero_words(work, 0, 2 * m);
             match all_bounds(block, m) {
-                Some(bounds) => Built::Tree(k, bounds),
-                None => Built::Nothing,
+                Some(bounds) => Ok(Some(Built { powered: k, bounds })),
+                None => Ok(None),
             }
         }
         Err(Refusal::LostUnion) => {
             zero_reserves(m, nodes, table, work);
-            Built::Refused(Refusal::LostUnion)
+            Err(Refusal::LostUnion)
         }
     }
 }
@@ -230,7 +229,7 @@ pub fn build_light_bvh(
     nodes: &mut [u32],
     table: &mut [u32],
     work: &mut [u32],
-) -> Built
+) -> Result<Option<Built>, Refusal>
     ensures result_value { built result ≡ summary
         (build_light_bvh lights block.now (length nodes.old) (length table.old)
         (length work.old)) }
@@ -249,9 +248,9 @@ pub fn build_light_bvh(
             Ok(()) => build_rows(block, m, nodes, table, work),
             Err(why) => {
                 zero_reserves(m, nodes, table, work);
-                Built::Refused(why)
+                Err(why)
             }
         },
-        Err(why) => Built::Refused(why),
+        Err(why) => Err(why),
     }
 }

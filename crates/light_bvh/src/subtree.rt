@@ -8,9 +8,9 @@ ghost use Rattle.light_bvh.specs.Subtree.{label_of, build_subtree};
 ghost use Rattle.light_bvh.specs.AsCoded.Stretches.{subtree, done, subtree_words};
 ghost use Rattle.light_bvh.specs.AsCoded.Stretches.{split_count, split_handles, union_at, joined_words};
 
-use light_bounds::light_bounds::union;
+use light_bounds::light_bounds::{LightBounds, union};
 use light_rows::block::{label, light};
-use light_rows::nodes::{NODE_WORDS, bounds_in, write_interior, write_leaf};
+use light_rows::nodes::{NODE_WORDS, Node, bounds_in, write_node};
 use light_split::partition::partition_handles;
 use light_split::split::choose_split;
 use words::refusals::Refusal;
@@ -60,7 +60,12 @@ fn join_children(nodes: &mut [u32], right: usize, at: u32, parent: u32) -> Resul
 {
     match union_children(nodes, right) {
         Ok(bounds) => {
-            write_interior(nodes, 0, at + 1, at + right as u32, parent, bounds);
+            let node = Node::Interior {
+                left_child: at + 1,
+                right_child: at + right as u32,
+                parent,
+            };
+            write_node(nodes, 0, node, bounds);
             Ok(())
         }
         Err(_) => Err(Refusal::LostUnion),
@@ -89,13 +94,11 @@ pub(crate) fn build_subtree(
 {
     let n = handles.len();
     if n == 1 {
-        write_leaf(
-            nodes,
-            0,
-            label(block, handles[0]),
+        let leaf = Node::Leaf {
+            light_handle: label(block, handles[0]),
             parent,
-            light(block, handles[0]),
-        );
+        };
+        write_node(nodes, 0, leaf, light(block, handles[0]));
         return Ok(());
     }
     match split_stretch(block, handles, work) {

@@ -29,12 +29,12 @@ use light_bounds::importance::Query;
 use light_bounds::vecmath::Vec3;
 use light_bvh::build::{Built, build_light_bvh, check_build};
 use light_sampler::pmf::bvh_light_sampler_pmf;
-use light_sampler::sample::{Drawn, bvh_light_sampler_sample};
-use packed_bvh::pack::{Packed, pack_light_bvh};
+use light_sampler::sample::{SampledLight, bvh_light_sampler_sample};
+use packed_bvh::pack::pack_light_bvh;
 use words::answers::code;
 use words::fill::zero_words;
 use words::floats::Float;
-use words::refusals::{Refusal, refusal_number};
+use words::refusals::Refusal;
 
 // ---- the lamp list to the bounds block
 
@@ -118,15 +118,15 @@ pub fn light_build(
         return refuse_short(lights, block, nodes.len(), table.len(), work.len());
     }
     match build_light_bvh(lights, block, nodes, table, work) {
-        Built::Tree(k, bounds) => {
+        Ok(Some(Built { powered: k, bounds })) => {
             write_summary(answer, k, bounds);
             0
         }
-        Built::Nothing => {
+        Ok(None) => {
             zero_words(answer, 0, ANSWER_WORDS);
             0
         }
-        Built::Refused(why) => refuse_build(answer, why),
+        Err(why) => refuse_build(answer, why),
     }
 }
 
@@ -147,13 +147,13 @@ fn query_at(px: f32, py: f32, pz: f32, nx: f32, ny: f32, nz: f32) -> Query
     Query { p, n }
 }
 
-fn draw_code(answer: Drawn) -> u64
+fn draw_code(answer: Result<Option<SampledLight>, Refusal>) -> u64
     ensures { result ≡ draw_code (drawn answer) }
 {
     match answer {
-        Drawn::Light(handle, p) => handle as u64 * 0x1_0000_0000 + p.word() as u64,
-        Drawn::Nothing => 0x4000_0000_0000_0000,
-        Drawn::Refused(why) => 0x8000_0000_0000_0000 + why.number() as u64,
+        Ok(Some(SampledLight { light, pmf })) => light as u64 * 0x1_0000_0000 + pmf.word() as u64,
+        Ok(None) => 0x4000_0000_0000_0000,
+        Err(why) => 0x8000_0000_0000_0000 + why.number() as u64,
     }
 }
 
@@ -211,13 +211,13 @@ fn box_of(present: u32, min: Vec3, max: Vec3) -> Option<Bounds3>
     Some(Bounds3 { min, max })
 }
 
-fn packed_code(answer: Packed) -> u64
+fn packed_code(answer: Result<Option<usize>, Refusal>) -> u64
     ensures { result ≡ packed_code (packed answer) }
 {
     match answer {
-        Packed::Words(n) => n as u64,
-        Packed::Nothing => 0x1_0000_0000,
-        Packed::Refused(why) => 0x2_0000_0000 + why.number() as u64,
+        Ok(Some(n)) => n as u64,
+        Ok(None) => 0x1_0000_0000,
+        Err(why) => 0x2_0000_0000 + why.number() as u64,
     }
 }
 

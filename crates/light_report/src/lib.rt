@@ -71,7 +71,7 @@ fn read_words(bytes: &[u8], words: &mut [u32])
     requires { (length bytes.now % 4 ≡ 0) × (length bytes.now ≤ 4 * length words.old) }
     ensures { take (length bytes.now / 4) words.new ≡ words_of bytes.now }
 {
-    words_of_bytes(bytes, words);
+    let _ = words_of_bytes(bytes, words);
 }
 
 // Builds the tree; how many lamps have power.
@@ -90,9 +90,9 @@ fn build_tree(
         (tree_of lamps block.now) table.old }
 {
     match build_light_bvh(lamps, block, nodes, table, work) {
-        Built::Tree(k, _) => Ok(k),
-        Built::Nothing => Ok(0),
-        Built::Refused(why) => Err(why),
+        Ok(Some(Built { powered, .. })) => Ok(powered),
+        Ok(None) => Ok(0),
+        Err(why) => Err(why),
     }
 }
 

@@ -10,7 +10,7 @@ ghost use Rattle.light_report.specs.Lines.{group_line, report_lines};
 
 use light_rows::query_words::{QUERY_WORDS, float_at, query_of_bytes};
 use light_sampler::pmf::bvh_light_sampler_pmf;
-use light_sampler::sample::{Drawn, bvh_light_sampler_sample};
+use light_sampler::sample::{SampledLight, bvh_light_sampler_sample};
 use text::{put_decimal, put_hex, put_refused, put_text};
 use words::floats::Float;
 use words::refusals::Refusal;
@@ -34,12 +34,12 @@ fn draw_group(nodes: &[u8], table: &[u8], group: &[u8]) -> Line
 {
     let query = query_of_bytes(group);
     match bvh_light_sampler_sample(nodes, query, float_at(group, QUERY_WORDS)) {
-        Drawn::Light(handle, drawn) => match bvh_light_sampler_pmf(nodes, table, query, handle) {
+        Ok(Some(SampledLight { light: handle, pmf: drawn })) => match bvh_light_sampler_pmf(nodes, table, query, handle) {
             Ok(named) => Line::Lamp(handle, drawn, named),
             Err(why) => Line::Refused(why),
         },
-        Drawn::Nothing => Line::Nothing,
-        Drawn::Refused(why) => Line::Refused(why),
+        Ok(None) => Line::Nothing,
+        Err(why) => Line::Refused(why),
     }
 }
 

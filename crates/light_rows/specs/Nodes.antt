@@ -2,12 +2,15 @@
 -- with its handle below, and 10 at an interior node, with its left child. The layout of a node is said here alone.
 -- Definitions only. Assumes nothing.
 use Rattle.std.specs.Prelude.{ℕ, suc, ◌+◌, ◌*◌, ◌/◌, ◌%◌, cond, List, ◌∷◌, leb, ltb, eqb, length, get_or}
+use Rattle.std.specs.Prelude.{Result, Ok, Err}
+use Rattle.words.specs.Refusals.{number}
+use Rattle.words.specs.declared.refusals.Refusal.{Refusal}
 use Rattle.words.specs.Answers.{Answer, given, refused}
 use Rattle.words.specs.Heads.{kind_of, handle_of}
 use Rattle.light_rows.specs.RecordWords.{record_at, record_list, record_words}
 use Rattle.light_bounds.specs.declared.light_bounds.LightBounds.{LightBounds}
 use Rattle.light_rows.specs.declared.nodes.Node.{Node}
-use Rattle.light_rows.specs.declared.nodes.Node.TheVariants.{Leaf, Interior, Unknown}
+use Rattle.light_rows.specs.declared.nodes.Node.TheVariants.{Leaf, Interior}
 
 -- `LightBVHNode` without its bounds, which are judged apart from it: light_handle, parent; or left_child, right_child,
 -- parent
@@ -37,6 +40,11 @@ abbrev pub bounds_place : ℕ → ℕ
 bounds_place i = node_place i + 3
 
 -- ---- written
+
+-- what stands in its low thirty bits
+abbrev pub head_number : LightBVHNode → ℕ
+head_number (leaf h p) = h
+head_number (interior l r p) = l
 
 abbrev pub head_word : LightBVHNode → ℕ
 head_word (leaf h p) = 0x4000_0000 + handle_of h
@@ -85,8 +93,12 @@ node_at ws i =
 unfoldable pub bounds_at : List ℕ → ℕ → Answer LightBounds
 bounds_at ws i = record_at 12 ws (bounds_place i)
 
--- what the enum `Node` answers
-abbrev pub node : Node → Answer LightBVHNode
-node (Leaf h p) = given (leaf h p)
-node (Interior l r p) = given (interior l r p)
-node Unknown = refused 12
+-- ---- as the code has it
+
+abbrev pub node_value : Node → LightBVHNode
+node_value (Leaf h p) = leaf h p
+node_value (Interior l r p) = interior l r p
+
+abbrev pub node : Result Node Refusal → Answer LightBVHNode
+node (Ok n) = given (node_value n)
+node (Err why) = refused (number why)

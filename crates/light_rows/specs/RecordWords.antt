@@ -55,11 +55,6 @@ record_at n ws at =
     cond (leb (at + record_words) (length ws) && side_known (get_or ws (side_place at) 0)) (given (read_record ws at))
     (refused n)
 
--- what the enum `Found` answers
-abbrev pub found : ℕ → Found → Answer LightBounds
-found n (Record r) = given r
-found n Nothing = refused n
-
 -- ---- written
 
 abbrev pub vec_words : Vec3 → List ℕ

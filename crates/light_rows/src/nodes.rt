@@ -1,15 +1,13 @@
 // A node as sixteen words (specs/Nodes.antt): head, right child, parent, record. Where the words of a node stand is
 // said here alone.
 ghost use Rattle.words.specs.Answers.{answered};
-ghost use Rattle.std.specs.Prelude.{◌≡◌, cond, ◌∷◌, ◌*◌, ◌+◌, ◌≤◌, length, get_or};
+ghost use Rattle.std.specs.Prelude.{◌≡◌, cond, ◌∷◌, ◌*◌, ◌+◌, ◌<◌, ◌≤◌, length, get_or};
 ghost use Rattle.std.proofs.lemmas.List.Edits.{sets};
-ghost use Rattle.words.specs.Heads.{handle_of};
 ghost use Rattle.words.specs.LittleEndian.{words_of};
 ghost use Rattle.light_rows.specs.RecordWords.{read_record, record_list};
-ghost use Rattle.light_rows.specs.Nodes.{leaf, interior, node, node_count, node_of, node_at, bounds_at, node_words};
+ghost use Rattle.light_rows.specs.Nodes.{node_value, head_number, head_word, right_child, parent, node_list, node, node_count, node_of, node_at, bounds_at, node_words};
 ghost use Rattle.light_rows.specs.Nodes.{node_place, bounds_place};
 ghost use Rattle.light_rows.specs.AsCoded.NodeRow.{node_fits, node_written};
-ghost use Rattle.light_rows.specs.AsCoded.NodeRow.{row_fits};
 
 use super::record_words::{RECORD_WORDS, read_record_bytes, record_or_zeros, write_record};
 use light_bounds::light_bounds::LightBounds;
@@ -40,98 +38,84 @@ pub const HEAD_ROOM: u32 = 0x4000_0000;
 // The right child of a leaf, the parent of the root.
 pub const INVALID_INDEX: u32 = 0xffff_ffff;
 
-// A node without its record: a leaf with its handle and its parent; an interior node with its left and right child and
-// its parent; or neither.
+// A node without its record.
 #[derive(Clone, Copy)]
 pub enum Node {
-    Leaf(u32, u32),
-    Interior(u32, u32, u32),
-    Unknown,
+    Leaf {
+        light_handle: u32,
+        parent: u32,
+    },
+    Interior {
+        left_child: u32,
+        right_child: u32,
+        parent: u32,
+    },
+}
+
+impl Node {
+    pub fn parent(self) -> u32
+        ensures { result ≡ parent (node_value self) }
+    {
+        match self {
+            Node::Leaf { parent, .. } => parent,
+            Node::Interior { parent, .. } => parent,
+        }
+    }
+
+    fn right_child(self) -> u32
+        ensures { result ≡ right_child (node_value self) }
+    {
+        match self {
+            Node::Leaf { .. } => INVALID_INDEX,
+            Node::Interior { right_child, .. } => right_child,
+        }
+    }
+
+    // What stands below the head's two bits: the handle, or the left child.
+    fn number(self) -> u32
+        ensures { result ≡ head_number (node_value self) }
+    {
+        match self {
+            Node::Leaf { light_handle, .. } => light_handle,
+            Node::Interior { left_child, .. } => left_child,
+        }
+    }
+
+    fn head(self) -> u32
+        requires { head_number (node_value self) < 0x4000_0000 }
+        ensures { result ≡ head_word (node_value self) }
+    {
+        match self {
+            Node::Leaf { light_handle, .. } => 0x4000_0000 + light_handle,
+            Node::Interior { left_child, .. } => 0x8000_0000 + left_child,
+        }
+    }
 }
 
 // ---- writing
 
-// The words between a node's head and its record.
-#[derive(Drop)]
-struct Links {
-    right_child: u32,
-    parent: u32,
-}
-
-fn put_node(words: &mut [u32], at: usize, head: u32, links: Links, bounds: LightBounds)
-    requires { at + node_words ≤ length words.old }
-    ensures { words.new ≡
-        sets words.old at (head ∷ links.right_child ∷ links.parent ∷ record_list bounds) }
+fn put_node(words: &mut [u32], at: usize, node: Node, bounds: LightBounds)
+    requires head { head_number (node_value node) < 0x4000_0000 }
+    requires in_bounds { at + node_words ≤ length words.old }
+    ensures { words.new ≡ sets words.old at (node_list (node_value node) bounds) }
 {
-    words[at] = head;
-    words[at + RIGHT_CHILD_PLACE] = links.right_child;
-    words[at + PARENT_PLACE] = links.parent;
+    words[at] = node.head();
+    words[at + RIGHT_CHILD_PLACE] = node.right_child();
+    words[at + PARENT_PLACE] = node.parent();
     write_record(words, at + BOUNDS_PLACE, bounds);
 }
 
-// A node at a place, its head of a kind and a number; nothing where its row is not there or the number does not fit.
-fn write_node(
-    words: &mut [u32],
-    place: usize,
-    kind: u32,
-    number: u32,
-    links: Links,
-    bounds: LightBounds,
-) -> bool
-    requires { kind ≤ 0x8000_0000 }
-    ensures value { result ≡ row_fits words.old place number }
-    ensures words_after { words.new ≡ cond (row_fits words.old place number)
-        (sets words.old (node_place place)
-        ((kind + handle_of number) ∷ links.right_child ∷ links.parent ∷ record_list bounds))
-        words.old }
+// Writes a node at a place, or nothing where its row is not there or its head has no room for the handle or the left
+// child: whether it wrote.
+pub fn write_node(words: &mut [u32], place: usize, node: Node, bounds: LightBounds) -> bool
+    ensures value { result ≡ node_fits words.old place (node_value node) }
+    ensures words_after { words.new ≡ node_written words.old place (node_value node) bounds }
 {
-    if words.len() / NODE_WORDS <= place {
+    if words.len() / NODE_WORDS <= place || node.number() >= HEAD_ROOM {
         return false;
     }
-    if number >= HEAD_ROOM {
-        return false;
-    }
-    put_node(words, NODE_WORDS * place, kind + number, links, bounds);
+    put_node(words, NODE_WORDS * place, node, bounds);
     true
-}
-
-// Writes a leaf at a place, or nothing where its row is not there or its head has no room for the handle: whether it
-// wrote.
-pub fn write_leaf(
-    words: &mut [u32],
-    place: usize,
-    light_handle: u32,
-    parent: u32,
-    bounds: LightBounds,
-) -> bool
-    ensures value { result ≡ node_fits words.old place (leaf light_handle parent) }
-    ensures words_after { words.new ≡ node_written words.old place (leaf light_handle parent) bounds }
-{
-    let links = Links {
-        right_child: INVALID_INDEX,
-        parent,
-    };
-    write_node(words, place, 0x4000_0000, light_handle, links, bounds)
-}
-
-// The same of an interior node, whose head has its left child.
-pub fn write_interior(
-    words: &mut [u32],
-    place: usize,
-    left_child: u32,
-    right_child: u32,
-    parent: u32,
-    bounds: LightBounds,
-) -> bool
-    ensures value { result ≡ node_fits words.old place (interior left_child right_child parent) }
-    ensures words_after { words.new ≡
-        node_written words.old place (interior left_child right_child parent) bounds }
-{
-    let links = Links {
-        right_child,
-        parent,
-    };
-    write_node(words, place, 0x8000_0000, left_child, links, bounds)
 }
 
 // ---- read back while the tree is built, from words: those past the end are 0
@@ -166,21 +150,25 @@ pub fn node_count(nodes: &[u8]) -> Result<usize, Refusal>
     Err(Refusal::Ragged)
 }
 
-fn node_of(head: u32, right_child: u32, parent: u32) -> Node
+fn node_of(head: u32, right_child: u32, parent: u32) -> Result<Node, Refusal>
     ensures { node result ≡ node_of head right_child parent }
 {
-    let kind = kind_of(head);
-    if kind == 1 {
-        return Node::Leaf(handle_of(head), parent);
+    match kind_of(head) {
+        1 => Ok(Node::Leaf {
+            light_handle: handle_of(head),
+            parent,
+        }),
+        2 => Ok(Node::Interior {
+            left_child: handle_of(head),
+            right_child,
+            parent,
+        }),
+        _ => Err(Refusal::BrokenTree),
     }
-    if kind == 2 {
-        return Node::Interior(handle_of(head), right_child, parent);
-    }
-    Node::Unknown
 }
 
-// The node at a place; `Unknown` is refusal 12, past the end or of no kind.
-pub fn node_at(nodes: &[u8], place: usize) -> Node
+// The node at a place: past the end or of no kind is refusal 12.
+pub fn node_at(nodes: &[u8], place: usize) -> Result<Node, Refusal>
     ensures { node result ≡ node_at (words_of nodes.now) place }
 {
     if place < nodes.len() / 4 / NODE_WORDS {
@@ -191,15 +179,15 @@ pub fn node_at(nodes: &[u8], place: usize) -> Node
             word_at(nodes, at + PARENT_PLACE),
         );
     }
-    Node::Unknown
+    Err(Refusal::BrokenTree)
 }
 
-// The record of the node at a place; `Nothing` is refusal 12, past the end or of an unknown side.
+// The record of the node at a place: past the end or of an unknown side is refusal 12.
 pub fn bounds_at(nodes: &[u8], place: usize) -> Result<LightBounds, Refusal>
     ensures { answered result ≡ bounds_at (words_of nodes.now) place }
 {
     if place < nodes.len() / 4 / NODE_WORDS {
         return read_record_bytes(nodes, NODE_WORDS * place + BOUNDS_PLACE);
     }
-    Err(why)
+    Err(Refusal::BrokenTree)
 }

@@ -14,8 +14,9 @@ use Rattle.light_bounds.specs.declared.importance.Query.{Query}
 use Rattle.light_rows.specs.Nodes.{invalid_index, node_count}
 use Rattle.light_sampler.specs.Fork.{most}
 use Rattle.light_sampler.specs.Walks.{Walked, ended, after_check, Draw, descend, ascend}
-use Rattle.light_sampler.specs.declared.sample.Drawn.{Drawn}
-use Rattle.light_sampler.specs.declared.sample.Drawn.TheVariants.{Light, Nothing, Refused}
+use Rattle.std.specs.Prelude.{Option as Option-of-std, Some, None, Result, Ok, Err}
+use Rattle.words.specs.declared.refusals.Refusal.{Refusal}
+use Rattle.light_sampler.specs.declared.sample.SampledLight.{SampledLight}
 
 -- ---- draw
 
@@ -59,7 +60,7 @@ pmf nodes table q handle = (pmf_walk nodes table q handle).outcome
 
 -- ---- what the enums `Drawn` and `Chance` answer
 
-abbrev pub drawn : Drawn → Answer Draw
-drawn (Light h p) = given (some (h, p))
-drawn Nothing = given none
-drawn (Refused r) = refused (number r)
+abbrev pub drawn : Result (Option-of-std SampledLight) Refusal → Answer Draw
+drawn (Ok (Some s)) = given (some (s.light, s.pmf))
+drawn (Ok None) = given none
+drawn (Err why) = refused (number why)

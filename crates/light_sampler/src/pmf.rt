@@ -45,12 +45,11 @@ fn rise(nodes: &[u8], query: Prepared, place: usize, parent: u32, above: Node) -
     ensures { factor_of result ≡ rise_of (words_of nodes.now) (by_prepared query) place parent }
 {
     match above {
-        Node::Interior(_, right, _) => match weigh_children(nodes, query, parent as usize, right) {
+        Node::Interior { right_child: right, .. } => match weigh_children(nodes, query, parent as usize, right) {
             Ok((x, y)) => part_of(place, parent as usize + 1, right as usize, x, y),
             Err(why) => Factor::Refused(why),
         },
-        Node::Leaf(_, _) => Factor::Refused(Refusal::BrokenTree),
-        Node::Unknown => Factor::Refused(Refusal::BrokenTree),
+        Node::Leaf { .. } => Factor::Refused(Refusal::BrokenTree),
     }
 }
 
@@ -65,9 +64,8 @@ fn parent_of(here: Node) -> Above
     ensures { above_of result ≡ parent_of (node here) }
 {
     match here {
-        Node::Leaf(_, parent) => Above::Parent(parent),
-        Node::Interior(_, _, parent) => Above::Parent(parent),
-        Node::Unknown => Above::Unknown,
+        Node::Leaf { parent, .. } => Above::Parent(parent),
+        Node::Interior { parent, .. } => Above::Parent(parent),
     }
 }
 
@@ -78,7 +76,7 @@ fn ascend(nodes: &[u8], query: Query, count: usize, leaf: u32) -> Result<f32, Re
     let held = prepare(query);
     let mut entries = count;
     let mut place = leaf as usize;
-    let mut here = node_at(nodes, place);
+    let mut here = node_at(nodes, place)?;
     let mut pmf: f32 = 1.0;
     while entries > 0 {
         entries -= 1;
@@ -87,7 +85,7 @@ fn ascend(nodes: &[u8], query: Query, count: usize, leaf: u32) -> Result<f32, Re
                 if parent == INVALID_INDEX {
                     return Ok(pmf);
                 }
-                let above = node_at(nodes, parent as usize);
+                let above = node_at(nodes, parent as usize)?;
                 match rise(nodes, held, place, parent, above) {
                     Factor::Part(share) => {
                         pmf = pmf * share;

@@ -14,12 +14,11 @@ use light_bounds::importance::{Prepared, Query, prepare};
 use light_rows::nodes::{Node, node_at, node_count};
 use words::refusals::Refusal;
 
-// What a draw gives: a light and its chance, none, or why not.
-#[derive(Drop)]
-pub enum Drawn {
-    Light(u32, f32),
-    Nothing,
-    Refused(Refusal),
+// A drawn light and its chance.
+#[derive(Clone, Copy)]
+pub struct SampledLight {
+    pub light: u32,
+    pub pmf: f32,
 }
 
 // Where a walk goes from a fork, or why not.
@@ -40,7 +39,7 @@ fn turn(nodes: &[u8], query: Prepared, place: usize, right: u32, u: f32) -> Way
 }
 
 // The walk: at most `count` nodes are entered.
-fn descend(nodes: &[u8], query: Query, count: usize, u: f32) -> Drawn
+fn descend(nodes: &[u8], query: Query, count: usize, u: f32) -> Result<Option<SampledLight>, Refusal>
     ensures { drawn result ≡ (descend_of (words_of nodes.now) query count 0 onef u).outcome }
 {
     let held = prepare(query);
@@ -50,11 +49,11 @@ fn descend(nodes: &[u8], query: Query, count: usize, u: f32) -> Drawn
     let mut u = u;
     while entries > 0 {
         entries -= 1;
-        match node_at(nodes, place) {
-            Node::Leaf(handle, _) => {
-                return Drawn::Light(handle, pmf);
+        match node_at(nodes, place)? {
+            Node::Leaf { light_handle: handle, .. } => {
+                return Ok(Some(SampledLight { light: handle, pmf }));
             }
-            Node::Interior(_, right, _) => match turn(nodes, held, place, right, u) {
+            Node::Interior { right_child: right, .. } => match turn(nodes, held, place, right, u) {
                 Way::On(to) => match to {
                     Turn::Left(share, next) => {
                         pmf = pmf * share;
@@ -67,19 +66,16 @@ fn descend(nodes: &[u8], query: Query, count: usize, u: f32) -> Drawn
                         place = right as usize;
                     }
                     Turn::Neither => {
-                        return Drawn::Nothing;
+                        return Ok(None);
                     }
                 },
                 Way::Refused(why) => {
-                    return Drawn::Refused(why);
+                    return Err(why);
                 }
             },
-            Node::Unknown => {
-                return Drawn::Refused(Refusal::BrokenTree);
-            }
         }
     }
-    Drawn::Refused(Refusal::BrokenTree)
+    Err(Refusal::BrokenTree)
 }
 
 // 2 and 1 of the nodes, 11 of u: how many nodes there are.
@@ -103,16 +99,16 @@ fn check_sample(nodes: &[u8], u: f32) -> Result<usize, Refusal>
 // over 8,191 nodes, 1 of a part of a node, 11 of u; then those that the walk meets, 12 where the words do not hang
 // together. Without nodes, and where neither branch of a fork has weight, none is drawn; a lone leaf is drawn
 // unweighed.
-pub fn bvh_light_sampler_sample(nodes: &[u8], query: Query, u: f32) -> Drawn
+pub fn bvh_light_sampler_sample(nodes: &[u8], query: Query, u: f32) -> Result<Option<SampledLight>, Refusal>
     ensures { drawn result ≡ sample nodes.now query u }
 {
     match check_sample(nodes, u) {
         Ok(n) => {
             if n == 0 {
-                return Drawn::Nothing;
+                return Ok(None);
             }
             descend(nodes, query, n, min(u, MOST))
         }
-        Err(why) => Drawn::Refused(why),
+        Err(why) => Err(why),
     }
 }

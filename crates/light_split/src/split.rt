@@ -10,6 +10,7 @@ use super::buckets::{Ranged, Slot, Slots, empty_slot, fill_buckets, join_to, no_
 use super::lights::{centroid_ends, component};
 use light_bounds::bounds::{Bounds3, union};
 use light_rows::block::light_box;
+use words::refusals::Refusal;
 
 // A cut: behind which bucket of which axis.
 #[derive(Clone, Copy)]

@@ -72,7 +72,7 @@ fn read_list(list: &mut [u32], chunk: &mut [u8]) -> Input
         let n = io::read_full(0, chunk);
         let got = n / 4;
         let end = 4 * got;
-        words_of_bytes(&chunk[0..end], &mut list[words..]);
+        let _ = words_of_bytes(&chunk[0..end], &mut list[words..]);
         words += got;
         if n < chunk.len() {
             stray = n % 4;

@@ -17,8 +17,9 @@ use Rattle.light_bounds.specs.declared.vecmath.Vec3.{Vec3}
 use Rattle.light_rows.specs.Nodes.{LightBVHNode, leaf, interior, invalid_index, parent}
 use Rattle.light_rows.specs.Nodes.{node_bytes, node_count, node_at, bounds_at}
 use Rattle.packed_bvh.specs.Quantize.{quantize_bounds, quantize_cos, encode_octahedral}
-use Rattle.packed_bvh.specs.declared.pack.Packed.{Packed}
-use Rattle.packed_bvh.specs.declared.pack.Packed.TheVariants.{Words, Nothing, Refused}
+use Rattle.std.specs.Prelude.{Option as Option-of-std, Result, Ok, Err}
+use Rattle.words.specs.Answers.{optional}
+use Rattle.words.specs.declared.refusals.Refusal.{Refusal}
 
 -- ---- the layout's numbers, which pack.rt and include/light_tree.h name too
 
@@ -149,7 +150,6 @@ words_packed (given none) = given none
 words_packed (given (some ws)) = given (some (length ws))
 words_packed (refused n) = refused n
 
-abbrev pub packed : Packed → Answer (Option ℕ)
-packed (Words n) = given (some n)
-packed Nothing = given none
-packed (Refused r) = refused (number r)
+abbrev pub packed : Result (Option-of-std ℕ) Refusal → Answer (Option ℕ)
+packed (Ok n) = given (optional n)
+packed (Err why) = refused (number why)

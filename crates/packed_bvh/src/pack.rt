@@ -37,14 +37,6 @@ const INDEX_MAX: u32 = 0x7fff_ffff;
 // The bit above it, which a leaf's payload has.
 const LEAF_BIT: u32 = 0x8000_0000;
 
-// How many words were packed, that there was no tree, or why not.
-#[derive(Drop)]
-pub enum Packed {
-    Words(usize),
-    Nothing,
-    Refused(Refusal),
-}
-
 // ---- a node's words
 
 // The words of a node.
@@ -115,11 +107,11 @@ fn compact_words(all: Bounds3, bounds: LightBounds, d: Vec3, payload: u32, paren
 
 // ---- a node's own checks
 
-// The payload's word and the parent, or why not.
-#[derive(Drop)]
-enum Placed {
-    Words(u32, u32),
-    Refused(Refusal),
+// The payload's word and the parent.
+#[derive(Clone, Copy)]
+struct Placed {
+    payload: u32,
+    parent: u32,
 }
 
 // Whether a parent is one of the nodes, or the root's.
@@ -129,82 +121,75 @@ fn is_parent(parent: u32, count: usize) -> bool
     parent == INVALID_INDEX || (parent as usize) < count
 }
 
-fn place_leaf(handle: u32, parent: u32, count: usize, index: usize) -> Placed
+fn place_leaf(handle: u32, parent: u32, count: usize, index: usize) -> Result<Placed, Refusal>
     ensures { placed result ≡ placing count index (leaf handle parent) }
 {
     if INDEX_MAX < handle {
-        return Placed::Refused(Refusal::TooWide);
+        return Err(Refusal::TooWide);
     }
     if is_parent(parent, count) {
-        return Placed::Words(LEAF_BIT + handle, parent);
+        return Ok(Placed { payload: LEAF_BIT + handle, parent });
     }
-    Placed::Refused(Refusal::BrokenTree)
+    Err(Refusal::BrokenTree)
 }
 
-fn place_interior(left: u32, right: u32, parent: u32, count: usize, index: usize) -> Placed
+fn place_interior(left: u32, right: u32, parent: u32, count: usize, index: usize) -> Result<Placed, Refusal>
     requires { index < 8191 }
     ensures { placed result ≡ placing count index (interior «left» «right» parent) }
 {
     if INDEX_MAX < right {
-        return Placed::Refused(Refusal::TooWide);
+        return Err(Refusal::TooWide);
     }
     if is_parent(parent, count) {
         if left as usize == index + 1 {
-            return Placed::Words(right, parent);
+            return Ok(Placed { payload: right, parent });
         }
     }
-    Placed::Refused(Refusal::BrokenTree)
+    Err(Refusal::BrokenTree)
 }
 
 // ---- a node
 
-#[derive(Drop)]
-enum PackedNode {
-    Words(Compact),
-    Refused(Refusal),
-}
-
-fn pack_bounds(all: Bounds3, bounds: LightBounds, place: Placed) -> PackedNode
+fn pack_bounds(all: Bounds3, bounds: LightBounds, place: Result<Placed, Refusal>) -> Result<Compact, Refusal>
     ensures { node_packed result ≡ pack_bounds all bounds (placed place) }
 {
     match normalize_by_division(bounds.direction) {
         Ok(d) => match place {
-            Placed::Words(payload, parent) => {
-                PackedNode::Words(compact_words(all, bounds, d, payload, parent))
+            Ok(Placed { payload, parent }) => {
+                Ok(compact_words(all, bounds, d, payload, parent))
             }
-            Placed::Refused(why) => PackedNode::Refused(why),
+            Err(why) => Err(why),
         },
-        Err(why) => PackedNode::Refused(why),
+        Err(why) => Err(why),
     }
 }
 
-fn pack_placed(nodes: &[u8], all: Bounds3, index: usize, place: Placed) -> PackedNode
+fn pack_placed(nodes: &[u8], all: Bounds3, index: usize, place: Result<Placed, Refusal>) -> Result<Compact, Refusal>
     ensures { node_packed result ≡ pack_placed all (words_of nodes.now) index (placed place) }
 {
     match bounds_at(nodes, index) {
         Ok(bounds) => match validate(bounds) {
             Ok(()) => pack_bounds(all, bounds, place),
-            Err(why) => PackedNode::Refused(why),
+            Err(why) => Err(why),
         },
-        Err(why) => PackedNode::Refused(Refusal::BrokenTree),
+        Err(why) => Err(Refusal::BrokenTree),
     }
 }
 
-fn pack_node(nodes: &[u8], all: Bounds3, count: usize, index: usize) -> PackedNode
+fn pack_node(nodes: &[u8], all: Bounds3, count: usize, index: usize) -> Result<Compact, Refusal>
     requires { index < 8191 }
     ensures { node_packed result ≡ pack_node count all (words_of nodes.now) index }
 {
-    match node_at(nodes, index) {
-        Node::Leaf(handle, parent) => {
+    match node_at(nodes, index)? {
+        Node::Leaf { light_handle: handle, parent } => {
             pack_placed(nodes, all, index, place_leaf(handle, parent, count, index))
         }
-        Node::Interior(left, right, parent) => pack_placed(
+        Node::Interior { left_child: left, right_child: right, parent } => pack_placed(
             nodes,
             all,
             index,
             place_interior(left, right, parent, count, index),
         ),
-        Node::Unknown => PackedNode::Refused(Refusal::BrokenTree),
     }
 }
 
@@ -263,7 +248,7 @@ fn reserve(n: usize) -> usize
 }
 
 // Header and nodes; a refusal zeroes the reserve.
-fn pack_nodes(nodes: &[u8], all: Bounds3, n: usize, out: &mut [u8]) -> Packed
+fn pack_nodes(nodes: &[u8], all: Bounds3, n: usize, out: &mut [u8]) -> Result<Option<usize>, Refusal>
     requires n_bound { n ≤ 8191 }
     requires n_nonzero { 0 < n }
     requires n_in_bounds { 4 * packed_reserve n ≤ length out.old }
@@ -275,17 +260,17 @@ fn pack_nodes(nodes: &[u8], all: Bounds3, n: usize, out: &mut [u8]) -> Packed
     let mut i: usize = 0;
     while i < n {
         match pack_node(nodes, all, n, i) {
-            PackedNode::Words(c) => {
+            Ok(c) => {
                 write_compact(out, HEADER_WORDS + NODE_WORDS * i, c);
                 i += 1;
             }
-            PackedNode::Refused(why) => {
+            Err(why) => {
                 zero_bytes(out, 4 * reserve(n));
-                return Packed::Refused(why);
+                return Err(why);
             }
         }
     }
-    Packed::Words(reserve(n))
+    Ok(Some(reserve(n)))
 }
 
 // ---- the checks
@@ -306,14 +291,14 @@ fn check_pack(nodes: &[u8], room: usize) -> Result<usize, Refusal>
 }
 
 // Zeroes the reserve and refuses.
-fn refuse(out: &mut [u8], n: usize, why: Refusal) -> Packed
+fn refuse(out: &mut [u8], n: usize, why: Refusal) -> Result<Option<usize>, Refusal>
     requires n_bound { n ≤ 8191 }
     requires n_in_bounds { 4 * packed_reserve n ≤ length out.old }
     ensures result_value { packed result ≡ refused (number why) }
     ensures out_after { out.new ≡ filled out.old 0 (4 * packed_reserve n) 0 }
 {
     zero_bytes(out, 4 * reserve(n));
-    Packed::Refused(why)
+    Err(why)
 }
 
 // Packs the node words with k, the number of powered lamps, and their box: the header and the nodes are written as
@@ -321,7 +306,7 @@ fn refuse(out: &mut [u8], n: usize, why: Refusal) -> Packed
 // nodes and k do not agree, 5 and 6 of the box, then node by node 12 of its kind and its side, 5 to 8 of its record, 7
 // of its direction's length, 13 of a payload over INDEX_MAX, 12 of its parent and its left child: these zero the
 // reserve. No tree gives none.
-pub fn pack_light_bvh(nodes: &[u8], k: usize, all_bounds: Option<Bounds3>, out: &mut [u8]) -> Packed
+pub fn pack_light_bvh(nodes: &[u8], k: usize, all_bounds: Option<Bounds3>, out: &mut [u8]) -> Result<Option<usize>, Refusal>
     ensures result_value { packed result
         ≡ words_packed (pack_light_bvh nodes.now k (optional all_bounds) (length out.old)) }
     ensures out_after { out.new ≡ tray packed_bytes (bytes_reserve nodes.now)
@@ -332,7 +317,7 @@ pub fn pack_light_bvh(nodes: &[u8], k: usize, all_bounds: Option<Bounds3>, out: 
         Ok(n) => match all_bounds {
             Some(all) => {
                 if n == 0 {
-                    return Packed::Refused(Refusal::BrokenTree);
+                    return Err(Refusal::BrokenTree);
                 }
                 if k == 0 {
                     return refuse(out, n, Refusal::BrokenTree);
@@ -345,12 +330,12 @@ pub fn pack_light_bvh(nodes: &[u8], k: usize, all_bounds: Option<Bounds3>, out: 
             None => {
                 if n == 0 {
                     if k == 0 {
-                        return Packed::Nothing;
+                        return Ok(None);
                     }
                 }
                 refuse(out, n, Refusal::BrokenTree)
             }
         },
-        Err(why) => Packed::Refused(why),
+        Err(why) => Err(why),
     }
 }

@@ -28,7 +28,7 @@ use light_rows::record_words::{RECORD_WORDS, read_record, write_record};
 use words::answers::code;
 use words::fill::zero_words;
 use words::floats::Float;
-use words::refusals::refusal_number;
+use words::refusals::Refusal;
 
 // ---- words and floats: plain numbers, and slices as a pointer and a length
 

@@ -13,7 +13,7 @@ ghost use Rattle.text.specs.AsCoded.Puts.{fitting};
 
 use words::limits::fits;
 use words::little_endian::bytes_of_words;
-use words::refusals::{Refusal, refusal_number};
+use words::refusals::Refusal;
 
 // ---- where there is room
 
