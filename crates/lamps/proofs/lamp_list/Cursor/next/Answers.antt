@@ -1,6 +1,7 @@
 -- `lamps::lamp_list::Cursor::next`: the head says the kind. Assumes nothing.
 use mathlib.Core.Path.{◌≡◌, ap, sym, ◌∙◌}
-use borrow.Author.Tests.{eq-eqb, ne_eqb}
+use borrow.Author.Tests.{ne_eqb}
+use native.Mathlib.Omega.{arith}
 use lib.ListN.{get_or}
 use Rattle.words.specs.Heads.{kind_of}
 use Rattle.lamps.specs.LampList.{lamp_at}
@@ -24,4 +25,5 @@ returns-in-3 c = rw (kind (goal.at.returns-in-3 c).After-kind_of, c.in-3.is) c.g
 
 pub returns-in_default : goal.returns-in_default
 unfolding lamp_at
-returns-in_default c = let h = c.in_default in ?
+returns-in_default c = let k = c.kind_of.result in
+    rw (kind (goal.at.returns-in_default c).After-kind_of, ne_eqb k 1 (λ e. omega (arith, e)), ne_eqb k 2 (λ e. omega (arith, e)), ne_eqb k 3 (λ e. omega (arith, e)))
