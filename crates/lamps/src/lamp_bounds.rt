@@ -15,16 +15,13 @@ use light_bounds::cones::Cone;
 use light_bounds::light_bounds::{LightBounds, are_cosines, union, validate};
 use light_bounds::vecmath::{Vec3, is_finite, is_finite_vec, normalize};
 use light_rows::record_words::vec_at;
+use std::f32::consts::PI;
 use trig::{acos, cos};
 use words::floats::Float;
 use words::refusals::Refusal;
 
-// π as f32 has it, 40490fdb, and the cosine of its half, b33bbd2e (proofs/LampBoundsLaws.antt computes it).
-const PI: f32 = 3.1415927;
-
+// The cosine of half π as f32 has it, b33bbd2e (proofs/LampBoundsLaws.antt computes it).
 const COS_HALF_PI: f32 = -0.00000004371139;
-
-const MINUS_ONE: f32 = -1.0;
 
 #[derive(Clone, Copy)]
 pub struct AreaTriangleInput {
@@ -117,7 +114,7 @@ impl Emission {
     fn is_bad(self) -> bool
         ensures { result ≡ emission_bad self.max self.scale }
     {
-        !is_finite(self.max) || (!is_finite(self.scale) || (self.max < 0.0 || self.scale < 0.0))
+        !is_finite(self.max) || !is_finite(self.scale) || self.max < 0.0 || self.scale < 0.0
     }
 
     // The power of a point or a spot.
@@ -166,7 +163,7 @@ fn point_bounds(position: Vec3, intensity: Emission) -> Result<LightBounds, Refu
             y: 0.0,
             z: 1.0,
         },
-        cos_theta: MINUS_ONE,
+        cos_theta: -1.0,
     };
     checked(LightBounds::of_lamp(bounds, cone, intensity.point_phi(), COS_HALF_PI, false))
 }

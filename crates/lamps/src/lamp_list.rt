@@ -103,13 +103,7 @@ impl Reading {
     pub fn triangles(self, list: &[u32]) -> &[u32]
         ensures { result.now ≡ triangles_of list.now self }
     {
-        let from = self.triangles;
-        let next = self.next;
-        let to = next.at;
-        if to < from || list.len() < to {
-            return &list[..0];
-        }
-        &list[from..to]
+        list.get(self.triangles..self.next.at).unwrap_or(&[])
     }
 }
 

@@ -45,10 +45,16 @@ returns-then-cursor-list c = let (m, (done, walked, placed)) = c.loop-i.invarian
 
 pub returns-then-not-placed : goal.returns-then-not-placed
 returns-then-not-placed c = let (m, (done, walked, placed)) = c.loop-i.invariant in
-    rw (placed-all c.args.list.now walked (omega (arith, m)) (eq-eqb _ _ c.if-cursor-list.false), ← placed,
-    c.if-not-placed.true)
+    rw (
+      placed-all c.args.list.now walked (omega (arith, m)) (eq-eqb _ _ c.if-cursor-list.false),
+      ← placed,
+      c.if-not-placed.true,
+    )
 
 pub returns : goal.returns
 returns c = let (m, (done, walked, placed)) = c.loop-i.invariant in
-    rw (placed-all c.args.list.now walked (omega (arith, m)) (eq-eqb _ _ c.if-cursor-list.false), ← placed,
-    c.if-not-placed.false) (ap given (omega (arith, m, walked.size, walked.within)))
+    rw (
+      placed-all c.args.list.now walked (omega (arith, m)) (eq-eqb _ _ c.if-cursor-list.false),
+      ← placed,
+      c.if-not-placed.false,
+    ) (ap given (omega (arith, m, walked.size, walked.within)))

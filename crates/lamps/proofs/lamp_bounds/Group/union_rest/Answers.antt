@@ -37,6 +37,7 @@ returns-in_err-result c = rw (more (goal.at.returns-in_err-result c).After-trian
 
 pub loop-words-preserved : goal.loop-words-preserved
 unfolding ◌then◌
-loop-words-preserved c =
-    (c.in-Some.ensures.steps.0 ∙ c.loop-words.invariant.0,
-    rw (more (goal.at.loop-words-preserved c).After-triangle_at, ← c.in_ok-result.ensures))
+loop-words-preserved c = (
+  c.in-Some.ensures.steps.0 ∙ c.loop-words.invariant.0,
+  rw (more (goal.at.loop-words-preserved c).After-triangle_at, ← c.in_ok-result.ensures),
+)
