@@ -1,10 +1,9 @@
 -- Laws of a lamp's bounds that its code uses. Assumes nothing.
 use Prim.Native.Nat.{ℕ, zero, suc, ◌+◌, ◌/◌, ◌≤◌, ◌<◌}
 use mathlib.Core.Path.{◌≡◌, refl, ap, sym, subst, ◌∙◌}
-use mathlib.Core.Bool.{Bool, true, false, ◌&&◌}
+use mathlib.Core.Bool.{Bool}
 use mathlib.Core.List.{List, ◌++◌}
 use native.Mathlib.Omega.{arith}
-use lib.Dec.{T}
 use lib.Ieee.{Float, of_bits, to_bits, of_int, span, climb, size, odd, units, round}
 use lib.Ieee.{neg, sum, add, sub, mul, div, lt, eq, le}
 use lib.ListN.{length, get_or, drop, length-append, get_or-append}
@@ -28,15 +27,10 @@ unfolding of_bits to_bits of_int span climb size odd units round neg sum add sub
     series_step series cos
 cos-half-pi = refl
 
--- the second of two that both hold
-pub both : (a b : Bool) → a && b ≡ true → b ≡ true
-both true b e = e
-both false b e = absurd (subst T (sym e) tt)
-
 -- a triangle is what its thirteen words say
 triangle-words : (a b : List ℕ) (i j : ℕ) →
     ((k : ℕ) → k < triangle_words → get_or a (i + k) 0 ≡ get_or b (j + k) 0) → triangle_at a i ≡ triangle_at b j
-unfolding triangle_at vec_at
+unfolding vec_at
 triangle-words a b i j h =
     let value : (n m k : ℕ) → n ≡ i + k → m ≡ j + k → k < 13 → single (get_or a n 0) ≡ single (get_or b m 0) =
     λ n m k e e' l. rw (e, e') (ap single (h k l)) in

@@ -10,7 +10,8 @@ returns-in_err-reading c = rw (← c.in_err-reading.ensures) (search rules)
 
 pub returns-in_err-bounds : goal.returns-in_err-bounds
 unfolding next_bounds ◌then◌
-returns-in_err-bounds c = rw (← c.in_ok-reading.ensures, ← c.triangles.ensures, ← c.in_err-bounds.ensures) (search rules)
+returns-in_err-bounds c = rw (← c.in_ok-reading.ensures, ← c.triangles.ensures, ← c.in_err-bounds.ensures)
+    (search rules)
 
 pub returns : goal.returns
 unfolding next_bounds ◌then◌

@@ -1,4 +1,5 @@
--- `lamps::lamp_bounds::point_bounds`: emission, position, then the record; the cosine of a quarter turn is computed once. Assumes nothing.
+-- `lamps::lamp_bounds::point_bounds`: emission, position, then the record; the cosine of a quarter turn is
+-- computed once. Assumes nothing.
 use lib.Ieee.{neg, of_bits}
 use Rattle.std.proofs.Common.{rules}
 use Rattle.lamps.proofs.LampBoundsLaws.{cos-half-pi}
@@ -12,7 +13,8 @@ returns-in_err-validate c = rw (← c.in_err-validate.ensures) (search rules)
 
 pub returns-in_err-check : goal.returns-in_err-check
 unfolding point_bounds ◌then◌
-returns-in_err-check c = rw (← c.in_ok-validate.ensures, ← c.point_box-bounds.ensures, ← c.in_err-check.ensures) (search rules)
+returns-in_err-check c = rw (← c.in_ok-validate.ensures, ← c.point_box-bounds.ensures)
+    (rw (← c.in_err-check.ensures) (search rules))
 
 pub returns : goal.returns
 unfolding point_bounds ◌then◌ neg of_bits

@@ -10,8 +10,8 @@ returns-in_err-validate c = rw (← c.in_err-validate.ensures) (search rules)
 
 pub returns-then-are_cosines : goal.returns-then-are_cosines
 unfolding spot_bounds ◌then◌
-returns-then-are_cosines c = rw (← c.in_ok-validate.ensures, ← c.are_cosines.ensures, c.if-are_cosines.true, ← c.point_phi.ensures)
-    c.spot_record.ensures
+returns-then-are_cosines c = rw (← c.in_ok-validate.ensures, ← c.are_cosines.ensures, c.if-are_cosines.true)
+    (rw (← c.point_phi.ensures) c.spot_record.ensures)
 
 pub returns : goal.returns
 unfolding spot_bounds ◌then◌

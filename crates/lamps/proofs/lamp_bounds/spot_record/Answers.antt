@@ -10,7 +10,8 @@ returns-in_err-check c = rw (← c.point_box-bounds.ensures, ← c.in_err-check.
 
 pub returns-in_err-direction : goal.returns-in_err-direction
 unfolding spot_record ◌then◌
-returns-in_err-direction c = rw (← c.point_box-bounds.ensures, ← c.in_ok-check.ensures, ← c.in_err-direction.ensures) (search rules)
+returns-in_err-direction c = rw (← c.point_box-bounds.ensures, ← c.in_ok-check.ensures)
+    (rw (← c.in_err-direction.ensures) (search rules))
 
 pub returns : goal.returns
 unfolding spot_record ◌then◌

@@ -10,7 +10,8 @@ returns-in_err-check c = rw (← c.triangle_bounds-bounds.ensures, ← c.in_err-
 
 pub returns-then-has_no_area : goal.returns-then-has_no_area
 unfolding triangle_record ◌then◌
-returns-then-has_no_area c = rw (← c.triangle_bounds-bounds.ensures, ← c.in_ok-check.ensures, ← c.has_no_area.ensures, c.if-has_no_area.true)
+returns-then-has_no_area c = rw (← c.triangle_bounds-bounds.ensures, ← c.in_ok-check.ensures)
+    (rw (← c.has_no_area.ensures, c.if-has_no_area.true))
 
 pub returns : goal.returns
 unfolding triangle_record ◌then◌

@@ -21,5 +21,5 @@ stretch ws i j None none e h = grind (arith, nat_tests)
 stretch ws i j (Some x) none e h = grind (arith, nat_tests)
 
 pub returns : goal.returns
-unfolding triangles_of
-returns c = rw c.unwrap_or.ensures (stretch c.args.list.now c.args.self.triangles c.args.self.next.at c.get.result _ refl c.get.ensures.lookup)
+returns c = let r = c.args.self in
+    rw c.unwrap_or.ensures (stretch c.args.list.now r.triangles r.next.at c.get.result _ refl c.get.ensures.lookup)
