@@ -39,20 +39,26 @@ pub fn dot(a: Vec3, b: Vec3) -> f32
 pub fn add(a: Vec3, b: Vec3) -> Vec3
     ensures { result ≡ plus a b }
 {
-    Vec3 {
-        x: a.x + b.x,
-        y: a.y + b.y,
-        z: a.z + b.z,
-    }
+    by_axis(a, b, |x, y| x + y)
 }
 
 pub fn sub(a: Vec3, b: Vec3) -> Vec3
     ensures { result ≡ minus a b }
 {
+    by_axis(a, b, |x, y| x - y)
+}
+
+// What f makes of each axis.
+pub(crate) fn by_axis<F: Fn(f32, f32) -> f32>(a: Vec3, b: Vec3, f: F) -> Vec3
+    requires { F.IsAlwaysCallable f }
+    ensures x { F.post f a.x b.x result.x }
+    ensures y { F.post f a.y b.y result.y }
+    ensures z { F.post f a.z b.z result.z }
+{
     Vec3 {
-        x: a.x - b.x,
-        y: a.y - b.y,
-        z: a.z - b.z,
+        x: f(a.x, b.x),
+        y: f(a.y, b.y),
+        z: f(a.z, b.z),
     }
 }
 
