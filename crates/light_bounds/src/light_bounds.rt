@@ -1,7 +1,8 @@
 // Bounds records (specs/LightBounds.antt): the check and the union of pbrt-r4's LightBounds, refusals in its order.
 ghost use Rattle.words.specs.Answers.{answered};
 ghost use Rattle.std.specs.Prelude.{◌≡◌};
-ghost use Rattle.light_bounds.specs.LightBounds.{light_bounds, lamp_record, cone_of, validate as validate_of, cone_check};
+ghost use Rattle.light_bounds.specs.LightBounds.{light_bounds, lamp_record, cone_of, validate as validate_of};
+ghost use Rattle.light_bounds.specs.LightBounds.{cone_check};
 ghost use Rattle.light_bounds.specs.LightBounds.{finite_cone, range_check, is_cosine};
 ghost use Rattle.light_bounds.specs.LightBounds.{are_cosines};
 ghost use Rattle.light_bounds.specs.LightBounds.{union as union_of, join as join_of};

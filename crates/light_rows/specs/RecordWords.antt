@@ -47,7 +47,8 @@ box_at ws at = record { min = vec_at ws at; max = vec_at ws (max_place at) }
 abbrev pub read_record : List ℕ → ℕ → LightBounds
 read_record ws at =
     light_bounds (box_at ws at) (vec_at ws (direction_place at)) (single (get_or ws (phi_place at) 0))
-    (single (get_or ws (cos_o_place at) 0)) (single (get_or ws (cos_e_place at) 0)) (side_of (get_or ws (side_place at) 0))
+    (single (get_or ws (cos_o_place at) 0)) (single (get_or ws (cos_e_place at) 0)) (side_of (get_or ws
+    (side_place at) 0))
 
 -- the record at a place; too few words, and a side that is unknown, are refusal n: 1 in a list or a block, 12 in a tree
 unfoldable pub record_at : ℕ → List ℕ → ℕ → Answer LightBounds

@@ -29,7 +29,9 @@ right_place at l = at + 2 * leaves l
 unfoldable pub flatten : ℕ → ℕ → Tree → List ℕ
 flatten at parent (leaf h b) = node_list (leaf_node h parent) b
 flatten at parent (fork b l r) =
-    node_list (interior (at + 1) (right_place at l) parent) b ++ flatten (at + 1) at l ++ flatten (right_place at l) at r
+    node_list (interior (at + 1) (right_place at l) parent) b ++ flatten (at + 1) at l ++ flatten
+    (right_place at l) at
+    r
 
 -- a whole tree
 abbrev pub tree_words : Tree → List ℕ

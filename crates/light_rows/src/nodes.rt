@@ -5,7 +5,8 @@ ghost use Rattle.std.specs.Prelude.{◌≡◌, cond, ◌∷◌, ◌*◌, ◌+◌
 ghost use Rattle.std.proofs.lemmas.List.Edits.{sets};
 ghost use Rattle.words.specs.LittleEndian.{words_of};
 ghost use Rattle.light_rows.specs.RecordWords.{read_record, record_list};
-ghost use Rattle.light_rows.specs.Nodes.{node_value, head_number, head_word, right_child, parent, node_list, node, node_count, node_of, node_at, bounds_at, node_words};
+ghost use Rattle.light_rows.specs.Nodes.{node_value, head_number, head_word, right_child, parent, node_list, node};
+ghost use Rattle.light_rows.specs.Nodes.{node_count, node_of, node_at, bounds_at, node_words};
 ghost use Rattle.light_rows.specs.Nodes.{node_place, bounds_place};
 ghost use Rattle.light_rows.specs.AsCoded.NodeRow.{node_fits, node_written};
 

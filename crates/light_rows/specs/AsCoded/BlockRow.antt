@@ -6,4 +6,5 @@ use Rattle.light_rows.specs.Block.{bounds_row, handle_place, bounds_words}
 
 -- a row, its place as its handle; where there are too few words nothing is written
 unfoldable pub row_written : List ℕ → ℕ → LightBounds → List ℕ
-row_written ws i b = cond (leb (handle_place i + bounds_words) (length ws)) (sets ws (handle_place i) (bounds_row i b)) ws
+row_written ws i b = cond (leb (handle_place i + bounds_words) (length ws)) (sets ws (handle_place i)
+    (bounds_row i b)) ws

@@ -162,7 +162,10 @@ pub reread : (r : LightBounds) → RecordFits r → read_record (record_list r) 
 unfolding vec_at record_list
 reread r h =
     let back : (x : Float) → T (fits binary32 x) → single (to_bits binary32 x) ≡ x = of_bits-to_bits binary32 in
-    let vector : (v : Vec3) → VecFits v → vec (single (to_bits binary32 v.x)) (single (to_bits binary32 v.y)) (single (to_bits binary32 v.z)) ≡ v =
+    let vector : (v : Vec3) → VecFits v
+    → vec (single (to_bits binary32 v.x)) (single (to_bits binary32 v.y)) (single
+    (to_bits binary32 v.z)) ≡ v
+    =
     λ v k. λ j. record { x = back v.x k.x j; y = back v.y k.y j; z = back v.z k.z j } in
     λ j. record {
       bounds =
@@ -179,7 +182,9 @@ pub read-words : (ws vs : List ℕ) (at : ℕ) → ((k : ℕ) → get_or ws (at 
     read_record ws at ≡ read_record vs 0
 unfolding vec_at
 read-words ws vs at h =
-    let word : (n k : ℕ) → n ≡ at + k → get_or ws n 0 ≡ get_or vs k 0 = λ n k e. ap (λ (m : ℕ). get_or ws m 0) e ∙ h k in
+    let word : (n k : ℕ) → n ≡ at + k
+    → get_or ws n 0 ≡ get_or vs k 0 = λ n k e. ap (λ (m : ℕ). get_or ws m 0) e
+    ∙ h k in
     let value : (n k : ℕ) → n ≡ at + k → single (get_or ws n 0) ≡
     single (get_or vs k 0) = λ n k e. ap single (word n k e) in
     λ j. record {

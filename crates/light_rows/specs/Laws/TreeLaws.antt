@@ -40,7 +40,8 @@ module _ (head right p : ℕ) where
 
 module _ (ws : List ℕ) (i : ℕ) where
   pub node_at-room : i < length ws / node_words
-      → node_at ws i ≡ node_of (get_or ws (node_place i) 0) (get_or ws (node_place i + 1) 0) (get_or ws (node_place i + 2) 0)
+      → node_at ws i ≡ node_of (get_or ws (node_place i) 0) (get_or ws (node_place i + 1) 0) (get_or ws
+      (node_place i + 2) 0)
   unfolding node_at
   node_at-room h = rw (le-leb (node_place (suc i)) (length ws) (omega arith))
 
@@ -50,7 +51,8 @@ module _ (ws : List ℕ) (i : ℕ) where
 
   pub bounds_at-past : length ws / node_words ≤ i → bounds_at ws i ≡ refused 12
   unfolding bounds_at
-  bounds_at-past h = record_at-past 12 ws (bounds_place i) (lt-leb (bounds_place i + record_words) (length ws) (omega arith))
+  bounds_at-past h = record_at-past 12 ws (bounds_place i) (lt-leb (bounds_place i + record_words) (length ws)
+      (omega arith))
 
 -- ---- read back
 
@@ -70,13 +72,23 @@ module _ (ps ss : List ℕ) (i : ℕ) (n : LightBVHNode) (b : LightBounds) (at :
       rw (p, append_assoc ps (node_list n b) ss) (get_or-append-add ps (node_list n b ++ ss) k 0)
 
   room : node_place (suc i) ≤ length (ps ++ node_list n b ++ ss)
-  room = rw (length-append (ps ++ node_list n b) ss, length-append ps (node_list n b), length-node_list n b) (omega arith)
+  room = rw (
+    length-append (ps ++ node_list n b) ss,
+    length-append ps (node_list n b),
+    length-node_list n b,
+  )
+      (omega arith)
 
   pub node-read : head_fits n ≡ true → node_at (ps ++ node_list n b ++ ss) i ≡ given n
   unfolding node_list
   node-read f =
       node_at-room (ps ++ node_list n b ++ ss) i (omega (arith, room))
-      ∙ rw (word_at (node_place i) 0 (omega arith), word_at (node_place i + 1) 1 refl, word_at (node_place i + 2) 2 refl)
+      ∙ rw (
+        word_at (node_place i) 0 (omega arith),
+        word_at (node_place i + 1) 1 refl,
+        word_at (node_place i + 2) 2
+            refl,
+      )
       (head_read n f)
 
   pub bounds-read : RecordFits b → bounds_at (ps ++ node_list n b ++ ss) i ≡ given b

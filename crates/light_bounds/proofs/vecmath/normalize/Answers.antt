@@ -1,4 +1,5 @@
--- `light_bounds::vecmath::normalize`: the length is taken once, and its reciprocal scales where it can be divided by. Assumes
+-- `light_bounds::vecmath::normalize`: the length is taken once, and its reciprocal scales where it can be divided by.
+-- Assumes
 -- nothing.
 use mathlib.Core.Path.{ap}
 use Rattle.std.proofs.Common.{rules}

@@ -1,4 +1,5 @@
--- `light_bounds::vecmath::normalize_by_division`: the length is taken once, and it divides where it can be divided by. Assumes
+-- `light_bounds::vecmath::normalize_by_division`: the length is taken once, and it divides where it can be divided
+-- by. Assumes
 -- nothing.
 use mathlib.Core.Path.{ap}
 use Rattle.std.proofs.Common.{rules}
