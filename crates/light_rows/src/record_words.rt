@@ -229,8 +229,7 @@ pub fn read_record(words: &[u32], at: usize) -> Result<LightBounds, Refusal>
 }
 
 // The record at a place of the little-endian bytes of a tree: none is refusal 12. It is fetched from its own bytes:
-    of a
-// part of known length no word is tested.
+// of a part of known length no word is tested.
 pub fn read_record_bytes(bytes: &[u8], at: usize) -> Result<LightBounds, Refusal>
     ensures { answered result ≡ record_at 12 (words_of bytes.now) at }
 {
