@@ -15,10 +15,11 @@ pub const N_BUCKETS: usize = 12;
 pub fn component(v: Vec3, dimension: usize) -> f32
     ensures { result ≡ component_of dimension v }
 {
-    if dimension == 0 {
-        return v.x;
+    match dimension {
+        0 => v.x,
+        1 => v.y,
+        _ => v.z,
     }
-    if dimension == 1 { v.y } else { v.z }
 }
 
 // The box with one more centroid.
@@ -33,26 +34,19 @@ fn widen(block: &[u32], b: Bounds3, handle: u32) -> Bounds3
 pub fn centroid_ends(block: &[u32], handles: &[u32]) -> Bounds3
     ensures { result ≡ centroid_ends block.now handles.now }
 {
-    let above = Vec3 {
-        x: 1.0 / 0.0,
-        y: 1.0 / 0.0,
-        z: 1.0 / 0.0,
+    let no_ends = Bounds3 {
+        min: Vec3 {
+            x: f32::INFINITY,
+            y: f32::INFINITY,
+            z: f32::INFINITY,
+        },
+        max: Vec3 {
+            x: f32::NEG_INFINITY,
+            y: f32::NEG_INFINITY,
+            z: f32::NEG_INFINITY,
+        },
     };
-    let under = Vec3 {
-        x: -1.0 / 0.0,
-        y: -1.0 / 0.0,
-        z: -1.0 / 0.0,
-    };
-    let mut ends = Bounds3 {
-        min: above,
-        max: under,
-    };
-    let mut i: usize = 0;
-    while i < handles.len() {
-        ends = widen(block, ends, handles[i]);
-        i += 1;
-    }
-    ends
+    handles.iter().fold(no_ends, |ends, handle| widen(block, ends, *handle))
 }
 
 fn bucket_index(value: f32, min: f32, max: f32) -> usize
@@ -61,12 +55,7 @@ fn bucket_index(value: f32, min: f32, max: f32) -> usize
     if min == max {
         return 0;
     }
-    let bucket = to_usize((value - min) / (max - min) * 12.0);
-    if bucket < N_BUCKETS {
-        bucket
-    } else {
-        N_BUCKETS - 1
-    }
+    to_usize((value - min) / (max - min) * 12.0).min(N_BUCKETS - 1)
 }
 
 // The bucket of a handle's centroid between the ends of an axis.
