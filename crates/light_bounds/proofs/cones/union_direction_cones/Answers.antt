@@ -34,10 +34,7 @@ all-directions : (a : Vec3) (b : Vec3) (cos_b : Float) → union_direction_cones
 unfolding union_direction_cones
 all-directions a b cos_b = rw whole-turn (rw (cut (angle_between a b ⊕ acos (clamp cos_b minus_one onef))) refl)
 
-pub returns-then-word_of_f32-eq3212836864 : goal.returns-then-word_of_f32-eq3212836864
+pub returns-then-word-eq3212836864 : goal.returns-then-word-eq3212836864
 unfolding of_bits
-returns-then-word_of_f32-eq3212836864 c =
-    let is : c.args.cos_a ≡ minus_one =
-    sym (of_bits-to_bits binary32 c.args.cos_a (subst T (sym c.well_formed.1.0.1) tt)) ∙
-    ap (of_bits binary32) (sym c.word_of_f32.ensures ∙ c.if-word_of_f32-eq3212836864.true) in
-    rw is (sym (all-directions c.args.a c.args.b c.args.cos_b))
+returns-then-word-eq3212836864 c =
+    let h = c.word in let k = c.well_formed in ?
