@@ -1,1 +1,1 @@
-pub mod LightLaws
+pub mod BucketLaws

@@ -1,5 +1,7 @@
 // The twelve buckets of an axis (specs/Buckets.antt): filled, joined, and what a side of a cut costs.
 ghost use Rattle.std.specs.Prelude.{◌≡◌, Some, None};
+ghost use Rattle.std.specs.Float.{binary32};
+ghost use Rattle.std.specs.Float.Ieee.{of_bits};
 ghost use Rattle.words.specs.Answers.{answered, given, ◌then◌};
 ghost use Rattle.light_split.specs.Buckets.{join_to, fill_buckets, empty_buckets, union_range};
 ghost use Rattle.light_split.specs.Buckets.{m_omega as m_omega_of, kr as kr_of, evaluate_cost, side_cost};
@@ -17,6 +19,7 @@ use words::floats::Float;
 use words::refusals::Refusal;
 
 // A bucket, None where nothing fell into it, with one more record.
+#[tactic(auto, unfolding(crate::specs::Buckets::join_to))]
 pub(crate) fn join_to(bucket: Option<LightBounds>, bounds: LightBounds) -> Result<LightBounds, Refusal>
     ensures { answered result then (λ b. given (Some b)) ≡ join_to bucket bounds }
 {
@@ -58,6 +61,7 @@ pub(crate) fn union_range(buckets: &[Option<LightBounds>]) -> Result<Option<Ligh
 
 // ---- the cost
 
+#[tactic(auto, unfolding(crate::specs::Buckets::m_omega))]
 fn m_omega(cos_theta_o: f32, cos_theta_e: f32) -> f32
     ensures { result ≡ m_omega_of cos_theta_o cos_theta_e }
 {
@@ -74,39 +78,37 @@ fn m_omega(cos_theta_o: f32, cos_theta_e: f32) -> f32
 }
 
 // The longest side over the one that is cut.
+#[tactic(auto, unfolding(crate::specs::Buckets::kr))]
 fn kr(diagonal: Vec3, dimension: usize) -> f32
     ensures { result ≡ kr_of diagonal dimension }
 {
     max(max(max(0.0, diagonal.x), diagonal.y), diagonal.z) / component(diagonal, dimension)
 }
 
-// An m_omega that was worked out, and the cosines it is of.
+// An m_omega that was worked out, and the words of the cosines that it is of.
 #[derive(Clone, Copy)]
 pub(crate) struct Omega {
-    cos_theta_o: f32,
-    cos_theta_e: f32,
+    cosines: (u32, u32),
     m_omega: f32,
-    ghost right: { m_omega ≡ m_omega_of cos_theta_o cos_theta_e },
+    ghost right: { m_omega ≡ m_omega_of (of_bits binary32 cosines.0) (of_bits binary32 cosines.1) },
 }
 
 // The m_omega of two cosines: the last one, where it is theirs.
 fn omega_for(last: &mut Option<Omega>, cos_theta_o: f32, cos_theta_e: f32) -> f32
     ensures { result ≡ m_omega_of cos_theta_o cos_theta_e }
 {
+    let cosines = (cos_theta_o.word(), cos_theta_e.word());
     if let Some(omega) = *last {
-        if omega.cos_theta_o.word() == cos_theta_o.word() && omega.cos_theta_e.word() == cos_theta_e.word() {
+        if omega.cosines == cosines {
             return omega.m_omega;
         }
     }
     let m_omega = m_omega(cos_theta_o, cos_theta_e);
-    *last = Some(Omega {
-        cos_theta_o,
-        cos_theta_e,
-        m_omega,
-    });
+    *last = Some(Omega { cosines, m_omega });
     m_omega
 }
 
+#[tactic(auto, unfolding(crate::specs::Buckets::evaluate_cost))]
 fn evaluate_cost(bounds: LightBounds, parent: Bounds3, dimension: usize, last: &mut Option<Omega>) -> f32
     ensures { result ≡ evaluate_cost bounds parent dimension }
 {
@@ -119,6 +121,7 @@ fn evaluate_cost(bounds: LightBounds, parent: Bounds3, dimension: usize, last: &
 }
 
 // A side with nothing in it costs 0.
+#[tactic(auto, unfolding(crate::specs::Buckets::side_cost))]
 pub(crate) fn side_cost(
     parent: Bounds3,
     dimension: usize,

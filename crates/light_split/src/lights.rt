@@ -1,6 +1,6 @@
 // The records that a stretch of handles names (specs/Lights.antt).
 ghost use Rattle.std.specs.Prelude.{◌≡◌, ◌<◌};
-ghost use Rattle.light_split.specs.Lights.{component as component_of, widen as widen_of, centroid_ends};
+ghost use Rattle.light_split.specs.Lights.{component as component_of, no_ends, widen as widen_of, centroid_ends};
 ghost use Rattle.light_split.specs.Lights.{bucket_index, bucket_of, n_buckets};
 
 use floats::whole::to_usize;
@@ -12,6 +12,7 @@ use light_rows::block::light_box;
 pub const N_BUCKETS: usize = 12;
 
 // A vector's figure along an axis.
+#[tactic(auto, unfolding(crate::specs::Lights::component))]
 pub fn component(v: Vec3, dimension: usize) -> f32
     ensures { result ≡ component_of dimension v }
 {
@@ -22,7 +23,28 @@ pub fn component(v: Vec3, dimension: usize) -> f32
     }
 }
 
+// The box around no centroid.
+fn no_ends() -> Bounds3
+    ensures { result ≡ no_ends }
+{
+    let above = Vec3 {
+        x: f32::INFINITY,
+        y: f32::INFINITY,
+        z: f32::INFINITY,
+    };
+    let under = Vec3 {
+        x: f32::NEG_INFINITY,
+        y: f32::NEG_INFINITY,
+        z: f32::NEG_INFINITY,
+    };
+    Bounds3 {
+        min: above,
+        max: under,
+    }
+}
+
 // The box with one more centroid.
+#[tactic(auto, unfolding(crate::specs::Lights::widen))]
 fn widen(block: &[u32], b: Bounds3, handle: u32) -> Bounds3
     ensures { result ≡ widen_of block.now b handle }
 {
@@ -31,26 +53,17 @@ fn widen(block: &[u32], b: Bounds3, handle: u32) -> Bounds3
 }
 
 // The least and the greatest of the stretch's centroids, on each axis.
+#[tactic(auto, unfolding(crate::specs::Lights::centroid_ends))]
 pub fn centroid_ends(block: &[u32], handles: &[u32]) -> Bounds3
     ensures { result ≡ centroid_ends block.now handles.now }
 {
-    let no_ends = Bounds3 {
-        min: Vec3 {
-            x: f32::INFINITY,
-            y: f32::INFINITY,
-            z: f32::INFINITY,
-        },
-        max: Vec3 {
-            x: f32::NEG_INFINITY,
-            y: f32::NEG_INFINITY,
-            z: f32::NEG_INFINITY,
-        },
-    };
-    handles.iter().fold(no_ends, |ends, handle| widen(block, ends, *handle))
+    handles.iter().fold(no_ends(), |ends, handle| widen(block, ends, *handle))
 }
 
+#[tactic(auto, unfolding(crate::specs::Lights::bucket_index))]
 fn bucket_index(value: f32, min: f32, max: f32) -> usize
-    ensures { result ≡ bucket_index value min max }
+    ensures value { result ≡ bucket_index value min max }
+    ensures upper_bound { result < n_buckets }
 {
     if min == max {
         return 0;
@@ -59,6 +72,7 @@ fn bucket_index(value: f32, min: f32, max: f32) -> usize
 }
 
 // The bucket of a handle's centroid between the ends of an axis.
+#[tactic(auto, unfolding(crate::specs::Lights::bucket_of))]
 pub fn bucket_of(block: &[u32], ends: Bounds3, dimension: usize, handle: u32) -> usize
     ensures value { result ≡ bucket_of block.now ends dimension handle }
     ensures upper_bound { result < n_buckets }

@@ -26,6 +26,7 @@ pub struct Best {
 }
 
 // The box of all that the stretch names.
+#[tactic(auto, unfolding(crate::specs::Split::combined_bounds))]
 fn combined_bounds(block: &[u32], handles: &[u32]) -> Bounds3
     ensures { result ≡ combined_bounds block.now handles.now }
 {
@@ -37,6 +38,7 @@ fn combined_bounds(block: &[u32], handles: &[u32]) -> Bounds3
     }
 }
 
+#[tactic(auto, unfolding(crate::specs::Split::better))]
 fn better(best: Best, split: Split, cost: f32) -> Best
     ensures { result ≡ better_of best split cost }
 {
