@@ -1,1 +1,2 @@
 pub mod BucketLaws
+pub mod PartitionLaws
