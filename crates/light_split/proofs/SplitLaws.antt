@@ -9,7 +9,7 @@ use Rattle.std.specs.Option.{is_some}
 use native.Mathlib.Numerals.{add-one}
 use native.Mathlib.Omega.{arith}
 use lib.Dec.{T}
-use lib.Ieee.{Float, lt}
+use lib.Ieee.{Float, lt, eq}
 use lib.ListN.{length, get_or, take, drop, length-drop}
 use borrow.Rule.Slice.PartMut.{mid_of}
 use lib.Seq.{take-suc, take_all, drop-cons}
@@ -19,8 +19,9 @@ use Rattle.words.specs.Answers.{Answer, given, refused, ◌then◌}
 use Rattle.words.proofs.AnswerLaws.{then_assoc}
 use Rattle.light_bounds.specs.declared.bounds.Bounds3.{Bounds3}
 use Rattle.light_bounds.specs.declared.light_bounds.LightBounds.{LightBounds}
-use Rattle.light_split.specs.Lights.{light_of, centroid_ends}
+use Rattle.light_split.specs.Lights.{component, centroid_ends}
 use Rattle.light_split.specs.Buckets.{Bucket, join_to, union_range, union_bucket_range, side_cost, cut_cost}
+use Rattle.light_split.specs.Buckets.{fill_buckets, empty_buckets}
 use Rattle.light_split.specs.Split.{split, combined_bounds, no_best, better, cuts, axis, choose_split}
 use Rattle.light_split.specs.declared.split.Best.{Best}
 use Rattle.light_split.specs.declared.split.Split.{Split}
@@ -199,7 +200,7 @@ pub axes_all : (ws hs : List ℕ) →
 unfolding axes choose_split
 axes_all ws hs = refl
 
-pub axes-next : (ws hs : List ℕ) (ends parent : Bounds3) (d : ℕ) (b : Best) → d < 3
+axes-next : (ws hs : List ℕ) (ends parent : Bounds3) (d : ℕ) (b : Best) → d < 3
     → axes ws hs ends parent (3 - d) b
     ≡ axis ws hs ends parent d b then λ (b : Best). axes ws hs ends parent (3 - (d + 1)) b
 unfolding axes
@@ -208,3 +209,18 @@ axes-next ws hs ends parent d b h =
     let e : 3 - d ≡ suc k = omega arith in
     let f : 2 - k ≡ d = omega arith in
     rw (e, f)
+
+-- an axis is left out, or its cuts are taken
+pub axis-out : (ws hs : List ℕ) (ends parent : Bounds3) (d : ℕ) (b : Best) → d < 3 →
+    eq (component d ends.min) (component d ends.max) ≡ true
+    → axes ws hs ends parent (3 - d) b ≡ axes ws hs ends parent (3 - (d + 1)) b
+unfolding axis ◌then◌
+axis-out ws hs ends parent d b h e = axes-next ws hs ends parent d b h ∙ rw e
+
+pub axis-in : (ws hs : List ℕ) (ends parent : Bounds3) (d : ℕ) (b : Best) → d < 3 →
+    eq (component d ends.min) (component d ends.max) ≡ false
+    → axes ws hs ends parent (3 - d) b
+    ≡ (fill_buckets ws ends d empty_buckets hs then λ (bs : List Bucket). cuts bs parent d b 11) then λ (b : Best).
+    axes ws hs ends parent (3 - (d + 1)) b
+unfolding axis
+axis-in ws hs ends parent d b h e = axes-next ws hs ends parent d b h ∙ rw e
