@@ -57,11 +57,10 @@ fn best_cut(
     buckets: &[Option<LightBounds>; N_BUCKETS],
     parent: Bounds3,
     dimension: usize,
-    best: Best,
+    mut best: Best,
 ) -> Result<Best, Refusal>
     ensures { answered result ≡ cuts buckets.now parent dimension best 11 }
 {
-    let mut best = best;
     let mut left = None;
     let mut last = None;
     for bucket in 0..N_BUCKETS - 1 {
