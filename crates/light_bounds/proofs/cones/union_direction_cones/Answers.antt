@@ -3,13 +3,12 @@
 use mathlib.Core.Path.{◌≡◌, refl, sym, ◌∙◌, ap, subst}
 use mathlib.Core.Bool.{Bool, true, false}
 use lib.Dec.{T}
-use lib.Ieee.{Float, binary32, of_bits, lt, le, is_nan}
-use lib.Ieee.Bits.{of_bits-to_bits}
+use lib.Ieee.{Float, of_bits, lt, le, is_nan}
 use Rattle.ieee.specs.Choose.{fmin, clamp}
 use Rattle.ieee.specs.Laws.ChooseOrder.{fmin-cap}
 use Rattle.ieee.specs.Single.{◌⊕◌, onef, minus_one, pi}
 use Rattle.trig.specs.Trig.{acos}
-use Rattle.trig.proofs.KnownArcs.{acos-minus-one}
+use Rattle.trig.proofs.KnownArcs.{acos-minus-one, at-word}
 use Rattle.light_bounds.specs.Cones.{union_direction_cones, cone}
 use Rattle.light_bounds.specs.Vecmath.{angle_between}
 use Rattle.light_bounds.specs.declared.vecmath.Vec3.{Vec3}
@@ -35,6 +34,11 @@ unfolding union_direction_cones
 all-directions a b cos_b = rw whole-turn (rw (cut (angle_between a b ⊕ acos (clamp cos_b minus_one onef))) refl)
 
 pub returns-then-word-eq3212836864 : goal.returns-then-word-eq3212836864
-unfolding of_bits
 returns-then-word-eq3212836864 c =
-    let h = c.word in let k = c.well_formed in ?
+    let a = c.args.a in
+    let b = c.args.b in
+    let is : minus_one ≡ a.cos_theta =
+    at-word (λ (x : Float). x) a.cos_theta minus_one _ _ c.well_formed.0.1.1.1.0.1 c.word.ensures
+    c.if-word-eq3212836864.true refl in
+    subst (λ (x : Float). cone a.direction x ≡ union_direction_cones a.direction x b.direction b.cos_theta) is
+    (sym (all-directions a.direction b.direction b.cos_theta))
