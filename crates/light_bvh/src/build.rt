@@ -51,18 +51,12 @@ fn check_reserves(m: usize, nodes: usize, table: usize, work: usize) -> Result<u
 pub fn check_build(lights: usize, block: &[u32], nodes: usize, table: usize, work: usize) -> Result<usize, Refusal>
     ensures { answered result ≡ build_check lights block.now nodes table work }
 {
-    match check_layout(block) {
-        Ok(m) => {
-            if lights != m {
-                return Err(Refusal::Ragged);
-            }
-            match check_handles(block) {
-                Ok(rows) => check_reserves(rows, nodes, table, work),
-                Err(why) => Err(why),
-            }
-        }
-        Err(why) => Err(why),
+    let m = check_layout(block)?;
+    if lights != m {
+        return Err(Refusal::Ragged);
     }
+    let rows = check_handles(block)?;
+    check_reserves(rows, nodes, table, work)
 }
 
 // Every record's own check, in order.
@@ -70,16 +64,8 @@ fn check_records(block: &[u32], m: usize) -> Result<(), Refusal>
     requires { m ≤ 4096 }
     ensures { answered result ≡ validated block.now m }
 {
-    let mut i: u32 = 0;
-    while wide(i) < m {
-        match validate(light(block, i)) {
-            Ok(()) => {
-                i += 1;
-            }
-            Err(why) => {
-                return Err(why);
-            }
-        }
+    for i in 0..m as u32 {
+        validate(light(block, i))?;
     }
     Ok(())
 }
@@ -100,13 +86,11 @@ fn gather_handles(block: &[u32], m: usize, handles: &mut [u32]) -> usize
     ensures handles_after { handles.new ≡ laid (bounded_handles block.now m) handles.old }
 {
     let mut k: usize = 0;
-    let mut i: u32 = 0;
-    while wide(i) < m {
+    for i in 0..m as u32 {
         if is_powered(block, i) {
             handles[k] = i;
             k += 1;
         }
-        i += 1;
     }
     k
 }
@@ -117,12 +101,10 @@ fn all_bounds(block: &[u32], m: usize) -> Option<Bounds3>
     ensures { optional result ≡ powered_box block.now m }
 {
     let mut all = None;
-    let mut i: u32 = 0;
-    while wide(i) < m {
+    for i in 0..m as u32 {
         if is_powered(block, i) {
             all = grow(all, light_box(block, i));
         }
-        i += 1;
     }
     all
 }
@@ -157,8 +139,7 @@ fn table_leaves(nodes: &[u32], n: usize, table: &mut [u32])
     requires n_in_bounds { node_words * n ≤ length nodes.now }
     ensures { table.new ≡ tabled_below nodes.now n table.old }
 {
-    let mut i: u32 = 0;
-    while wide(i) < n {
+    for i in 0..n as u32 {
         let head = head_at(nodes, i);
         if kind_of(head) == 1 {
             let handle = wide(handle_of(head));
@@ -166,7 +147,6 @@ fn table_leaves(nodes: &[u32], n: usize, table: &mut [u32])
                 table[handle] = i;
             }
         }
-        i += 1;
     }
 }
 
@@ -214,9 +194,9 @@ fn build_rows(
                 None => Ok(None),
             }
         }
-        Err(Refusal::LostUnion) => {
+        Err(why) => {
             zero_reserves(m, nodes, table, work);
-            Err(Refusal::LostUnion)
+            Err(why)
         }
     }
 }
