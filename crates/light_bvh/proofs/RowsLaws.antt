@@ -139,7 +139,6 @@ BoxOf [] o = o ≡ none
 BoxOf (h ∷ hs) o = (b : Bounds3) × (o ≡ some b)
 
 box-more : (hs : List ℕ) (n : ℕ) (o : Option Bounds3) (b : Bounds3) → BoxOf hs o → BoxOf (hs ++ n ∷ []) (grown o b)
-unfolding grown
 box-more [] n o b e = (b, rw e)
 box-more (h ∷ hs) n o b e = (box_union e.0 b, rw e.1)
 

@@ -221,7 +221,6 @@ module _ (root : List ℕ) (at : ℕ) (l r : Tree) (room : length root ≡ node_
 
   pub union-read : RecordFits (bounds l) → RecordFits (bounds r) →
       union_at (laid_out root at l r) (2 * leaves l) ≡ union (bounds l) (bounds r)
-  unfolding union_at
   union-read f g =
       ap (λ (b : LightBounds). union b (read_record (laid_out root at l r) (bounds_place (2 * leaves l)))) (left-read f)
       ∙ ap (union (bounds l)) (right-read g)
