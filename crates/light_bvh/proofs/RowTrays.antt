@@ -26,11 +26,11 @@ use Rattle.light_bvh.specs.Subtree.{label_of, build_subtree}
 use Rattle.light_bvh.specs.AsCoded.Stretches.{done, subtree_words}
 use Rattle.light_bvh.specs.Build.{bounded_handles, all_bounds, LightBVH, tree_of, built_bvh}
 use Rattle.light_bvh.specs.Build.{nodes_reserve, work_reserve, nodes_written, table_written}
-use Rattle.light_bvh.specs.Build.{is_short, work_written, summary}
+use Rattle.light_bvh.specs.Build.{build_check, work_written, summary}
 use Rattle.light_bvh.specs.AsCoded.Tables.{tabled_below}
-use Rattle.light_bvh.proofs.BuildLaws.{reserves-fit}
+use Rattle.light_bvh.proofs.BuildLaws.{build-checked, rows-fit}
 use Rattle.light_bvh.proofs.LateLaws.{late-tree}
-use Rattle.light_bvh.proofs.RowsLaws.{bounds-none, bounds-there, bounded-few}
+use Rattle.light_bvh.proofs.RowsLaws.{bounds-none, bounds_some, bounded-few}
 use Rattle.light_bvh.proofs.RowsLaws.{bounded-below, labels-fit, labels-below}
 use Rattle.light_bvh.proofs.SubtreeLaws.{build-size, given-of, refused-of, done-moved, words-moved}
 use Rattle.light_bvh.proofs.TableLaws.{Labels, labels-map, Thirty}
@@ -152,12 +152,13 @@ pub record Gathered (ws : List ℕ) (m : ℕ) (nodes table work table' : List �
   pub same : length table' ≡ length table
   pub is : table' ≡ laid (bounded_handles ws m) table
 
-pub gathered : (ws : List ℕ) (m : ℕ) (nodes table work table' : List ℕ) (k : ℕ) → m ≤ 4096 → length ws ≡ block_words m
-    → block_handles ws ≡ given m → is_short m (length nodes) (length table) (length work) ≡ false
+pub gathered : (ws : List ℕ) (m : ℕ) (nodes table work table' : List ℕ) (k : ℕ)
+    → build_check m ws (length nodes) (length table) (length work) ≡ given m
     → k ≡ length (bounded_handles ws m) → table' ≡ laid (bounded_handles ws m) table
     → Gathered ws m nodes table work table' k
-gathered ws m nodes table work table' k few long checked room count is =
-    let (n, t, w) = reserves-fit m (length nodes) (length table) (length work) room in
+gathered ws m nodes table work table' k e count as_laid =
+    let (is, each, few, long, checked, room) = build-checked m ws (length nodes) (length table) (length work) m e in
+    let (n, t, w) = rows-fit m ws (length nodes) (length table) (length work) m e in
     let small = bounded-few ws m in
     record {
       few = few;
@@ -168,8 +169,8 @@ gathered ws m nodes table work table' k few long checked room count is =
       room_work = w;
       count = count;
       within = omega arith;
-      same = ap length is ∙ front_length (bounded_handles ws m) table (length (bounded_handles ws m)) refl (omega arith);
-      is = is;
+      same = ap length as_laid ∙ front_length (bounded_handles ws m) table (length (bounded_handles ws m)) refl (omega arith);
+      is = as_laid;
     }
 
 -- what is to be shown of an answer and what is left in the slices
@@ -388,5 +389,5 @@ module _ {ws : List ℕ} {m : ℕ} {nodes table work table' : List ℕ} {k : ℕ
       tree-left t e whole en et el ew box is
 
   -- where there is a tree there is a box
-  pub rows-boxed : none ≡ all_bounds ws m → ⊥
-  rows-boxed e = bounds-there ws m any (sym e)
+  pub rows-boxed : (box : Bounds3) × (all_bounds ws m ≡ some box)
+  rows-boxed = bounds_some ws m any

@@ -5,7 +5,7 @@ use Rattle.light_bvh.proofs.build.gather_handles.Goals as goal
 use Rattle.light_bvh.proofs.build.gather_handles.Goals.{else-is_powered, then-is_powered}
 
 pub loop-i-init : goal.loop-i-init
-loop-i-init c = gathering-none c.args.block.now c.args.m c.args.handles.now c.requires.m_in_bounds
+loop-i-init c = gathering-none c.args.block.now _ c.args.handles.now (rw c.row_count-i-end.ensures c.requires)
 
 pub loop-i-preserved : goal.loop-i-preserved
 loop-i-preserved c =

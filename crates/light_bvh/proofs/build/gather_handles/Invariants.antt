@@ -3,4 +3,4 @@ use Rattle.light_bvh.proofs.BuildLaws.{Gathering}
 use Rattle.light_bvh.proofs.build.gather_handles.Given as goal
 
 abbrev pub invariant-loop-i : goal.invariant-loop-i
-invariant-loop-i l = Gathering l.block l.m l.initial.handles l.handles l.k l.i
+invariant-loop-i l = Gathering l.block l.i-end l.initial.handles l.handles l.k l.i
