@@ -58,10 +58,17 @@ fn is_short(m: u32, nodes: usize, table: usize, work: usize) -> bool
 }
 
 // How many rows a tree is to be built of.
-pub fn check_build(lights: usize, block: &[u32], nodes: usize, table: usize, work: usize) -> Result<usize, Refusal>
+pub fn check_build(
+    lights: usize,
+    block: &[u32],
+    nodes: usize,
+    table: usize,
+    work: usize,
+) -> Result<usize, Refusal>
     ensures { answered result ≡ build_check lights block.now nodes table work }
 {
-    if lights != check_layout(block)? {
+    let rows = check_layout(block)?;
+    if lights != rows {
         return Err(Refusal::Ragged);
     }
     let m = check_handles(block)?;
@@ -130,15 +137,15 @@ fn grow(all: Option<Bounds3>, bounds: Bounds3) -> Option<Bounds3>
 
 // ---- what is left in the lent words
 
-// Zeroes the reserves of m rows.
-fn zero_reserves(m: u32, nodes: &mut [u32], table: &mut [u32], work: &mut [u32])
-    ensures nodes_after { nodes.new ≡ filled nodes.old 0 (nodes_reserve m) 0 }
-    ensures table_after { table.new ≡ filled table.old 0 m 0 }
-    ensures work_after { work.new ≡ filled work.old 0 (work_reserve m) 0 }
+// Zeroes the reserves of so many rows.
+fn zero_reserves(rows: u32, nodes: &mut [u32], table: &mut [u32], work: &mut [u32])
+    ensures nodes_after { nodes.new ≡ filled nodes.old 0 (nodes_reserve rows) 0 }
+    ensures table_after { table.new ≡ filled table.old 0 rows 0 }
+    ensures work_after { work.new ≡ filled work.old 0 (work_reserve rows) 0 }
 {
-    zero_words(nodes, 0, nodes_reserve(m));
-    zero_words(table, 0, wide(m));
-    zero_words(work, 0, work_reserve(m));
+    zero_words(nodes, 0, nodes_reserve(rows));
+    zero_words(table, 0, wide(rows));
+    zero_words(work, 0, work_reserve(rows));
 }
 
 // Writes each leaf's place at its label, by a pass over the first n nodes.
