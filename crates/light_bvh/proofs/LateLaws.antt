@@ -2,10 +2,10 @@
 -- no build meets, by 12. Assumes nothing.
 use Prim.Native.Nat.{ℕ, zero, suc}
 use mathlib.Core.List.{List, [], ◌∷◌}
-use mathlib.Core.Option.{none, some}
 use native.Mathlib.Omega.{arith}
 use lib.Ieee.{eq}
 use lib.ListN.{get_or, set, take, drop}
+use Rattle.std.specs.Prelude.{None, Some}
 use Rattle.words.specs.Answers.{Answer, given, refused}
 use Rattle.words.proofs.AnswerLaws.{Late, only-given, only-refused, only-cond, only_then}
 use Rattle.light_bounds.proofs.LateLaws.{late-union}
@@ -23,27 +23,27 @@ use Rattle.light_bvh.specs.Subtree.{forked, tree_by, build_subtree}
 
 late-join : (o : Bucket) (b : LightBounds) → Late (join_to o b)
 unfolding join_to
-late-join none b = only-given
-late-join (some a) b = only_then (late-union a b) (λ _. only-given)
+late-join None b = only-given
+late-join (Some a) b = only_then (late-union a b) (λ _. only-given)
 
 late_fill : (ws : List ℕ) (ends : Bounds3) (d : ℕ) (bs : List Bucket) (hs : List ℕ) → Late (fill_buckets ws ends d bs hs)
 unfolding fill_buckets
 late_fill ws ends d bs [] = only-given
 late_fill ws ends d bs (h ∷ hs) =
-    only_then (late-join (get_or bs (bucket_of ws ends d h) none) (light_of ws h))
+    only_then (late-join (get_or bs (bucket_of ws ends d h) None) (light_of ws h))
     (λ b. late_fill ws ends d (set bs (bucket_of ws ends d h) b) hs)
 
 late_range : (o : Bucket) (bs : List Bucket) → Late (union_range o bs)
 unfolding union_range
 late_range o [] = only-given
-late_range o (none ∷ bs) = late_range o bs
-late_range o (some b ∷ bs) = only_then (late-join o b) (λ r. late_range r bs)
+late_range o (None ∷ bs) = late_range o bs
+late_range o (Some b ∷ bs) = only_then (late-join o b) (λ r. late_range r bs)
 
 late_cost : (bs : List Bucket) (parent : Bounds3) (d k : ℕ) → Late (cut_cost bs parent d k)
 unfolding cut_cost union_bucket_range
 late_cost bs parent d k =
-    only_then (late_range none (drop 0 (take (suc k) bs)))
-    (λ l. only_then (late_range none (drop (suc k) (take 12 bs))) (λ r. only-given))
+    only_then (late_range None (drop 0 (take (suc k) bs)))
+    (λ l. only_then (late_range None (drop (suc k) (take 12 bs))) (λ r. only-given))
 
 late-cuts : (bs : List Bucket) (parent : Bounds3) (d : ℕ) (b : Best) (n : ℕ) → Late (cuts bs parent d b n)
 unfolding cuts
