@@ -47,10 +47,16 @@ pub fill_end : (ws : List ℕ) (ends : Bounds3) (d : ℕ) (bs : List Bucket) (hs
 unfolding fill_buckets
 fill_end ws ends d bs hs i h = rw (drop_of_length-le hs h)
 
--- the bucket at a place, joined where something is in it
-pub union_next : (r : Bucket) (bs : List Bucket) (i : ℕ) → i < length bs
-    → union_range r (drop i bs) ≡ union_range r (get_or bs i None ∷ drop (i + 1) bs)
-union_next r bs i h = rw (drop-cons bs i None h, add-one i)
+-- the bucket at a place is joined, or left out where it is empty
+pub union_some : (r : Bucket) (bs : List Bucket) (i : ℕ) (b : LightBounds) → i < length bs → get_or bs i None ≡ Some b
+    → union_range r (drop i bs) ≡ join_to r b then λ (r : Bucket). union_range r (drop (i + 1) bs)
+unfolding union_range
+union_some r bs i b h e = rw (drop-cons bs i None h, add-one i, e)
+
+pub union_none : (r : Bucket) (bs : List Bucket) (i : ℕ) → i < length bs → get_or bs i None ≡ None →
+    union_range r (drop i bs) ≡ union_range r (drop (i + 1) bs)
+unfolding union_range
+union_none r bs i h e = rw (drop-cons bs i None h, add-one i, e)
 
 pub union_end : (r : Bucket) (bs : List Bucket) (i : ℕ) → length bs ≤ i → union_range r (drop i bs) ≡ given r
 unfolding union_range

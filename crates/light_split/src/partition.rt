@@ -11,6 +11,7 @@ use super::split::Split;
 use light_bounds::bounds::Bounds3;
 use words::refusals::Refusal;
 
+#[tactic(auto, unfolding(crate::specs::Partition::goes_left))]
 fn goes_left(block: &[u32], ends: Bounds3, split: Split, handle: u32) -> bool
     ensures { result ≡ goes_left block.now ends split handle }
 {

@@ -91,10 +91,11 @@ pub fn choose_split(block: &[u32], handles: &[u32]) -> Result<Split, Refusal>
         },
     };
     for dimension in 0..3 {
-        if component(ends.min, dimension) != component(ends.max, dimension) {
-            let buckets = fill_buckets(block, handles, ends, dimension)?;
-            best = best_cut(&buckets, parent, dimension, best)?;
+        if component(ends.min, dimension) == component(ends.max, dimension) {
+            continue;
         }
+        let buckets = fill_buckets(block, handles, ends, dimension)?;
+        best = best_cut(&buckets, parent, dimension, best)?;
     }
     Ok(best.best)
 }
