@@ -78,7 +78,9 @@ impl Digits {
         low
     }
 
-    // The same, from the guess: it is the root, or one above it, or else the root is found by halving.
+    // The same, from the guess: it is the root, or one above it, or else the root is found by halving. Inlined, so that
+    // the digits stay in registers.
+    #[inline(always)]
     fn root(self) -> u64
         ensures { result ≡ isqrt self.n }
     {
