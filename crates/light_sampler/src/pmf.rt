@@ -60,14 +60,12 @@ fn ascend(nodes: &[u8], query: Query, count: usize, leaf: u32) -> Result<f32, Re
             return Ok(pmf);
         }
         let above = node_at(nodes, parent as usize)?;
-        match rise(nodes, held, place, parent, above)? {
-            Some(share) => {
-                pmf = pmf * share;
-                place = parent as usize;
-                here = above;
-            }
-            None => return Ok(0.0),
-        }
+        let Some(share) = rise(nodes, held, place, parent, above)? else {
+            return Ok(0.0);
+        };
+        pmf *= share;
+        place = parent as usize;
+        here = above;
     }
     Err(Refusal::BrokenTree)
 }

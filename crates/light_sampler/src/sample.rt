@@ -41,19 +41,23 @@ fn descend(nodes: &[u8], query: Query, count: usize, u: f32) -> Result<Option<Sa
     for _ in 0..count {
         match node_at(nodes, place)? {
             Node::Leaf { light_handle: light, .. } => return Ok(Some(SampledLight { light, pmf })),
-            Node::Interior { right_child: right, .. } => match turn(nodes, held, place, right, u)? {
-                Some(Turn::Left { share, u: next }) => {
-                    pmf = pmf * share;
-                    u = next;
-                    place += 1;
+            Node::Interior { right_child: right, .. } => {
+                let Some(to) = turn(nodes, held, place, right, u)? else {
+                    return Ok(None);
+                };
+                match to {
+                    Turn::Left { share, u: next } => {
+                        pmf *= share;
+                        u = next;
+                        place += 1;
+                    }
+                    Turn::Right { share, u: next } => {
+                        pmf *= share;
+                        u = next;
+                        place = right as usize;
+                    }
                 }
-                Some(Turn::Right { share, u: next }) => {
-                    pmf = pmf * share;
-                    u = next;
-                    place = right as usize;
-                }
-                None => return Ok(None),
-            },
+            }
         }
     }
     Err(Refusal::BrokenTree)
@@ -64,7 +68,7 @@ fn check_sample(nodes: &[u8], u: f32) -> Result<usize, Refusal>
     ensures { answered result ≡ sample_check nodes.now u }
 {
     let n = node_count(nodes)?;
-    if (0.0..=1.0).contains(&u) {
+    if 0.0 <= u && u <= 1.0 {
         return Ok(n);
     }
     Err(Refusal::BadU)

@@ -1,0 +1,19 @@
+-- The parent's kind, the two weights, the child's part. Assumes nothing.
+use Rattle.std.proofs.Common.{rules}
+use Rattle.words.specs.Answers.{◌then◌}
+use Rattle.light_sampler.specs.Walks.{rise}
+use Rattle.light_sampler.proofs.pmf.rise.Goals as goal
+
+pub returns-in_err-x-in-Interior : goal.returns-in_err-x-in-Interior
+unfolding rise ◌then◌
+returns-in_err-x-in-Interior c = rw (← c.requires, c.in-Interior.is)
+    (rw (← c.in_err-x-in-Interior.ensures) (search rules))
+
+pub returns-in_ok-x-in-Interior : goal.returns-in_ok-x-in-Interior
+unfolding rise ◌then◌
+returns-in_ok-x-in-Interior c = rw (← c.requires, c.in-Interior.is)
+    (rw (← c.in_ok-x-in-Interior.ensures) c.part_of.ensures)
+
+pub returns-in-Leaf : goal.returns-in-Leaf
+unfolding rise ◌then◌
+returns-in-Leaf c = rw (← c.requires, c.in-Leaf.is)
