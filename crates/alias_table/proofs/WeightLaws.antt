@@ -10,6 +10,7 @@ use native.Mathlib.Omega.{arith}
 use lib.Dec.{T}
 use lib.Ieee.{Float, nan, inf, fin, binary32, binary64, of_bits, add, lt}
 use lib.Ieee.Scale.{finite}
+use Rattle.std.specs.Float.{float_is_finite}
 use lib.ListN.{length, get_or, drop, length-map, length-replicate, get_or-map, drop_of_length-le}
 use lib.Seq.{drop-cons}
 use Rattle.ieee.specs.Single.{single, zerof, onef}
@@ -19,21 +20,20 @@ use Rattle.alias_table.specs.declared.Sums.{Sums}
 
 -- ---- a bad weight
 
-pub bad-above : (w : Float) → lt w (inf false) ≡ false → bad w ≡ true
-unfolding lt
-bad-above nan h = refl
-bad-above (inf s) h = refl
-bad-above (fin s m e) h = absurd (subst T h tt)
+pub bad_infinite : (w : Float) → false ≡ float_is_finite w → bad w ≡ true
+unfolding float_is_finite
+bad_infinite nan h = refl
+bad_infinite (inf s) h = refl
+bad_infinite (fin s m e) h = absurd (subst T (sym h) tt)
 
 pub bad-below : (w : Float) → lt w zerof ≡ true → bad w ≡ true
 bad-below w h = rw h (or-true (not (finite w)))
 
-good-between : (w : Float) → lt w (inf false) ≡ true → lt w zerof ≡ false → bad w ≡ false
-unfolding lt of_bits
-good-between nan h k = absurd (subst T (sym h) tt)
-good-between (inf true) h k = absurd (subst T k tt)
-good-between (inf false) h k = absurd (subst T (sym h) tt)
-good-between (fin s m e) h k = rw k
+good-finite : (w : Float) → true ≡ float_is_finite w → lt w zerof ≡ false → bad w ≡ false
+unfolding float_is_finite
+good-finite nan h k = absurd (subst T h tt)
+good-finite (inf s) h k = absurd (subst T h tt)
+good-finite (fin s m e) h k = rw k
 
 -- ---- the pass
 
@@ -47,10 +47,10 @@ module _ {words : List ℕ} {i : ℕ} {s d : Float} (g : Summing words i s d) wh
     from : drop i (map single words) ≡ x ∷ drop (i + 1) (map single words)
     from = drop-cons (map single words) i zerof (rw length-map h) ∙ rw (add-one, is, ← get_or-map single words i 0)
 
-    pub sums_next : lt x (inf false) ≡ true → lt x zerof ≡ false →
+    pub sums_next : true ≡ float_is_finite x → lt x zerof ≡ false →
         Summing words (i + 1) (add binary32 s x) (add binary64 d x)
     unfolding sums_from any_bad sum_from
-    sums_next a b = record { within = omega arith; then = rw (from, good-between x a b) at g.then }
+    sums_next a b = record { within = omega arith; then = rw (from, good-finite x a b) at g.then }
 
     pub sums_stop : bad x ≡ true → None ≡ sums_of (map single words)
     unfolding sums_from any_bad

@@ -72,11 +72,11 @@ fn add_up(weights: &[u32]) -> Option<Sums>
     let mut double = 0.0;
     for word in weights {
         let w = f32::of_word(*word);
-        if !(w < f32::INFINITY) || w < 0.0 {
+        if !w.is_finite() || w < 0.0 {
             return None;
         }
-        single = single + w;
-        double = double + widen(w);
+        single += w;
+        double += widen(w);
     }
     Some(Sums { single, double })
 }
@@ -97,12 +97,13 @@ fn ones(m: usize) -> f64
 {
     let mut s = 0.0;
     for _ in 0..m {
-        s = s + 1.0;
+        s += 1.0;
     }
     s
 }
 
-// The weight at a place; where the weights are flat each is one.
+// The weight at a place; where the weights are flat each is one. The two are no struct: of one with a slice in it each
+// clause would have to name the moment, as `weights.entry.words.now`.
 fn weight_at(weights: &[u32], flat: bool, i: usize) -> f32
     requires { i < length weights.now }
     ensures { result ≡ get_or (weighted flat weights.now) i zerof }
