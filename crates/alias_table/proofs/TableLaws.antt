@@ -1,12 +1,12 @@
 -- The alias table's answer: where there is room, a bad weight's refusal or the table of the weights that are played.
 -- Assumes nothing.
 use Prim.Native.Nat.{ℕ}
-use Rattle.std.specs.Prelude.{Option, Some, None}
+use Rattle.std.specs.Prelude.{Some, None}
 use mathlib.Core.Path.{◌≡◌, refl, sym, ap, ◌∙◌}
 use mathlib.Core.Bool.{Bool, true, false, cond}
 use mathlib.Core.List.{List, map}
 use borrow.Author.Tests.{le-leb, le-ltb}
-use lib.Ieee.{Float, binary64, eq}
+use lib.Ieee.{binary64, eq}
 use lib.ListN.{length, replicate, length-map}
 use Rattle.ieee.specs.Narrow.{narrow}
 use Rattle.ieee.specs.Single.{single, zerof, onef}

@@ -8,7 +8,7 @@ use mathlib.Core.List.{List, ◌∷◌, map}
 use native.Mathlib.Numerals.{add-one}
 use native.Mathlib.Omega.{arith}
 use lib.Dec.{T}
-use lib.Ieee.{Float, nan, inf, fin, binary32, binary64, of_bits, add, lt}
+use lib.Ieee.{Float, nan, inf, fin, binary32, binary64, add, lt}
 use lib.Ieee.Scale.{finite}
 use Rattle.std.specs.Float.{float_is_finite}
 use lib.ListN.{length, get_or, drop, length-map, length-replicate, get_or-map, drop_of_length-le}

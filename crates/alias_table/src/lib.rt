@@ -37,7 +37,11 @@ struct Heights {
 
 // Bins of three words (q, p, alias) into `bins`, with `work` of four words a weight, and how many bins. Over MAX_LAMPS
 // weights is refusal 2, short bins or work 3, a weight that is NaN, infinite or below zero 8.
-pub fn build_power_alias_table(weights: &[u32], bins: &mut [u32], work: &mut [u32]) -> Result<usize, Refusal>
+pub fn build_power_alias_table(
+    weights: &[u32],
+    bins: &mut [u32],
+    work: &mut [u32],
+) -> Result<usize, Refusal>
     ensures result_value { answered result ≡ count
         (build_power_alias_table weights.now (length bins.old) (length work.old)) }
     ensures bins_after { bins.new ≡ tray bin_words (3 * length weights.now)

@@ -28,12 +28,6 @@ use Rattle.light_sampler.specs.AsCoded.Turns.{by_prepared}
 use Rattle.light_sampler.specs.Walks.{Walked, ended, after_check, Weighing, by_query, turn, taken}
 use Rattle.light_sampler.specs.Walks.{onward, descend, nought, part, rise, risen, upward, ascend}
 
--- within a list the value past its end is no matter
-pub get_d-within : (ws : List ℕ) (i d e : ℕ) → i < length ws → get_or ws i d ≡ get_or ws i e
-get_d-within [] i d e h = absurd (omega arith)
-get_d-within (w ∷ ws) zero d e h = refl
-get_d-within (w ∷ ws) (suc i) d e h = get_d-within ws i d e (omega arith)
-
 -- a node stands within the words
 pub node-within : (ws : List ℕ) (i : ℕ) {n : LightBVHNode} → given n ≡ node_at ws i → i < length ws / node_words
 node-within ws i e = go (ltb i (length ws / node_words)) refl

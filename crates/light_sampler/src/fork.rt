@@ -19,10 +19,16 @@ fn part(share: f32, u: f32) -> Turn
     ensures { turned (Some result) ≡ parted_of share u }
 {
     if u < share {
-        return Turn::Left { share, u: min(u / share, MOST) };
+        return Turn::Left {
+            share,
+            u: min(u / share, MOST),
+        };
     }
     let rest = 1.0 - share;
-    Turn::Right { share: rest, u: min((u - share) / rest, MOST) }
+    Turn::Right {
+        share: rest,
+        u: min((u - share) / rest, MOST),
+    }
 }
 
 // None where neither branch has weight.

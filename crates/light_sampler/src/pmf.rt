@@ -33,14 +33,20 @@ fn part_of(place: usize, left: usize, right: usize, x: f32, y: f32) -> Result<Op
 }
 
 // From a child to its parent, whose node is read already.
-fn rise(nodes: &[u8], query: Prepared, place: usize, parent: u32, above: Node) -> Result<Option<f32>, Refusal>
+fn rise(
+    nodes: &[u8],
+    query: Prepared,
+    place: usize,
+    parent: u32,
+    above: Node,
+) -> Result<Option<f32>, Refusal>
     requires { given (node_value above) ≡ node_at (words_of nodes.now) parent }
     ensures { risen_of result ≡ rise_of (words_of nodes.now) (by_prepared query) place parent }
 {
     match above {
-        Node::Interior { right_child: right, .. } => {
-            let (x, y) = weigh_children(nodes, query, parent as usize, right)?;
-            part_of(place, parent as usize + 1, right as usize, x, y)
+        Node::Interior { right_child, .. } => {
+            let (x, y) = weigh_children(nodes, query, parent as usize, right_child)?;
+            part_of(place, parent as usize + 1, right_child as usize, x, y)
         }
         Node::Leaf { .. } => Err(Refusal::BrokenTree),
     }
@@ -97,7 +103,12 @@ fn leaf_of(table: &[u8], handle: u32) -> u32
 // The chance of a light for a query, as the product of its weights' parts along the way up. Refusals: 2 over 8,191
 // nodes or 4,096 table words, 1 of a part of a node or of a word; then those that the walk meets, 12 where the words do
 // not hang together. A light past the table or without a leaf has chance 0.
-pub fn bvh_light_sampler_pmf(nodes: &[u8], table: &[u8], query: Query, handle: u32) -> Result<f32, Refusal>
+pub fn bvh_light_sampler_pmf(
+    nodes: &[u8],
+    table: &[u8],
+    query: Query,
+    handle: u32,
+) -> Result<f32, Refusal>
     ensures { answered result ≡ pmf_of nodes.now table.now query handle }
 {
     let n = check_pmf(nodes, table)?;

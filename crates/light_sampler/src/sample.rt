@@ -22,7 +22,13 @@ pub struct SampledLight {
 }
 
 // Where the node at a place sends u.
-fn turn(nodes: &[u8], query: Prepared, place: usize, right: u32, u: f32) -> Result<Option<Turn>, Refusal>
+fn turn(
+    nodes: &[u8],
+    query: Prepared,
+    place: usize,
+    right: u32,
+    u: f32,
+) -> Result<Option<Turn>, Refusal>
     requires { place < 2 ^ 60 }
     ensures { turn_answer result ≡ turn_of (words_of nodes.now) (by_prepared query) place right u }
 {
@@ -31,7 +37,12 @@ fn turn(nodes: &[u8], query: Prepared, place: usize, right: u32, u: f32) -> Resu
 }
 
 // The walk: at most `count` nodes are entered.
-fn descend(nodes: &[u8], query: Query, count: usize, u: f32) -> Result<Option<SampledLight>, Refusal>
+fn descend(
+    nodes: &[u8],
+    query: Query,
+    count: usize,
+    u: f32,
+) -> Result<Option<SampledLight>, Refusal>
     ensures { drawn result ≡ (descend_of (words_of nodes.now) query count 0 onef u).outcome }
 {
     let held = prepare(query);
@@ -40,9 +51,14 @@ fn descend(nodes: &[u8], query: Query, count: usize, u: f32) -> Result<Option<Sa
     let mut u = u;
     for _ in 0..count {
         match node_at(nodes, place)? {
-            Node::Leaf { light_handle: light, .. } => return Ok(Some(SampledLight { light, pmf })),
-            Node::Interior { right_child: right, .. } => {
-                let Some(to) = turn(nodes, held, place, right, u)? else {
+            Node::Leaf { light_handle, .. } => {
+                return Ok(Some(SampledLight {
+                    light: light_handle,
+                    pmf,
+                }));
+            }
+            Node::Interior { right_child, .. } => {
+                let Some(to) = turn(nodes, held, place, right_child, u)? else {
                     return Ok(None);
                 };
                 match to {
@@ -54,7 +70,7 @@ fn descend(nodes: &[u8], query: Query, count: usize, u: f32) -> Result<Option<Sa
                     Turn::Right { share, u: next } => {
                         pmf *= share;
                         u = next;
-                        place = right as usize;
+                        place = right_child as usize;
                     }
                 }
             }
@@ -78,7 +94,11 @@ fn check_sample(nodes: &[u8], u: f32) -> Result<usize, Refusal>
 // over 8,191 nodes, 1 of a part of a node, 11 of u; then those that the walk meets, 12 where the words do not hang
 // together. Without nodes, and where neither branch of a fork has weight, none is drawn; a lone leaf is drawn
 // unweighed.
-pub fn bvh_light_sampler_sample(nodes: &[u8], query: Query, u: f32) -> Result<Option<SampledLight>, Refusal>
+pub fn bvh_light_sampler_sample(
+    nodes: &[u8],
+    query: Query,
+    u: f32,
+) -> Result<Option<SampledLight>, Refusal>
     ensures { drawn result ≡ sample nodes.now query u }
 {
     let n = check_sample(nodes, u)?;

@@ -18,7 +18,12 @@ pub(crate) fn weigh_at(nodes: &[u8], query: Prepared, place: usize) -> Result<f3
 }
 
 // The weights of the node's children: the left one, behind the node, in full before the right one is looked for.
-pub(crate) fn weigh_children(nodes: &[u8], query: Prepared, place: usize, right: u32) -> Result<(f32, f32), Refusal>
+pub(crate) fn weigh_children(
+    nodes: &[u8],
+    query: Prepared,
+    place: usize,
+    right: u32,
+) -> Result<(f32, f32), Refusal>
     requires { place < 2 ^ 60 }
     ensures { answered result ≡ weights_of (words_of nodes.now) (by_prepared query) place right }
 {

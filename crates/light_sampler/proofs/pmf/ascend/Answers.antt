@@ -9,11 +9,12 @@ use Rattle.std.proofs.Common.{rules}
 use Rattle.words.specs.Answers.{answered, refused}
 use Rattle.words.specs.Refusals.{number}
 use Rattle.words.specs.LittleEndian.{words_of}
+use Rattle.light_rows.specs.Nodes.{invalid_index}
 use Rattle.light_sampler.specs.Walks.{ascend}
 use Rattle.light_sampler.proofs.WalkLaws.{ascend_unknown, ascend-spent, ascend-root}
 use Rattle.light_sampler.proofs.WalkLaws.{ascend-refused, ascend-nought, ascend-part, ascend-past}
 use Rattle.light_sampler.proofs.pmf.ascend.Goals as goal
-use Rattle.light_sampler.proofs.pmf.ascend.Goals.{In-loop}
+use Rattle.light_sampler.proofs.pmf.ascend.Goals.{In-loop, Else-parent}
 
 -- one place may be entered, and then those that are left
 going : (c : In-loop) → let args = c.args in
@@ -22,6 +23,10 @@ going : (c : In-loop) → let args = c.args in
     ≡ (ascend (words_of args.nodes.now) args.query args.count args.leaf onef).outcome
 going c = let e : c.args.count - c.loop.counter ≡ suc (c.args.count - (c.loop.counter + 1)) = omega arith in
     rw e at c.loop.invariant.walk
+
+-- the place is not the root's
+inner : (c : Else-parent) → c.parent-parent.result ≡ invalid_index → ⊥
+inner c = c.if-parent.false
 
 pub loop-init : goal.loop-init
 unfolding of_bits
@@ -38,35 +43,35 @@ returns-then-parent c =
     ∙ going (goal.at.returns-then-parent c).In-loop
 
 pub returns-in_err-above : goal.returns-in_err-above
-returns-in_err-above c =
+returns-in_err-above c = let at = goal.at.returns-in_err-above c in
     let why = c.in_err-above in
     let refusal : answered c.from_residual-in_err-above.result ≡ refused (number why.field-0.0) = search rules in
     refusal ∙ sym (ascend-past _ _ _ _ _ c.loop.invariant.stands c.parent-parent.ensures c.prepare-held.ensures
-    c.if-parent.false why.ensures)
-    ∙ going (goal.at.returns-in_err-above c).In-loop
+    (inner at.Else-parent) why.ensures)
+    ∙ going at.In-loop
 
 pub returns-in_err-share : goal.returns-in_err-share
-returns-in_err-share c =
+returns-in_err-share c = let at = goal.at.returns-in_err-share c in
     let why = c.in_err-share in
     let refusal : answered c.from_residual-in_err-share.result ≡ refused (number why.field-0.0) = search rules in
     refusal ∙ sym (ascend-refused _ _ _ _ _ c.loop.invariant.stands c.parent-parent.ensures c.prepare-held.ensures
-    c.if-parent.false why.ensures)
-    ∙ going (goal.at.returns-in_err-share c).In-loop
+    (inner at.Else-parent) why.ensures)
+    ∙ going at.In-loop
 
 pub returns-in_default : goal.returns-in_default
 unfolding of_bits
-returns-in_default c =
+returns-in_default c = let at = goal.at.returns-in_default c in
     sym (ascend-nought _ _ _ _ _ c.loop.invariant.stands c.parent-parent.ensures c.prepare-held.ensures
-    c.if-parent.false (rw c.in_default.is at c.in_ok-share.ensures))
-    ∙ going (goal.at.returns-in_default c).In-loop
+    (inner at.Else-parent) (rw c.in_default.is at c.in_ok-share.ensures))
+    ∙ going at.In-loop
 
 pub loop-preserved : goal.loop-preserved
-loop-preserved c = record {
+loop-preserved c = let at = goal.at.loop-preserved c in record {
   stands = c.in_ok-above.ensures;
   walk =
       sym (ascend-part _ _ _ _ _ c.loop.invariant.stands c.parent-parent.ensures c.prepare-held.ensures
-      c.if-parent.false (rw c.in-Some.is at c.in_ok-share.ensures))
-      ∙ going (goal.at.loop-preserved c).In-loop;
+      (inner at.Else-parent) (rw c.in-Some.is at c.in_ok-share.ensures))
+      ∙ going at.In-loop;
 }
 
 pub returns : goal.returns

@@ -26,8 +26,8 @@ going c = let e : c.args.count - c.loop.counter ≡ suc (c.args.count - (c.loop.
 
 -- the interior node at the place
 stands : (c : In-Interior) → let n = c.in-Interior in
-    given (interior n.left_child n.right n.parent) ≡ node_at (words_of c.args.nodes.now) c.loop.place
-stands c = rw c.in-Interior.is at c.in_ok-light.ensures
+    given (interior n.left_child n.right_child n.parent) ≡ node_at (words_of c.args.nodes.now) c.loop.place
+stands c = rw c.in-Interior.is at c.in_ok-light_handle.ensures
 
 -- it stands within the bytes, which are fewer than 2^63
 near : (c : In-Interior) → c.loop.place < 2 ^ 60
@@ -42,15 +42,15 @@ turn-requires c = near c
 pub overflow_add-place : goal.overflow_add-place
 overflow_add-place c = omega (arith, near (goal.at.overflow_add-place c).In-Interior)
 
-pub returns-in_err-light : goal.returns-in_err-light
-returns-in_err-light c =
-    let refusal : drawn c.from_residual.result ≡ refused (number c.in_err-light.field-0.0) = search rules in
-    refusal ∙ sym (descend_unknown _ _ _ _ _ _ c.in_err-light.ensures)
-    ∙ going (goal.at.returns-in_err-light c).In-loop
+pub returns-in_err-light_handle : goal.returns-in_err-light_handle
+returns-in_err-light_handle c =
+    let refusal : drawn c.from_residual.result ≡ refused (number c.in_err-light_handle.field-0.0) = search rules in
+    refusal ∙ sym (descend_unknown _ _ _ _ _ _ c.in_err-light_handle.ensures)
+    ∙ going (goal.at.returns-in_err-light_handle c).In-loop
 
 pub returns-in-Leaf : goal.returns-in-Leaf
 returns-in-Leaf c =
-    sym (descend-leaf _ _ _ _ _ _ (rw c.in-Leaf.is at c.in_ok-light.ensures))
+    sym (descend-leaf _ _ _ _ _ _ (rw c.in-Leaf.is at c.in_ok-light_handle.ensures))
     ∙ going (goal.at.returns-in-Leaf c).In-loop
 
 pub returns-in_err-to-in-Interior : goal.returns-in_err-to-in-Interior
