@@ -1,11 +1,10 @@
 -- A turn of each walk: what it comes to, or the walk that is left. The places that a walk enters are no part of its
 -- outcome. A query that is held weighs as the query does (`by-held`). Assumes nothing.
-use Prim.Native.Nat.{ℕ, zero, suc, ◌+◌, ◌-◌, ◌/◌, ◌<◌, ◌≤◌}
+use Prim.Native.Nat.{ℕ, zero, suc, ◌+◌, ◌/◌, ◌<◌}
 use mathlib.Core.Path.{◌≡◌, refl, sym, ap, ◌∙◌}
 use mathlib.Core.Bool.{Bool, true, false, cond}
-use mathlib.Core.List.{List, [], ◌∷◌}
+use mathlib.Core.List.{List}
 use mathlib.Core.Option.{none, some}
-use native.Mathlib.Omega.{arith}
 use borrow.Author.Tests.{ltb-true, ltb-false, eq-eqb, ne_eqb}
 use lib.Dec.{eqb, leb, ltb}
 use lib.Ieee.{Float}
@@ -25,7 +24,7 @@ use Rattle.light_rows.specs.Laws.TreeLaws.{node_at-past}
 use Rattle.light_sampler.specs.Fork.{neither, left, right, most}
 use Rattle.light_sampler.specs.Sampler.{from_root}
 use Rattle.light_sampler.specs.AsCoded.Turns.{by_prepared}
-use Rattle.light_sampler.specs.Walks.{Walked, ended, after_check, Weighing, by_query, turn, taken}
+use Rattle.light_sampler.specs.Walks.{Walked, after_check, Weighing, by_query, turn, taken}
 use Rattle.light_sampler.specs.Walks.{onward, descend, nought, part, rise, risen, upward, ascend}
 
 -- a node stands within the words

@@ -1,6 +1,6 @@
 -- The walk that is left comes to what the whole walk comes to. Assumes nothing.
 use Prim.Native.Nat.{suc, ◌+◌, ◌-◌}
-use mathlib.Core.Path.{◌≡◌, refl, sym, ◌∙◌}
+use mathlib.Core.Path.{◌≡◌, sym, ◌∙◌}
 use lib.Ieee.{of_bits}
 use native.Mathlib.Nat.{sub-zero}
 use native.Mathlib.Omega.{arith}
