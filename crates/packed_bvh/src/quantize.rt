@@ -15,26 +15,28 @@ fn steps(value: f32, min: f32, max: f32) -> f32
     clamp((value - min) / (max - min), 0.0, 1.0) * 65535.0
 }
 
-// Down to a whole step.
-pub fn quantize_down(value: f32, min: f32, max: f32) -> u32
-    ensures { result ≡ quantize_bounds false value min max }
-{
-    if min == max {
-        return 0;
-    }
-    to_u32(steps(value, min, max))
-}
-
-// Up to a whole step.
-pub fn quantize_up(value: f32, min: f32, max: f32) -> u32
-    ensures { result ≡ quantize_bounds true value min max }
+// Up or down to a whole step.
+fn quantize_bounds(up: bool, value: f32, min: f32, max: f32) -> u32
+    ensures { result ≡ quantize_bounds up value min max }
 {
     if min == max {
         return 0;
     }
     let step = steps(value, min, max);
     let n = to_u32(step);
-    if (n as f32) < step { n + 1 } else { n }
+    if up && (n as f32) < step { n + 1 } else { n }
+}
+
+pub fn quantize_down(value: f32, min: f32, max: f32) -> u32
+    ensures { result ≡ quantize_bounds false value min max }
+{
+    quantize_bounds(false, value, min, max)
+}
+
+pub fn quantize_up(value: f32, min: f32, max: f32) -> u32
+    ensures { result ≡ quantize_bounds true value min max }
+{
+    quantize_bounds(true, value, min, max)
 }
 
 // ---- cosines, in 32767 steps from -1 to 1
