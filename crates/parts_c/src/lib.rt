@@ -105,7 +105,7 @@ pub extern "C" fn floats_is_sign_negative(x: f32) -> bool
 pub extern "C" fn floats_sqrt64(x: f64) -> f64
     ensures { result ≡ sqrt binary64 x }
 {
-    floats::sqrt::sqrt64(x)
+    floats::sqrt::sqrt(x)
 }
 
 #[unsafe(no_mangle)]

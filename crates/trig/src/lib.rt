@@ -8,7 +8,7 @@ ghost use Rattle.trig.specs.Trig.{cos as cos_of, sin as sin_of, acos as acos_of,
 
 use floats::choose::abs;
 use floats::narrow::{narrow, widen};
-use floats::sqrt::sqrt64;
+use floats::sqrt::sqrt;
 use words::floats::Float;
 
 // One turn of the cosine's series at s = 1, of the sine's at s = 0.
@@ -65,7 +65,7 @@ fn arc(x: f64) -> f64
 fn twice_arc(y: f64) -> f64
     ensures { result ≡ twice_arc y }
 {
-    2.0 * arc(sqrt64((1.0 - y) / 2.0))
+    2.0 * arc(sqrt((1.0 - y) / 2.0))
 }
 
 // NaN beyond 8 on either side.

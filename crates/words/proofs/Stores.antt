@@ -31,10 +31,6 @@ copied_run {s} {d} {l} {n} vs c e hs hd =
       is = rw c.is (stored (take n s) d vs n (length-take-le n s c.within) hd ∙ simp (take-add, e));
     }
 
-pub copied-one : {s d l : List ℕ} {n v : ℕ} → Copied s d n l → v ≡ get_or s n 0 → n < length s → n < length d
-    → Copied s d (n + 1) (set l n v)
-copied-one {s} {n} {v} c e hs hd = copied_run (v ∷ []) c (rw (e, drop-cons s n 0)) (omega arith) (omega arith)
-
 -- stores one after the other are stores behind each other
 pub sets-append : (l : List ℕ) (i : ℕ) (vs us : List ℕ) → sets l i (vs ++ us) ≡ sets (sets l i vs) (i + length vs) us
 sets-append l i [] us = let e : i + 0 ≡ i = omega arith in rw e
