@@ -6,7 +6,7 @@ use mathlib.Core.List.{List, [], ◌∷◌, ◌++◌}
 use mathlib.Core.Option.{Option, none, some}
 use native.Mathlib.Numerals.{add-one}
 use native.Mathlib.Omega.{arith}
-use borrow.Author.Tests.{lt-ltb, eq-eqb, ne_eqb, ltb-false}
+use borrow.Author.Tests.{lt-ltb, eq-eqb, ne_eqb, eqb-true, eqb-false, ltb-false}
 use lib.Dec.{ltb, leb, eqb}
 use lib.ListN.{length, get_or, take, drop, length-append}
 use lib.Seq.{sets, sets-eq, length-sets, length-take-le, take-suc, take_all}
@@ -344,9 +344,38 @@ check-known nodes before n h =
         let same : m ≡ n = given_injective g in
         rw (← same) (few, ltb-false (length before) (4 * packed_reserve m) e, ap (λ (z : ℕ). 4 * packed_reserve z) is)
 
--- nothing is zeroed where there are no nodes
-pub filled_none : (l : List ℕ) (n : ℕ) → n ≡ 0 → l ≡ filled l 0 (4 * packed_reserve n) 0
-filled_none l n e = rw e (sym (filled_within l 0 0 0 zero-le zero-le))
+-- what agrees has nodes where there is a box, and none without
+module _ (n k : ℕ) where
+  pub agreed-some : (all : Option Bounds3) {box : Bounds3} → agreed n k all ≡ given (some box) → 0 < n
+  unfolding agreed ◌then◌
+  agreed-some none {box} e = go (eqb n 0 && eqb k 0) e
+    where
+      go : (b : Bool) → cond b (given none) (refused 12) ≡ given (some box) → 0 < n
+      go true e = cc
+      go false e = cc
+  agreed-some (some all) {box} e = go (eqb n 0) refl (eqb k 0) e
+    where
+      go : (a : Bool) → eqb n 0 ≡ a → (b : Bool)
+          → cond (a || b) (refused 12) (box_check all then λ _. given (some all)) ≡ given (some box)
+          → 0 < n
+      go true is b e = cc
+      go false is b e = omega (arith, eqb-false n 0 is)
+
+  pub agreed-none : (all : Option Bounds3) → agreed n k all ≡ given none → n ≡ 0
+  unfolding agreed ◌then◌
+  agreed-none none e = go (eqb n 0) refl (eqb k 0) none e
+    where
+      go : (a : Bool) → eqb n 0 ≡ a → (b : Bool) (v : Option Bounds3) → cond (a && b) (given v) (refused 12) ≡ given v
+          → n ≡ 0
+      go true is b v e = eqb-true n 0 is
+      go false is b v e = cc
+  agreed-none (some all) e = go (eqb n 0 || eqb k 0) (box_check all) e
+    where
+      go : (b : Bool) (x : Answer (Unit {0})) → cond b (refused 12) (x then λ _. given (some all)) ≡ given none
+          → n ≡ 0
+      go true x e = cc
+      go false (given u) e = cc
+      go false (refused j) e = cc
 
 module _ (nodes : List ℕ) (k : ℕ) (all : Option Bounds3) (before : List ℕ) where
   -- what is answered, and what is left in the lent bytes

@@ -33,9 +33,9 @@ module _ (value lo hi : Float) (extent : eq lo hi ≡ false) where
 
 -- ---- cosines
 
-pub cos-cut : (c : Float) → to_u16 (last_cos_step ⊗ ((c ⊕ onef) ⊘ twof)) ≡ quantize_cos c
+pub cut_cos : (c : Float) → to_u16 (last_cos_step ⊗ ((c ⊕ onef) ⊘ twof)) ≡ quantize_cos c
 unfolding quantize_cos to_u16
-cos-cut c =
+cut_cos c =
     let s = last_cos_step ⊗ ((c ⊕ onef) ⊘ twof) in
     sym (cut-floor binary32 16 s (mul-fits binary32 last_cos_step ((c ⊕ onef) ⊘ twof)))
 

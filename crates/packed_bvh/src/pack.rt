@@ -130,12 +130,25 @@ fn place(node: Node, count: usize, index: usize) -> Result<Placed, Refusal>
         return Err(Refusal::BrokenTree);
     }
     match node {
-        Node::Leaf { light_handle, parent } => {
-            Ok(Placed { payload: LEAF_BIT + light_handle, parent })
+        Node::Leaf {
+            light_handle,
+            parent,
+        } => {
+            Ok(Placed {
+                payload: LEAF_BIT + light_handle,
+                parent,
+            })
         }
-        Node::Interior { left_child, right_child, parent } => {
+        Node::Interior {
+            left_child,
+            right_child,
+            parent,
+        } => {
             if left_child as usize == index + 1 {
-                Ok(Placed { payload: right_child, parent })
+                Ok(Placed {
+                    payload: right_child,
+                    parent,
+                })
             } else {
                 Err(Refusal::BrokenTree)
             }
@@ -205,7 +218,12 @@ fn zero_reserve(out: &mut [u8], n: usize)
 }
 
 // Header and nodes; a refusal zeroes the reserve.
-fn pack_nodes(nodes: &[u8], all: Bounds3, n: usize, out: &mut [u8]) -> Result<Option<usize>, Refusal>
+fn pack_nodes(
+    nodes: &[u8],
+    all: Bounds3,
+    n: usize,
+    out: &mut [u8],
+) -> Result<Option<usize>, Refusal>
     requires n_bound { n ≤ 8191 }
     requires n_nonzero { 0 < n }
     requires n_in_bounds { 4 * packed_reserve n ≤ length out.old }
@@ -266,7 +284,12 @@ fn agree(n: usize, k: usize, all_bounds: Option<Bounds3>) -> Result<Option<Bound
 // nodes and k do not agree, 5 and 6 of the box, then node by node 12 of its kind and its side, 5 to 8 of its record, 7
 // of its direction's length, 13 of a payload over INDEX_MAX, 12 of its parent and its left child: these zero the
 // reserve. No tree gives none.
-pub fn pack_light_bvh(nodes: &[u8], k: usize, all_bounds: Option<Bounds3>, out: &mut [u8]) -> Result<Option<usize>, Refusal>
+pub fn pack_light_bvh(
+    nodes: &[u8],
+    k: usize,
+    all_bounds: Option<Bounds3>,
+    out: &mut [u8],
+) -> Result<Option<usize>, Refusal>
     ensures result_value { packed result
         ≡ words_packed (pack_light_bvh nodes.now k (optional all_bounds) (length out.old)) }
     ensures out_after { out.new ≡ tray packed_bytes (bytes_reserve nodes.now)

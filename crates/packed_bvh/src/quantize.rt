@@ -9,6 +9,7 @@ use light_bounds::vecmath::{Vec3, divide_vector};
 
 // ---- coordinates within an axis, in 65535 steps; 0 on an axis without extent
 
+#[tactic(auto, unfolding(crate::specs::Quantize::steps_of))]
 fn steps(value: f32, min: f32, max: f32) -> f32
     ensures { result ≡ steps_of value min max }
 {
@@ -41,6 +42,7 @@ pub fn quantize_up(value: f32, min: f32, max: f32) -> u32
 
 // ---- cosines, in 32767 steps from -1 to 1
 
+#[tactic(auto, using(crate::proofs::QuantizeCuts::cut_cos))]
 pub fn quantize_cos(value: f32) -> u16
     ensures { result ≡ quantize_cos value }
 {
@@ -55,6 +57,7 @@ fn sign(value: f32) -> f32
     if is_sign_negative(value) { -1.0 } else { 1.0 }
 }
 
+#[tactic(auto, unfolding(crate::specs::Quantize::folded))]
 fn fold(d: Vec3) -> Vec3
     ensures { result ≡ folded d }
 {
@@ -69,6 +72,7 @@ fn fold(d: Vec3) -> Vec3
 }
 
 // The direction on the octahedron, folded out.
+#[tactic(auto, unfolding(crate::specs::Quantize::octahedral))]
 pub fn octahedral(v: Vec3) -> Vec3
     ensures { result ≡ octahedral_of v }
 {
