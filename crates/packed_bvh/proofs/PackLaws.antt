@@ -63,7 +63,8 @@ words-next {d} ws {l} {m} {p} {i} room h w e =
     let at : 4 * p + length (bytes_of old) ≡ 4 * (p + i) = omega (arith, length-bytes_of old, long) in
     let put : set_word l (p + i) v ≡ sets l (4 * (p + i)) (bytes_of_word v) =
     rw (lt-ltb (p + i) (length l / 4) (omega (arith, same))) in
-    let all : sets d (4 * p) (bytes_of (old ++ v ∷ [])) ≡ sets (sets d (4 * p) (bytes_of old)) (4 * (p + i)) (bytes_of_word v) =
+    let all : sets d (4 * p) (bytes_of (old ++ v ∷ []))
+    ≡ sets (sets d (4 * p) (bytes_of old)) (4 * (p + i)) (bytes_of_word v) =
     ap (sets d (4 * p)) (bytes_of-append old (v ∷ []))
     ∙ sets-append d (4 * p) (bytes_of old) (bytes_of (v ∷ []))
     ∙ ap (λ (k : ℕ). sets (sets d (4 * p) (bytes_of old)) k (bytes_of_word v)) at in
@@ -72,7 +73,8 @@ words-next {d} ws {l} {m} {p} {i} room h w e =
           ∙ sym all);
     }
 
-pub words-all : {d : List ℕ} (ws : List ℕ) {l : List ℕ} {p i : ℕ} → length ws ≤ i → Words d p (take i ws) l → l ≡ sets d (4 * p) (bytes_of ws)
+pub words-all : {d : List ℕ} (ws : List ℕ) {l : List ℕ} {p i : ℕ} → length ws ≤ i → Words d p (take i ws) l
+    → l ≡ sets d (4 * p) (bytes_of ws)
 words-all {d} ws {l} {p} {i} h w = w.is ∙ rw (take_all i ws h)
 
 -- ---- a node
@@ -143,7 +145,8 @@ late_pack count all ws i =
 
 -- ---- how many nodes
 
-pub count-known : (bytes : List ℕ) (n : ℕ) → node_count bytes ≡ given n → (n ≤ max_nodes) × (length bytes / node_bytes ≡ n)
+pub count-known : (bytes : List ℕ) (n : ℕ) → node_count bytes ≡ given n
+    → (n ≤ max_nodes) × (length bytes / node_bytes ≡ n)
 unfolding node_count
 count-known bytes n e = go (ltb max_nodes (length bytes / node_bytes)) refl (eqb (length bytes % node_bytes) 0) e
   where

@@ -62,7 +62,7 @@ fn cone_word(bounds: LightBounds) -> u32
 }
 
 // The record within the overall box, with its direction at unit length.
-#[tactic(auto, using(crate::proofs::QuantizeCuts::small_steps), unfolding(crate::specs::Packed::compact_words, crate::specs::Quantize::encode_octahedral))]
+#[tactic(auto, using(crate::proofs::QuantizeCuts::small_steps))]
 fn compact_words(all: Bounds3, bounds: LightBounds, d: Vec3, payload: u32, parent: u32) -> [u32; 8]
     ensures { result ≡ compact_words all bounds d payload parent }
 {

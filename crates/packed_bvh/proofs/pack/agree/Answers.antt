@@ -2,10 +2,11 @@
 use mathlib.Core.Path.{sym}
 use borrow.Author.Rules.{rules}
 use Rattle.words.specs.Answers.{◌then◌}
-use Rattle.packed_bvh.specs.Packed.{agreed}
-use Rattle.packed_bvh.proofs.PackLaws.{agreed-empty, agreed-dark, agreed-checked, agreed-nothing, agreed-lamps, agreed-nodes}
+use Rattle.packed_bvh.proofs.PackLaws.{agreed-empty, agreed-dark, agreed-checked}
+use Rattle.packed_bvh.proofs.PackLaws.{agreed-nothing, agreed-lamps, agreed-nodes}
 use Rattle.packed_bvh.proofs.pack.agree.Goals as goal
-use Rattle.packed_bvh.proofs.pack.agree.Goals.{then-n-eq0-2-via-then-n-eq0-2, then-n-eq0-2-via-else-n-eq0-2+then-k-eq0-2}
+use Rattle.packed_bvh.proofs.pack.agree.Goals.{then-n-eq0-2-via-then-n-eq0-2}
+use Rattle.packed_bvh.proofs.pack.agree.Goals.{then-n-eq0-2-via-else-n-eq0-2+then-k-eq0-2}
 use Rattle.packed_bvh.proofs.pack.agree.Goals.{else-n-eq0-via-then-n-eq0+else-k-eq0, else-n-eq0-via-else-n-eq0}
 
 -- a box, and no nodes or no lamps
