@@ -144,7 +144,11 @@ impl Digits {
             return self.kept_root();
         }
         let q = f64::to_bits(near) % 0x200_0000;
-        if self.is_nearest(q) { q } else { self.beside(q) }
+        if self.is_nearest(q) {
+            q
+        } else {
+            self.beside(q)
+        }
     }
 
     // Twice the root of n * 2^54, and one more where it leaves a rest: the root's upper half is the root of n, a

@@ -1,7 +1,7 @@
 -- Both ways to length 1 are of the length that can be divided by. Assumes nothing.
 use Rattle.std.specs.Prelude.{◌≡◌, refl, Bool, true, false, cond, Float}
 use Rattle.ieee.specs.Single.{◌⊘◌, onef}
-use Rattle.words.specs.Answers.{Answer, given, refused, ◌then◌}
+use Rattle.words.specs.Answers.{given, refused, ◌then◌}
 use Rattle.light_bounds.specs.Vecmath.{dividing, divided, divisor, normalize, normalize_by_division, scaled, vec_length}
 use Rattle.light_bounds.specs.declared.vecmath.Vec3.{Vec3}
 

@@ -21,7 +21,7 @@ pub struct Vec3 {
 pub fn is_finite(x: f32) -> bool
     ensures { result ≡ finite x }
 {
-    x < 1.0 / 0.0 && -1.0 / 0.0 < x
+    x.is_finite()
 }
 
 pub fn is_finite_vec(v: Vec3) -> bool

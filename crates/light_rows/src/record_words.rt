@@ -15,7 +15,7 @@ ghost use Rattle.light_rows.specs.AsCoded.RecordRow.{written_at};
 use light_bounds::bounds::Bounds3;
 use light_bounds::cones::Cone;
 use light_bounds::light_bounds::LightBounds;
-use light_bounds::side::{is_side, side_of, side_word};
+use light_bounds::side::{Side, is_side};
 use light_bounds::vecmath::Vec3;
 use words::floats::Float;
 use words::limits::fits;
@@ -156,7 +156,7 @@ fn record_of(row: Row) -> LightBounds
         cone,
         f32::of_word(row.phi),
         f32::of_word(row.cos_theta_e),
-        side_of(row.side),
+        Side::from(row.side),
     )
 }
 
@@ -252,7 +252,7 @@ fn write_rest(words: &mut [u32], at: usize, record: LightBounds)
     words[at] = record.phi.word();
     words[at + 1] = record.cos_theta_o.word();
     words[at + 2] = record.cos_theta_e.word();
-    words[at + 3] = side_word(record.side);
+    words[at + 3] = u32::from(record.side);
 }
 
 fn put_record(words: &mut [u32], at: usize, record: LightBounds)

@@ -3,8 +3,7 @@
 use mathlib.Core.Path.{◌≡◌, refl, sym, ◌∙◌, ap, subst}
 use mathlib.Core.Bool.{Bool, true, false}
 use lib.Dec.{T}
-use lib.Ieee.{Float, binary32, of_bits, lt, le, is_nan}
-use lib.Ieee.Bits.{of_bits-to_bits}
+use lib.Ieee.{Float, of_bits, lt, le, is_nan}
 use Rattle.ieee.specs.Choose.{fmin, clamp}
 use Rattle.ieee.specs.Laws.ChooseOrder.{fmin-cap}
 use Rattle.ieee.specs.Single.{◌⊕◌, onef, minus_one, pi}

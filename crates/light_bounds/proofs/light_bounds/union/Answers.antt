@@ -1,6 +1,6 @@
 -- `light_bounds::light_bounds::union`: either operand that fails is 10. Assumes nothing.
 use mathlib.Core.Path.{◌≡◌, ap, sym, ◌∙◌}
-use mathlib.Core.Bool.{Bool, true, false}
+use mathlib.Core.Bool.{true, false}
 use Rattle.std.specs.Prelude.{Result, Ok, Err}
 use Rattle.std.specs.Result.{is_err}
 use Rattle.words.specs.Answers.{Answer, ◌then◌, given, refused, answered}
@@ -24,11 +24,11 @@ passed (Err why) x e h = cc
 pub returns-then-is_err : goal.returns-then-is_err
 unfolding union ◌then◌
 returns-then-is_err c = elim c.then-is_err.branch [
-  then-is_err-via-then-is_err w ↦ rw (failed _ _ c.validate.ensures (sym c.is_err.ensures.value ∙ w.if-is_err.true))
+  | then-is_err-via-then-is_err w ↦ rw (failed _ _ c.validate.ensures (sym c.is_err.ensures.value ∙ w.if-is_err.true))
   | then-is_err-via-else-is_err+then-is_err-2 w ↦
-    rw (passed _ _ c.validate.ensures (sym c.is_err.ensures.value ∙ w.if-is_err.false))
-    (rw (failed _ _ w.validate-else-is_err.ensures
-    (sym w.is_err-else-is_err.ensures.value ∙ w.if-is_err-2.true)))
+      rw (passed _ _ c.validate.ensures (sym c.is_err.ensures.value ∙ w.if-is_err.false))
+      (rw (failed _ _ w.validate-else-is_err.ensures
+      (sym w.is_err-else-is_err.ensures.value ∙ w.if-is_err-2.true)))
 ]
 
 pub returns : goal.returns

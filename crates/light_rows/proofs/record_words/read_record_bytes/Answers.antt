@@ -35,7 +35,7 @@ slice_bounds-row_in-end c = omega (arith, fit c)
 pub returns-then-fits : goal.returns-then-fits
 returns-then-fits c = let args = c.args in
     let size : 4 * args.at + 4 * record_words - 4 * args.at ≡ 4 * record_words = omega arith in
-    c.judged.ensures 12
+    c.judged.ensures
     ∙ ap (judged_row 12)
     (rw size at c.row_in.ensures ∙ row-part args.bytes.now args.at (fit (goal.at.returns-then-fits c).Then-fits))
     ∙ sym (record_at-is 12 (words_of args.bytes.now) args.at
