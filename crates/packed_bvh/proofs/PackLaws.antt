@@ -20,7 +20,6 @@ use Rattle.words.specs.Laws.TrayLaws.{tray-full, tray-early}
 use Rattle.words.proofs.AnswerLaws.{Early, Late, then-given, only-given, only-refused, only-cond, only_then}
 use Rattle.words.proofs.AnswerLaws.{only-number, not-both, given_injective}
 use Rattle.words.proofs.LittleEndianLaws.{length-bytes_of, bytes_of-append}
-use Rattle.words.proofs.FillLaws.{filled_within}
 use Rattle.words.proofs.Reserves.{tray-zeroed}
 use Rattle.words.proofs.Stores.{sets-append, drop-sets}
 use Rattle.light_bounds.specs.Bounds.{box_check}

@@ -1,8 +1,8 @@
 -- `packed_bvh::pack::pack_light_bvh`: the first checks leave the lent bytes as they are; then box, nodes and lamps
 -- agree and the nodes are packed, or the reserve is zeroed. Assumes nothing.
 use Prim.Native.Nat.{◌*◌, ◌≤◌}
-use mathlib.Core.Path.{◌≡◌, refl, sym}
-use mathlib.Core.Option.{none, some}
+use mathlib.Core.Path.{refl, sym}
+use mathlib.Core.Option.{some}
 use lib.ListN.{length}
 use borrow.Author.Rules.{rules}
 use Rattle.words.specs.Answers.{optional}

@@ -1,8 +1,8 @@
 -- `packed_bvh::pack::pack_nodes`: after i turns the words of i nodes stand behind the header (Packing); the first node
 -- that is refused zeroes them all. Assumes nothing.
-use mathlib.Core.Path.{sym, ap, ◌∙◌}
+use mathlib.Core.Path.{sym}
 use native.Mathlib.Omega.{arith}
-use Rattle.words.specs.LittleEndian.{words_of, bytes_of}
+use Rattle.words.specs.LittleEndian.{words_of}
 use Rattle.words.specs.Refusals.{number}
 use Rattle.packed_bvh.proofs.PackLaws.{packing-none, packing-one, outcome-refused, outcome-given}
 use Rattle.packed_bvh.proofs.pack.pack_nodes.Goals as goal

@@ -1,5 +1,5 @@
 -- The words so far stand there. Assumes nothing.
-use lib.ListN.{length, take}
+use lib.ListN.{take}
 use Rattle.packed_bvh.proofs.PackLaws.{Words}
 use Rattle.packed_bvh.proofs.pack.write_words.Given as goal
 
