@@ -74,14 +74,18 @@ put_then {before} {out} {out'} {vs} {us} {at} {mid} {end} a b =
 pub put_one : (before : List ℕ) (at a : ℕ) → Put before at (a ∷ []) (set before at a) (at + 1)
 put_one before at a = record { is = refl; past = refl }
 
--- the front part of a slice at whose front text was put, as long as the text
+-- the front part of a slice at whose front text was put, as long as the text: of an array, and of a slice
+pub handed_front : (before text : List ℕ) {after : List ℕ} (n : ℕ) → length text ≤ length before
+    → after ≡ sets before 0 text → n ≡ length text
+    → take n after ≡ text
+handed_front before text {after} n room is long =
+    rw (is, sets-eq text before 0 (omega (arith, room)), long)
+    (take_at text (drop (0 + length text) before) (length text) refl)
+
 pub handed : (before text : List ℕ) {after : List ℕ} (n : ℕ) → length text ≤ length before
     → after ≡ sets before 0 text → n ≡ length text
     → take (n - 0) after ≡ text
-handed before text {after} n room is long =
-    let m : n - 0 ≡ length text = omega (arith, long) in
-    rw (is, sets-eq text before 0 (omega (arith, room)), m)
-    (take_at text (drop (0 + length text) before) (length text) refl)
+handed before text n room is long = handed_front before text (n - 0) room is (omega (arith, long))
 
 -- ---- lengths
 
@@ -194,13 +198,11 @@ module _ (before : List ℕ) (n : ℕ) (room : 19 ≤ length before) {a b c : Li
       let long : p + q + r ≡ length (refusal_line n) = omega (arith, whole.past) in
       let within : p + q + r ≤ length c =
       omega (arith, refusal-short n, room, ap length whole.is, length-sets before 0 (refusal_line n)) in
-      let none : length (refusal_line n) - 0 ≡ length (refusal_line n) = omega arith in
-      let front =
-      handed before (refusal_line n) (length (refusal_line n)) (omega (arith, refusal-short n, room)) whole.is refl in (
+      (
         within,
         sym (length-take-le (p + q + r) c within),
         omega (arith, refusal-short n),
-        rw long (rw none at front),
+        handed_front before (refusal_line n) (p + q + r) (omega (arith, refusal-short n, room)) whole.is long,
       )
 
 -- ---- words as bytes
