@@ -1,9 +1,9 @@
 -- A short answer is judged by the checks alone; with one that is long enough the build's own answer, as words, is the
 -- definition's. Assumes nothing.
 use Prim.Native.Nat.{ℕ}
-use mathlib.Core.Option.{Option as Box}
+use mathlib.Core.Option.{Option}
 use mathlib.Core.Path.{◌≡◌, sym, ap, ◌∙◌}
-use Rattle.std.specs.Prelude.{Result, Ok, Option}
+use Rattle.std.specs.Prelude.{Result, Ok, Option as Option-of-std}
 use Rattle.words.specs.Answers.{Answer}
 use Rattle.words.specs.declared.refusals.Refusal.{Refusal}
 use Rattle.light_bounds.specs.declared.bounds.Bounds3.{Bounds3}
@@ -13,8 +13,8 @@ use Rattle.light_c.proofs.Answered.{short, k-fits, tree-answered, none-answered,
 use Rattle.light_c.proofs.light_build.Goals as goal
 
 -- what a build that is not refused answers
-told : {r : Result (Option Built) Refusal} {own got : Option Built} {x : Answer (ℕ × Box Bounds3)} → r ≡ Ok own → own ≡ got
-    → built r ≡ x → built (Ok got) ≡ x
+told : {r : Result (Option-of-std Built) Refusal} {own got : Option-of-std Built} {x : Answer (ℕ × Option Bounds3)}
+    → r ≡ Ok own → own ≡ got → built r ≡ x → built (Ok got) ≡ x
 told is got e = sym (ap built (is ∙ ap Ok got)) ∙ e
 
 pub returns-then-answer-lt-ANSWER_WORDS : goal.returns-then-answer-lt-ANSWER_WORDS
