@@ -3,7 +3,7 @@
 use Prim.Native.Nat.{ℕ, ◌+◌, ◌-◌, ◌*◌, ◌/◌, ◌%◌, ◌≤◌}
 use mathlib.Core.Path.{◌≡◌, refl, sym, ap, ◌∙◌}
 use mathlib.Core.List.{List, []}
-use native.Mathlib.Nat.{zero-add}
+use native.Mathlib.Nat.{zero-add, sub-zero}
 use native.Mathlib.Omega.{arith}
 use borrow.Author.Tests.{eq-eqb, le-leb}
 use lib.Dec.{ltb}
@@ -208,12 +208,20 @@ unfolding first_lines line_bytes
 first-room (given b) = omega arith
 first-room (refused n) = rw (length-append header_bytes (line_bytes (refused n))) (omega (arith, refusal-short n))
 
--- ---- a chunk's lines
+-- ---- what is handed on
 
+-- the front part of a slice at whose front text was put, as long as the text
+pub handed-front : (before text : List ℕ) {after : List ℕ} (n : ℕ) → length text ≤ length before
+    → after ≡ sets before 0 text → n ≡ length text
+    → take n after ≡ text
+handed-front before text n room is long = rw (sub-zero n) at (handed before text n room is long)
+
+-- a chunk's lines
 pub lines-handed : (t : Answer LightBVH) (nodes table groups before : List ℕ) {after : List ℕ} (n : ℕ)
     → (nodes ≡ node_bytes t) × (table ≡ table_bytes t)
     → (after ≡ sets before 0 (report_lines nodes table groups)) ×
     ((n ≡ length (report_lines nodes table groups)) × (n ≤ length before))
-    → take (n - 0) after ≡ chunk_lines t groups
+    → take n after ≡ chunk_lines t groups
 lines-handed t nodes table groups before n (walked, tabled) (is, (long, room)) =
-    rw (← walked, ← tabled) (handed before (report_lines nodes table groups) n (omega (arith, long, room)) is long)
+    rw (← walked, ← tabled)
+    (handed-front before (report_lines nodes table groups) n (omega (arith, long, room)) is long)
