@@ -11,7 +11,7 @@ use words::floats::Float;
 pub fn widen(x: f32) -> f64
     ensures { result ≡ x }
 {
-    if x != x { 0.0 / 0.0 } else { x as f64 }
+    if x.is_nan() { f64::NAN } else { x as f64 }
 }
 
 // The f32 nearest to x, ties to even.

@@ -1,5 +1,4 @@
-// Integer square roots: of a number below 2^54, of 24 digits to the nearest, and of one below 2^54 followed by 54 zero
-// digits.
+// Integer square roots of digits: whole, of 24 digits to the nearest, and with 54 zero digits behind them.
 ghost use Rattle.std.specs.Prelude.{◌≡◌, ◌+◌, ◌*◌, ◌^◌, ◌≤◌, ◌<◌};
 ghost use Rattle.std.specs.Float.Ieee.Nearest.{closest};
 ghost use Rattle.ieee.specs.Sqrt.{isqrt};
@@ -9,164 +8,167 @@ ghost use Rattle.ieee.specs.Laws.SqrtWords.{sticky};
 use super::shift::shifted_to_even;
 use words::floats::Float;
 
-// A float near the root of normal * 2^odd / 2^52, to 28 digits, for normal from 2^52 up to 2^53: a polynomial near the
-// root of x from 1 up to 2, times the root of 2 where odd is 1. Nothing rests on how near it is.
-fn near_root(normal: u64, odd: u64) -> f64
-    requires normal_bound { normal < 2 ^ 53 }
-    requires odd_bound { odd < 2 }
-{
-    let x = f64::of_word(0x3fe0_0000_0000_0000 + normal);
-    let scale = f64::of_word(0x3ff0_0000_0000_0000 + odd * 0x6_a09e_667f_3bcd);
-    let x2 = x * x;
-    let x4 = x2 * x2;
-    let low = 0.23340100123411664
-        + 1.3193533027095627 * x
-        + (0.9014983820579215 * x - 1.0794072036466167) * x2;
-    let high = 0.010791799780307481 * x - 0.06605540806667079 - 0.0007844869615530467 * x2;
-    let middle = 0.23722064099379359 * x - 0.5560180246773033 + high * x2;
-    low * scale + middle * (x4 * scale)
+// n = normal * 2^odd, with normal from 2^52 up to 2^53.
+#[derive(Clone, Copy)]
+pub(crate) struct Digits {
+    pub(crate) n: u64,
+    pub(crate) normal: u64,
+    pub(crate) odd: u64,
+    ghost n_from: { 2 ^ 52 ≤ n },
+    ghost n_bound: { n < 2 ^ 54 },
+    ghost normal_bound: { normal < 2 ^ 53 },
+    ghost odd_bound: { odd < 2 },
 }
 
-// The same to 33 digits.
-fn nearer_root(normal: u64, odd: u64) -> f64
-    requires normal_bound { normal < 2 ^ 54 }
-    requires odd_bound { odd < 2 }
-{
-    let x = f64::of_word(0x3fe0_0000_0000_0000 + normal);
-    let scale = f64::of_word(0x3ff0_0000_0000_0000 + odd * 0x6_a09e_667f_3bcd);
-    let x2 = x * x;
-    let x4 = x2 * x2;
-    let low = 0.20942746719644256
-        + 1.480147379936842 * x
-        + (1.742466250429782 * x - 1.559674922066227) * x2;
-    let middle = 0.9734175379389632 * x - 1.511709545069776
-        + (0.15005734208131682 * x - 0.4551800078956743) * x2;
-    let high = 0.004368806373851808 * x - 0.03305833417517536 - 0.0002619746762963585 * x2;
-    low * scale + (middle + high * x4) * (x4 * scale)
-}
+impl Digits {
+    // A float near the root of n / 2^52, to 28 digits: a polynomial near the root of x from 1 up to 2, times the root
+    // of 2 where odd is 1. Nothing rests on how near it is.
+    fn near_root(self) -> f64 {
+        let x = f64::of_word(0x3fe0_0000_0000_0000 + self.normal);
+        let scale = f64::of_word(0x3ff0_0000_0000_0000 + self.odd * 0x6_a09e_667f_3bcd);
+        let x2 = x * x;
+        let x4 = x2 * x2;
+        let low = 0.23340100123411664
+            + 1.3193533027095627 * x
+            + (0.9014983820579215 * x - 1.0794072036466167) * x2;
+        let high = 0.010791799780307481 * x - 0.06605540806667079 - 0.0007844869615530467 * x2;
+        let middle = 0.23722064099379359 * x - 0.5560180246773033 + high * x2;
+        low * scale + middle * (x4 * scale)
+    }
 
-// A number near the root of n, and below 2^27, for n from 2^52 up to 2^54. The sum with 2^26 leaves whole numbers in
-// the float's last digits; it is cut a little late, so that a root that is whole is met.
-fn guess(n: u64) -> u64
-    requires { n < 2 ^ 54 }
-    ensures { result < 2 ^ 27 }
-{
-    let odd = n >> 53;
-    (nearer_root(n >> odd, odd) - 0.0000000074214 + 67108864.0).word() % 0x800_0000
-}
+    // The same to 33 digits, by a polynomial of two degrees more.
+    fn nearer_root(self) -> f64 {
+        let x = f64::of_word(0x3fe0_0000_0000_0000 + self.normal);
+        let scale = f64::of_word(0x3ff0_0000_0000_0000 + self.odd * 0x6_a09e_667f_3bcd);
+        let x2 = x * x;
+        let x4 = x2 * x2;
+        let low = 0.20942746719644256
+            + 1.480147379936842 * x
+            + (1.742466250429782 * x - 1.559674922066227) * x2;
+        let middle = 0.9734175379389632 * x - 1.511709545069776
+            + (0.15005734208131682 * x - 0.4551800078956743) * x2;
+        let high = 0.004368806373851808 * x - 0.03305833417517536 - 0.0002619746762963585 * x2;
+        low * scale + (middle + high * x4) * (x4 * scale)
+    }
 
-// The greatest number whose square is at most n, by halving the range in which it lies.
-fn halving_root(n: u64) -> u64
-    requires { n < 2 ^ 54 }
-    ensures { result ≡ isqrt n }
-{
-    let mut low = 0u64;
-    let mut range = 0x800_0000u64;
-    while range > 1 {
-        let step = range / 2;
-        let middle = low + step;
-        if middle * middle <= n {
-            low = middle;
-            range = range - step;
+    // A number near the root of n, and below 2^27. The sum with 2^26 leaves whole numbers in the float's last digits;
+    // it is cut a little late, so that a root that is whole is met.
+    fn guess(self) -> u64
+        ensures { result < 2 ^ 27 }
+    {
+        (self.nearer_root() - 0.0000000074214 + 67108864.0).word() % 0x800_0000
+    }
+
+    // The greatest number whose square is at most n, by halving the range in which it lies.
+    fn halving_root(self) -> u64
+        ensures { result ≡ isqrt self.n }
+    {
+        let mut low = 0u64;
+        let mut range = 0x800_0000u64;
+        while range > 1 {
+            let step = range / 2;
+            let middle = low + step;
+            if middle * middle <= self.n {
+                low = middle;
+                range = range - step;
+            } else {
+                range = step;
+            }
+        }
+        low
+    }
+
+    // The same, from the guess: it is the root, or one above it, or else the root is found by halving. Inlined, so that
+    // the digits stay in registers.
+    #[inline(always)]
+    fn root(self) -> u64
+        ensures { result ≡ isqrt self.n }
+    {
+        let n = self.n;
+        let q = self.guess();
+        let square = q * q;
+        if square <= n && n - square <= 2 * q {
+            return q;
+        }
+        if square > n && (q - 1) * (q - 1) <= n {
+            return q - 1;
+        }
+        self.halving_root()
+    }
+
+    // Twice the root of n, and one more where the root leaves a rest.
+    fn sticky_root(self) -> u64
+        ensures { result ≡ sticky self.n }
+    {
+        let q = self.root();
+        if q * q == self.n { 2 * q } else { 2 * q + 1 }
+    }
+
+    // What is kept of the root of n when its last three digits and its rest are rounded away.
+    pub(crate) fn kept_root(self) -> u64
+        ensures { result ≡ closest (sticky self.n) (2 ^ 4) }
+    {
+        shifted_to_even(self.sticky_root(), 4)
+    }
+
+    // Whether q is the whole number nearest to the root of n / 64.
+    fn is_nearest(self, q: u64) -> bool
+        requires { q ≤ 2 ^ 25 }
+        ensures { result ≡ is_nearest self.n q }
+    {
+        let square = 64 * (q * q);
+        square + 16 < self.n + 64 * q && self.n < square + 64 * q + 16
+    }
+
+    // What is kept of the root of n where q is not it: one up or one down by the same test, and else by all the digits.
+    fn beside(self, q: u64) -> u64
+        requires { q < 2 ^ 25 }
+        ensures { result ≡ closest (sticky self.n) (2 ^ 4) }
+    {
+        if self.is_nearest(q + 1) {
+            return q + 1;
+        }
+        if q > 0 && self.is_nearest(q - 1) {
+            return q - 1;
+        }
+        self.kept_root()
+    }
+
+    // What is kept of the root of n: the float near it, which the sum with 2^29 rounds to 24 digits, where that is the
+    // nearest.
+    pub(crate) fn nearest_root(self) -> u64
+        ensures { result ≡ closest (sticky self.n) (2 ^ 4) }
+    {
+        let near = self.near_root() + 536870912.0;
+        if near.is_nan() {
+            return self.kept_root();
+        }
+        let q = f64::to_bits(near) % 0x200_0000;
+        if self.is_nearest(q) {
+            q
         } else {
-            range = step;
+            self.beside(q)
         }
     }
-    low
-}
 
-// The same, from the guess: it is the root, or one above it, or else the root is found by halving.
-fn root(n: u64) -> u64
-    requires { n < 2 ^ 54 }
-    ensures { result ≡ isqrt n }
-{
-    let q = guess(n);
-    let square = q * q;
-    if square <= n && n - square <= 2 * q {
-        return q;
-    }
-    if square > n && (q - 1) * (q - 1) <= n {
-        return q - 1;
-    }
-    halving_root(n)
-}
-
-// Twice the root of n, and one more where the root leaves a rest.
-pub(crate) fn sticky_root(n: u64) -> u64
-    requires { n < 2 ^ 54 }
-    ensures { result ≡ sticky n }
-{
-    let q = root(n);
-    if q * q == n { 2 * q } else { 2 * q + 1 }
-}
-
-// What is kept of the root of n when its last three digits and its rest are rounded away.
-pub(crate) fn kept_root(n: u64) -> u64
-    requires { n < 2 ^ 54 }
-    ensures { result ≡ closest (sticky n) (2 ^ 4) }
-{
-    shifted_to_even(sticky_root(n), 4)
-}
-
-// Whether q is the whole number nearest to the root of n / 64.
-fn is_nearest(n: u64, q: u64) -> bool
-    requires n_bound { n < 2 ^ 54 }
-    requires q_bound { q ≤ 2 ^ 25 }
-    ensures { result ≡ is_nearest n q }
-{
-    let square = 64 * (q * q);
-    square + 16 < n + 64 * q && n < square + 64 * q + 16
-}
-
-// What is kept of the root of n where q is not it: one up or one down by the same test, and else by all the digits.
-fn beside(n: u64, q: u64) -> u64
-    requires n_bound { n < 2 ^ 54 }
-    requires q_bound { q < 2 ^ 25 }
-    ensures { result ≡ closest (sticky n) (2 ^ 4) }
-{
-    if is_nearest(n, q + 1) {
-        return q + 1;
-    }
-    if q > 0 && is_nearest(n, q - 1) {
-        return q - 1;
-    }
-    kept_root(n)
-}
-
-// What is kept of the root of n, where n = normal * 2^odd: the float near it, which the sum with 2^29 rounds to 24
-// digits, where that is the nearest.
-pub(crate) fn nearest_root(n: u64, normal: u64, odd: u64) -> u64
-    requires n_bound { n < 2 ^ 54 }
-    requires normal_bound { normal < 2 ^ 53 }
-    requires odd_bound { odd < 2 }
-    ensures { result ≡ closest (sticky n) (2 ^ 4) }
-{
-    let near = near_root(normal, odd) + 536870912.0;
-    if near != near {
-        return kept_root(n);
-    }
-    let q = f64::to_bits(near) % 0x200_0000;
-    if is_nearest(n, q) { q } else { beside(n, q) }
-}
-
-// The same for n * 2^54: the root's upper half is the root of n, a division by it finds the lower half or one more, and
-// the rest tells which.
-pub(crate) fn wide_sticky_root(n: u64) -> u64
-    requires bound { 2 ^ 52 ≤ n }
-    requires n_bound { n < 2 ^ 54 }
-    ensures { result ≡ sticky (n * 2 ^ 54) }
-{
-    let upper = root(n);
-    let rest = (n - upper * upper) * 0x800_0000;
-    let lower = rest / (2 * upper);
-    let over = rest % (2 * upper) * 0x800_0000;
-    let whole = upper * 0x800_0000 + lower;
-    let square = lower * lower;
-    if over == square {
-        2 * whole
-    } else if over < square {
-        2 * whole - 1
-    } else {
-        2 * whole + 1
+    // Twice the root of n * 2^54, and one more where it leaves a rest: the root's upper half is the root of n, a
+    // division by it finds the lower half or one more, and the rest tells which.
+    pub(crate) fn wide_sticky_root(self) -> u64
+        ensures { result ≡ sticky (self.n * 2 ^ 54) }
+    {
+        let n = self.n;
+        let upper = self.root();
+        let rest = (n - upper * upper) * 0x800_0000;
+        let lower = rest / (2 * upper);
+        let over = rest % (2 * upper) * 0x800_0000;
+        let whole = upper * 0x800_0000 + lower;
+        let square = lower * lower;
+        if over == square {
+            2 * whole
+        } else if over < square {
+            2 * whole - 1
+        } else {
+            2 * whole + 1
+        }
     }
 }

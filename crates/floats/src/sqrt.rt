@@ -8,22 +8,38 @@ ghost use Rattle.std.specs.Float.Ieee.Nearest.{closest};
 ghost use Rattle.ieee.specs.Sqrt.{sqrt as rooted, root_of};
 ghost use Rattle.ieee.specs.Laws.SqrtWords.{sticky};
 
-use super::root::{kept_root, nearest_root, wide_sticky_root};
+use super::root::Digits;
 use super::shift::shifted_to_even;
 use words::floats::Float;
 
-// The root of x: the nearest f32, ties to even; of -0, -0; below zero or NaN, NaN; of infinity, infinity.
-pub fn sqrt(x: f32) -> f32
-    ensures { result ≡ rooted binary32 x }
-{
-    f32::of_word(root_word(x.word()))
+// A format of floats whose roots are taken here.
+pub trait Root: Float {
+    // The word of the root.
+    fn root_word(self) -> Self::Word
+        ensures { of_bits Self.format (Self.number result) ≡ rooted Self.format (Self.value self) };
 }
 
-// The same for f64.
-pub fn sqrt64(x: f64) -> f64
-    ensures { result ≡ rooted binary64 x }
+impl Root for f32 {
+    fn root_word(self) -> u32
+        ensures { of_bits binary32 result ≡ rooted binary32 self }
+    {
+        root_word(self.word())
+    }
+}
+
+impl Root for f64 {
+    fn root_word(self) -> u64
+        ensures { of_bits binary64 result ≡ rooted binary64 self }
+    {
+        sqrt64_word(self.word())
+    }
+}
+
+// The root of x: the nearest float, ties to even; of -0, -0; below zero or NaN, NaN; of infinity, infinity.
+pub fn sqrt<F: Root>(x: F) -> F
+    ensures { F.value result ≡ rooted F.format (F.value x) }
 {
-    f64::of_word(sqrt64_word(x.word()))
+    F::of_word(x.root_word())
 }
 
 // The pattern of the root of a pattern's value. Lengths and cosines are often 1, which is its own root.
@@ -73,13 +89,11 @@ fn sqrt64_word(w: u64) -> u64
     )
 }
 
-// digits * 4^half, where digits are normal * 2^odd, with normal from 2^52 up to 2^53.
+// n * 4^half, of digits n.
 #[derive(Drop)]
 struct Scaled {
-    digits: u64,
+    digits: Digits,
     half: u64,
-    normal: u64,
-    odd: u64,
 }
 
 // The number d * 2^e so: d is shifted until its leading digit is at place 52, and once more where the exponent is then
@@ -88,33 +102,29 @@ fn normalised(d: u64, e: u64) -> Scaled
     requires d_nonzero { 0 < d }
     requires d_bound { d < 2 ^ 53 }
     requires le_e { 53 ≤ e }
-    ensures half_value { result.digits * 4 ^ result.half ≡ d * 2 ^ e }
-    ensures bound { 2 ^ 52 ≤ result.digits }
-    ensures digits_bound { result.digits < 2 ^ 54 }
+    ensures half_value { result.digits.n * 4 ^ result.half ≡ d * 2 ^ e }
     ensures half_bound { 2 * result.half ≤ e }
     ensures e_bound { e ≤ 2 * result.half + 53 }
-    ensures normal_bound { result.normal < 2 ^ 53 }
-    ensures odd_bound { result.odd < 2 }
 {
     let shift = (u64::leading_zeros(d) - 11) as u64;
     let normal = d << shift;
     let exponent = e - shift;
     let odd = exponent % 2;
     Scaled {
-        digits: normal << odd,
+        digits: Digits {
+            n: normal << odd,
+            normal,
+            odd,
+        },
         half: exponent / 2,
-        normal,
-        odd,
     }
 }
 
 // The pattern of the root of scaled digits in units of 2^-300, by what is kept of the digits' root.
 fn pattern(s: Scaled, kept: u64) -> u32
-    requires bound { 2 ^ 52 ≤ s.digits }
-    requires digits_bound { s.digits < 2 ^ 54 }
     requires half_bound { s.half ≤ 202 }
-    requires kept_value { kept ≡ closest (sticky s.digits) (2 ^ 4) }
-    ensures { result ≡ to_bits binary32 (root_of binary32 150 (s.digits * 4 ^ s.half)) }
+    requires kept_value { kept ≡ closest (sticky s.digits.n) (2 ^ 4) }
+    ensures { result ≡ to_bits binary32 (root_of binary32 150 (s.digits.n * 4 ^ s.half)) }
 {
     ((2 + s.half) * 0x80_0000 + kept) as u32
 }
@@ -126,18 +136,19 @@ fn digits_root(d: u64, e: u64) -> u32
     ensures { result ≡ to_bits binary32 (root_of binary32 150 (d * 2 ^ e)) }
 {
     let s = normalised(d, e);
-    let kept = kept_root(s.digits);
+    let kept = s.digits.kept_root();
     pattern(s, kept)
 }
 
-// The same by a guess, for the normal floats, which are the most.
+// The same by a guess, for the normal floats, which are the most. Their leading zeros are known here when this is
+// compiled, which one function for both would lose.
 fn normal_root(d: u64, e: u64) -> u32
     requires d_nonzero { (0 < d) × (d < 2 ^ 24) }
     requires le_e { (151 ≤ e) × (e ≤ 404) }
     ensures { result ≡ to_bits binary32 (root_of binary32 150 (d * 2 ^ e)) }
 {
     let s = normalised(d, e);
-    let kept = nearest_root(s.digits, s.normal, s.odd);
+    let kept = s.digits.nearest_root();
     pattern(s, kept)
 }
 
@@ -149,6 +160,6 @@ fn digits_root64(d: u64, e: u64) -> u64
 {
     let s = normalised(d, e);
     let half = s.half;
-    let kept = shifted_to_even(wide_sticky_root(s.digits), 2);
+    let kept = shifted_to_even(s.digits.wide_sticky_root(), 2);
     (half - 27) * 0x10_0000_0000_0000 + kept
 }

@@ -96,7 +96,7 @@ fn to_usize_word(w: u32) -> usize
     }
     // 2^64 and up
     if w >= 0x5f80_0000 {
-        return 0xffff_ffff_ffff_ffff;
+        return usize::MAX;
     }
     let m = (0x80_0000 + w % 0x80_0000) as usize;
     let field = (w / 0x80_0000) as usize;
@@ -111,17 +111,11 @@ fn to_usize_word(w: u32) -> usize
 pub fn to_u32(x: f32) -> u32
     ensures { result ≡ to_u32 x }
 {
-    let n = to_usize(x);
-    if n > 0xffff_ffff {
-        0xffff_ffff
-    } else {
-        n as u32
-    }
+    u32::try_from(to_usize(x)).unwrap_or(u32::MAX)
 }
 
 pub fn to_u16(x: f32) -> u16
     ensures { result ≡ to_u16 x }
 {
-    let n = to_usize(x);
-    if n > 0xffff { 0xffff } else { n as u16 }
+    u16::try_from(to_usize(x)).unwrap_or(u16::MAX)
 }

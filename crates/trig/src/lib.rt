@@ -8,30 +8,28 @@ ghost use Rattle.trig.specs.Trig.{cos as cos_of, sin as sin_of, acos as acos_of,
 
 use floats::choose::abs;
 use floats::narrow::{narrow, widen};
-use floats::sqrt::sqrt64;
+use floats::sqrt::sqrt;
 use words::floats::Float;
 
-// One turn of the cosine's series at s = 1, of the sine's at s = 0.
-fn series_step(s: u32, z: f64, m: u32, q: f64) -> f64
-    requires s_bound { s ≤ 1 }
+// One turn of the cosine's series at S = 1, of the sine's at S = 0.
+fn series_step<const S: u32>(z: f64, m: u32, q: f64) -> f64
+    requires s_bound { S ≤ 1 }
     requires le_m { 1 ≤ m }
     requires m_bound { m ≤ 20 }
-    ensures { result ≡ series_step s z m q }
+    ensures { result ≡ series_step S z m q }
 {
-    let divisor = ((2 * m - s) * (2 * m + 1 - s)) as f64;
+    let divisor = ((2 * m - S) * (2 * m + 1 - S)) as f64;
     1.0 - z / divisor * q
 }
 
-// The cosine's series at s = 1, the sine's at s = 0, of the squared argument.
-fn series(s: u32, z: f64) -> f64
-    requires { s ≤ 1 }
-    ensures { result ≡ series_of s z }
+// The cosine's series at S = 1, the sine's at S = 0, of the squared argument.
+fn series<const S: u32>(z: f64) -> f64
+    requires { S ≤ 1 }
+    ensures { result ≡ series_of S z }
 {
     let mut q = 1.0;
-    let mut m: u32 = 20;
-    while m > 0 {
-        q = series_step(s, z, m, q);
-        m -= 1;
+    for m in (1..=20).rev() {
+        q = series_step::<S>(z, m, q);
     }
     q
 }
@@ -53,10 +51,8 @@ fn arc(x: f64) -> f64
 {
     let z = x * x;
     let mut p = 1.0;
-    let mut m: u32 = 16;
-    while m > 0 {
+    for m in (1..=16).rev() {
         p = arc_step(z, m, p);
-        m -= 1;
     }
     x * p
 }
@@ -65,7 +61,7 @@ fn arc(x: f64) -> f64
 fn twice_arc(y: f64) -> f64
     ensures { result ≡ twice_arc y }
 {
-    2.0 * arc(sqrt64((1.0 - y) / 2.0))
+    2.0 * arc(sqrt((1.0 - y) / 2.0))
 }
 
 // NaN beyond 8 on either side.
@@ -74,7 +70,7 @@ pub fn cos(x: f32) -> f32
 {
     if abs(x) <= 8.0 {
         let wide = widen(x);
-        narrow(series(1, wide * wide))
+        narrow(series::<1>(wide * wide))
     } else {
         0.0 / 0.0
     }
@@ -85,7 +81,7 @@ pub fn sin(x: f32) -> f32
 {
     if abs(x) <= 8.0 {
         let wide = widen(x);
-        narrow(wide * series(0, wide * wide))
+        narrow(wide * series::<0>(wide * wide))
     } else {
         0.0 / 0.0
     }

@@ -1,10 +1,10 @@
 -- A loop that writes a slice from the front, one store or a run of stores a turn. Assumes nothing.
-use Prim.Native.Nat.{ℕ, suc, ◌+◌, ◌≤◌, ◌<◌, zero-le}
+use Prim.Native.Nat.{ℕ, suc, ◌+◌, ◌≤◌, zero-le}
 use mathlib.Core.Path.{◌≡◌, refl, ◌∙◌}
 use mathlib.Core.List.{List, [], ◌∷◌, ◌++◌}
 use native.Mathlib.Omega.{arith}
-use lib.ListN.{length, get_or, take, drop, set, length-append, length-drop}
-use lib.Seq.{sets, sets-eq, length-sets, take_at, drop_at, drop-drop, drop-cons, drop-set-lt, take-add, length-take-le}
+use lib.ListN.{length, take, drop, set, length-append, length-drop}
+use lib.Seq.{sets, sets-eq, length-sets, take_at, drop_at, drop-drop, drop-set-lt, take-add, length-take-le}
 
 -- stores behind a front p that has been written
 pub stored : (p d vs : List ℕ) (n : ℕ) → length p ≡ n → n + length vs ≤ length d
@@ -30,10 +30,6 @@ copied_run {s} {d} {l} {n} vs c e hs hd =
       same = length-sets l n vs ∙ c.same;
       is = rw c.is (stored (take n s) d vs n (length-take-le n s c.within) hd ∙ simp (take-add, e));
     }
-
-pub copied-one : {s d l : List ℕ} {n v : ℕ} → Copied s d n l → v ≡ get_or s n 0 → n < length s → n < length d
-    → Copied s d (n + 1) (set l n v)
-copied-one {s} {n} {v} c e hs hd = copied_run (v ∷ []) c (rw (e, drop-cons s n 0)) (omega arith) (omega arith)
 
 -- stores one after the other are stores behind each other
 pub sets-append : (l : List ℕ) (i : ℕ) (vs us : List ℕ) → sets l i (vs ++ us) ≡ sets (sets l i vs) (i + length vs) us

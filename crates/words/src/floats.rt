@@ -36,7 +36,7 @@ impl Float for f32 {
         ensures { result ≡ of_bits binary32 w }
     {
         if w % 0x8000_0000 > 0x7f80_0000 {
-            0.0 / 0.0
+            f32::NAN
         } else {
             f32::from_bits(w)
         }
@@ -45,7 +45,11 @@ impl Float for f32 {
     fn word(self) -> u32
         ensures { result ≡ to_bits binary32 self }
     {
-        if self != self { 0x7fc0_0000 } else { f32::to_bits(self) }
+        if self.is_nan() {
+            0x7fc0_0000
+        } else {
+            f32::to_bits(self)
+        }
     }
 }
 
@@ -62,7 +66,7 @@ impl Float for f64 {
         ensures { result ≡ of_bits binary64 w }
     {
         if w % 0x8000_0000_0000_0000 > 0x7ff0_0000_0000_0000 {
-            0.0 / 0.0
+            f64::NAN
         } else {
             f64::from_bits(w)
         }
@@ -71,7 +75,7 @@ impl Float for f64 {
     fn word(self) -> u64
         ensures { result ≡ to_bits binary64 self }
     {
-        if self != self {
+        if self.is_nan() {
             0x7ff8_0000_0000_0000
         } else {
             f64::to_bits(self)

@@ -44,10 +44,7 @@ pub fn set_word(bytes: &mut [u8], place: usize, w: u32)
 {
     if place < bytes.len() / 4 {
         let at = 4 * place;
-        bytes[at] = (w % 256) as u8;
-        bytes[at + 1] = (w / 256 % 256) as u8;
-        bytes[at + 2] = (w / 65536 % 256) as u8;
-        bytes[at + 3] = (w / 16777216 % 256) as u8;
+        bytes[at..at + 4].copy_from_slice(&w.to_le_bytes());
     }
 }
 
@@ -66,8 +63,8 @@ pub fn words_of_bytes(bytes: &[u8], words: &mut [u32]) -> Result<usize, Refusal>
     if words.len() < count {
         return Err(Refusal::ShortTray);
     }
-    for i in 0..count {
-        words[i] = word_at(bytes, i);
+    for (i, word) in words[..count].iter_mut().enumerate() {
+        *word = word_at(bytes, i);
     }
     Ok(count)
 }

@@ -2,9 +2,9 @@ ghost use Rattle.std.specs.Prelude.{◌≡◌};
 ghost use Rattle.words.specs.Refusals.{number};
 
 // Why a call was refused: name, number and sentence of each refusal of docs/REQUIREMENTS.md R11.
-// They are told here alone. tools/refusals makes `refusal_number`, specs/Refusals.antt and the tables in
-// include/light_tree.h, rust/light_tree/src/refusal.rs and README.md of them, and fails where one differs.
-#[derive(Clone, Copy)]
+// They are told here alone. tools/refusals makes specs/Refusals.antt and the tables in include/light_tree.h,
+// rust/light_tree/src/refusal.rs and README.md of them, and fails where one differs.
+#[derive(Clone, Copy, Debug, PartialEq, Eq)]
 pub enum Refusal {
     // a length or layout is wrong, a kind or side unknown, or lights and records differ in number
     Ragged = 1,

@@ -12,7 +12,7 @@ use Rattle.std.specs.Float.Ieee.Compare.{differs_from_itself}
 pub no-nan-bits : (f : Format) (w : ℕ) → w % top f ≤ ones f * hid f → T (not (nan_bits f w))
 no-nan-bits f w h = subst (λ (b : Bool). T (not b)) (sym (nan_bits_above f w)) (le→nltb (ones f * hid f) (w % top f) h)
 
-only_nan : (x : Float) → T (is_nan x) → x ≡ nan
+pub only_nan : (x : Float) → T (is_nan x) → x ≡ nan
 unfolding is_nan
 only_nan nan t = refl
 only_nan (inf s) t = absurd t

@@ -7,18 +7,18 @@ use Rattle.trig.proofs.acos.Goals as goal
 pub returns-then-word-eq1065353216 : goal.returns-then-word-eq1065353216
 unfolding of_bits
 returns-then-word-eq1065353216 c =
-    at-word acos _ _ _ _ c.well_formed.0.1 c.word_of_f32-word.ensures c.if-word-eq1065353216.true acos-one
+    at-word acos _ _ _ _ c.well_formed.0.1 c.word-word.ensures c.if-word-eq1065353216.true acos-one
 
 pub returns-then-word : goal.returns-then-word
 unfolding of_bits
-returns-then-word c = at-word acos _ _ _ _ c.well_formed.0.1 c.word_of_f32-word.ensures
+returns-then-word c = at-word acos _ _ _ _ c.well_formed.0.1 c.word-word.ensures
     c.if-word.true acos-minus-one
 
 pub returns-then-word-eq0 : goal.returns-then-word-eq0
 unfolding of_bits
 returns-then-word-eq0 c = at-word acos _ _ _ _ c.well_formed.0.1
-    c.word_of_f32-word.ensures c.if-word-eq0.true acos-zero
+    c.word-word.ensures c.if-word-eq0.true acos-zero
 
 pub returns-then-word-2 : goal.returns-then-word-2
 unfolding of_bits
-returns-then-word-2 c = at-word acos _ _ _ _ c.well_formed.0.1 c.word_of_f32-word.ensures c.if-word-2.true acos-quarter
+returns-then-word-2 c = at-word acos _ _ _ _ c.well_formed.0.1 c.word-word.ensures c.if-word-2.true acos-quarter

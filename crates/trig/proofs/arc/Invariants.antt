@@ -5,6 +5,3 @@ use Rattle.trig.proofs.arc.Given as goal
 
 abbrev pub invariant-loop-m : goal.invariant-loop-m
 invariant-loop-m l = Turning (arc_step l.z) 16 one64 l.m l.p
-
-abbrev pub decreases-loop-m : goal.decreases-loop-m
-decreases-loop-m l = l.m

@@ -4,7 +4,7 @@ use Rattle.trig.specs.Trig.{asin}
 use Rattle.trig.proofs.KnownArcs.{at-word, asin-zero}
 use Rattle.trig.proofs.asin.Goals as goal
 
-pub returns-then-word_of_f32-eq0 : goal.returns-then-word_of_f32-eq0
+pub returns-then-word-eq0 : goal.returns-then-word-eq0
 unfolding of_bits
-returns-then-word_of_f32-eq0 c =
-    at-word asin _ _ _ _ c.well_formed.0.1 c.word_of_f32.ensures c.if-word_of_f32-eq0.true asin-zero
+returns-then-word-eq0 c =
+    at-word asin _ _ _ _ c.well_formed.0.1 c.word.ensures c.if-word-eq0.true asin-zero

@@ -6,10 +6,10 @@ use Rattle.trig.proofs.Turns.{turning-start, turning-next, turning-end}
 use Rattle.trig.proofs.series.Goals as goal
 
 pub loop-m-init : goal.loop-m-init
-loop-m-init c = turning-start _ _ _
+loop-m-init g c = turning-start _ _ _
 
 pub loop-m-preserved : goal.loop-m-preserved
-loop-m-preserved c = turning-next c.loop-m.invariant (omega arith) c.series_step-q.ensures
+loop-m-preserved g c = turning-next c.loop-m.invariant (omega arith) c.series_step-q.ensures
 
 pub returns : goal.returns
-returns c = unfold series in turning-end c.loop-m.invariant (omega arith)
+returns g c = unfold series in turning-end c.loop-m.invariant (omega arith)

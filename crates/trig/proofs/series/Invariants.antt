@@ -5,7 +5,4 @@ use Rattle.trig.proofs.Turns.{Turning}
 use Rattle.trig.proofs.series.Given as goal
 
 abbrev pub invariant-loop-m : goal.invariant-loop-m
-invariant-loop-m l = Turning (series_step l.s l.z) 20 one64 l.m l.q
-
-abbrev pub decreases-loop-m : goal.decreases-loop-m
-decreases-loop-m l = l.m
+invariant-loop-m g l = Turning (series_step g.row.S l.z) 20 one64 l.m l.q

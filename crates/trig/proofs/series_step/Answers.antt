@@ -8,11 +8,11 @@ use Rattle.trig.specs.Series.{series_step}
 use Rattle.trig.proofs.series_step.Goals as goal
 
 pub overflow_mul-divisor-3 : goal.overflow_mul-divisor-3
-overflow_mul-divisor-3 c =
-    let a : 2 * c.args.m - c.args.s ≤ 40 = omega arith in
-    let b : 2 * c.args.m + 1 - c.args.s ≤ 41 = omega arith in
+overflow_mul-divisor-3 g c =
+    let a : 2 * c.args.m - g.row.S ≤ 40 = omega arith in
+    let b : 2 * c.args.m + 1 - g.row.S ≤ 41 = omega arith in
     omega (arith, mul-le-mul a b)
 
 pub returns : goal.returns
 unfolding series_step
-returns c = refl
+returns g c = refl

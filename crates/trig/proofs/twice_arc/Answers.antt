@@ -7,4 +7,4 @@ use Rattle.trig.proofs.twice_arc.Goals as goal
 
 pub returns : goal.returns
 unfolding twice_arc
-returns c = ap (mul binary64 two64) (c.arc.ensures ∙ ap arc c.sqrt64.ensures)
+returns c = ap (mul binary64 two64) (c.arc.ensures ∙ ap arc c.sqrt.ensures)

@@ -6,4 +6,4 @@ use Rattle.ieee.specs.Choose.{is_sign_negative}
 use Rattle.floats.proofs.choose.is_sign_negative.Goals as goal
 
 pub returns : goal.returns
-returns c = unfold is_sign_negative in ap (λ (w : ℕ). leb (2 ^ 31) w) c.word_of_f32.ensures
+returns c = unfold is_sign_negative in ap (λ (w : ℕ). leb (2 ^ 31) w) c.word.ensures

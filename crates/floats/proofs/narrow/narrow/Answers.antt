@@ -8,4 +8,4 @@ use Rattle.floats.proofs.narrow.narrow.Goals as goal
 pub returns : goal.returns
 returns c =
     through-words binary64 binary32 narrow c.args.x _ _ _ c.well_formed.0.1 (λ _. narrow-fits c.args.x)
-    c.word_of_f64.ensures c.narrow_word.ensures c.f32_of_word.ensures
+    c.word.ensures c.narrow_word.ensures c.of_word.ensures

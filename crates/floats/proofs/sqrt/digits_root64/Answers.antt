@@ -22,21 +22,22 @@ to n h = mul-lt-mul_of_pos_right h (lit< tt)
 
 -- what is kept of the root's digits
 kept : (c : After-shifted_to_even-kept) →
-    c.shifted_to_even-kept.result ≡ closest (sticky (c.normalised-s.result.digits * 2 ^ 54)) (2 ^ 2)
+    c.shifted_to_even-kept.result ≡ closest (sticky (c.normalised-s.result.digits.n * 2 ^ 54)) (2 ^ 2)
 kept c = c.shifted_to_even-kept.ensures ∙ ap (λ (z : ℕ). closest z (2 ^ 2)) c.wide_sticky_root.ensures
 
 kept-le : (c : After-shifted_to_even-kept) → c.shifted_to_even-kept.result ≤ 2 ^ 53
 kept-le c =
     let s = c.normalised-s.result in
     let e = c.normalised-s.ensures in
-    let n = s.digits in
+    let n = s.digits.n in
     rw (kept c)
-    (root_kept binary64 0 (s.half - 27) (n * 2 ^ 54) (from n e.bound) (to n e.digits_bound))
+    (root_kept binary64 0 (s.half - 27) (n * 2 ^ 54) (from n s.digits.n_from) (to n s.digits.n_bound))
 
 pub shifted_to_even-kept-requires : goal.shifted_to_even-kept-requires
 shifted_to_even-kept-requires c =
-    let n = c.normalised-s.result.digits in
-    let l : sticky (n * 2 ^ 54) < 2 ^ 55 = sticky-lt (n * 2 ^ 54) (2 ^ 54) (to n c.normalised-s.ensures.digits_bound) in
+    let n = c.normalised-s.result.digits.n in
+    let l : sticky (n * 2 ^ 54) < 2 ^ 55 =
+    sticky-lt (n * 2 ^ 54) (2 ^ 54) (to n c.normalised-s.result.digits.n_bound) in
     record { a_bound = omega (arith, c.wide_sticky_root.ensures); le_gone = lit≤ tt; gone_bound = lit≤ tt }
 
 pub overflow_add-result : goal.overflow_add-result
@@ -47,12 +48,12 @@ returns c =
     let s = c.normalised-s.result in
     let b = c.normalised-s.ensures in
     let t = s.half - 27 in
-    let n = s.digits in
+    let n = s.digits.n in
     let h : 27 + t ≡ s.half = omega arith in
     let e : n * 2 ^ 54 * 4 ^ t ≡ c.args.d * 2 ^ c.args.e =
     mul_assoc n (2 ^ 54) (4 ^ t) ∙ ap (λ (z : ℕ). n * z) (sym (pow-add 4 27 t) ∙ ap (λ (z : ℕ). 4 ^ z) h) ∙
     b.half_value in
     ap (λ (z : ℕ). t * 2 ^ 52 + z) (kept c)
     ∙ ap (λ (z : ℕ). z * 2 ^ 52 + closest (sticky (n * 2 ^ 54)) (2 ^ 2)) (sym (zero-add t))
-    ∙ root-pattern binary64 0 t (n * 2 ^ 54) (from n b.bound) (to n b.digits_bound) (omega arith)
+    ∙ root-pattern binary64 0 t (n * 2 ^ 54) (from n s.digits.n_from) (to n s.digits.n_bound) (omega arith)
     ∙ ap (λ (z : ℕ). to_bits binary64 (root_of binary64 1075 z)) e

@@ -53,17 +53,24 @@ overflow_shl-normal c = omega (arith, (found c).few)
 pub overflow_sub-exponent : goal.overflow_sub-exponent
 overflow_sub-exponent c = omega (arith, (found c).few)
 
-pub returns : goal.returns
-returns c =
+pub invariant_of-result : goal.invariant_of-result
+invariant_of-result c =
     let n = found c in
     let b = bounds c in
-    let l : shift c ≤ c.args.e = omega arith in
     record {
-      half_value = rw (shifted c, twice-shifted c) (normal-same c.args.d (shift c) c.args.e l);
-      bound = rw (shifted c, twice-shifted c) b.from;
-      digits_bound = rw (shifted c, twice-shifted c) b.to;
-      half_bound = omega arith;
-      e_bound = omega arith;
+      n_from = rw (shifted c, twice-shifted c) b.from;
+      n_bound = rw (shifted c, twice-shifted c) b.to;
       normal_bound = rw (shifted c) n.to;
       odd_bound = omega arith;
+    }
+
+pub returns : goal.returns
+returns c =
+    let s = (goal.at.returns c).Start in
+    let n = found s in
+    let l : shift s ≤ s.args.e = omega arith in
+    record {
+      half_value = rw (shifted s, twice-shifted s) (normal-same s.args.d (shift s) s.args.e l);
+      half_bound = omega arith;
+      e_bound = omega arith;
     }

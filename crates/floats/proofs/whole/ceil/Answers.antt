@@ -10,5 +10,5 @@ use Rattle.floats.proofs.whole.ceil.Goals as goal
 pub returns : goal.returns
 returns c =
     through-words binary32 binary32 (ceil binary32) c.args.x _ _ _ c.well_formed.0.1
-    (λ _. ceil-fits binary32 c.args.x) c.word_of_f32-w.ensures
-    (c.next_whole_word.ensures ∙ ap (to_bits binary32) (ceil-word binary32 _)) c.f32_of_word.ensures
+    (λ _. ceil-fits binary32 c.args.x) c.word-w.ensures
+    (c.next_whole_word.ensures ∙ ap (to_bits binary32) (ceil-word binary32 _)) c.of_word.ensures

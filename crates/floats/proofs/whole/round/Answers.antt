@@ -8,4 +8,4 @@ use Rattle.floats.proofs.whole.round.Goals as goal
 pub returns : goal.returns
 returns c =
     through-words binary32 binary32 (round_away binary32) c.args.x _ _ _ c.well_formed.0.1
-    (λ _. round_away-fits binary32 c.args.x) c.word_of_f32.ensures c.round_word.ensures c.f32_of_word.ensures
+    (λ _. round_away-fits binary32 c.args.x) c.word.ensures c.round_word.ensures c.of_word.ensures

@@ -10,5 +10,5 @@ use Rattle.floats.proofs.whole.to_usize.Goals as goal
 
 pub returns : goal.returns
 returns c = c.to_usize_word.ensures
-    ∙ ap (λ (w : ℕ). to_usize (of_bits binary32 w)) c.word_of_f32.ensures
+    ∙ ap (λ (w : ℕ). to_usize (of_bits binary32 w)) c.word.ensures
     ∙ ap to_usize (of_bits-to_bits binary32 c.args.x (subst T (sym c.well_formed.0.1) tt))

@@ -1,20 +1,14 @@
--- `words::fill::fill` meets its contract. The loop's invariant: the places from the first up to `i` hold the
--- value, and the others are as they came. Assumes nothing.
-use native.Mathlib.Omega.{arith}
-use Rattle.words.proofs.FillLaws.{filling-none, filling-one, filling-all}
+-- `words::fill::fill`: the loop has passed all items of the stretch. Assumes nothing.
+use Rattle.std.proofs.Common.{arith}
+use borrow.Rule.Slice.PartMut.{mid_len}
+use Rattle.words.proofs.FillLaws.{filled-none, filled-part}
 use Rattle.words.proofs.fill.fill.Goals as goal
-use Rattle.words.proofs.fill.fill.Goals.{then-to-s, else-to-s, then-from-end, else-from-end}
 
-pub loop-i-init : goal.loop-i-init
-loop-i-init c = (
-  elim c.if-to-s.branch [ then-to-s w ↦ omega arith | else-to-s w ↦ omega arith ],
-  elim c.if-from-end.branch [ then-from-end w ↦ omega arith | else-from-end w ↦ omega arith ],
-  elim c.if-from-end.branch [ then-from-end w ↦ omega arith | else-from-end w ↦ omega arith ],
-  filling-none,
-)
+pub returns-after-loop-x : goal.returns-after-loop-x
+returns-after-loop-x g c =
+    let part = mid_len c.args.from c.min-end.result c.args.s.now (omega arith) in
+    filled-part _ _ _ _ _ c.loop-x.x-index _ c.min-end.ensures c.if-from-end.true c.loop-x.invariant (omega arith)
+    (omega arith)
 
-pub loop-i-preserved : goal.loop-i-preserved
-loop-i-preserved c = (omega arith, omega arith, omega arith, filling-one c.loop-i.invariant.3 (omega arith))
-
-pub returns : goal.returns
-returns c = filling-all _ _ c.loop-i.invariant.3 (omega arith) (omega arith)
+pub returns-else-from-end : goal.returns-else-from-end
+returns-else-from-end g c = filled-none _ _ _ _ (omega arith)

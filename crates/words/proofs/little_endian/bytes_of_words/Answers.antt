@@ -24,21 +24,23 @@ copied-word ws {l} {i} c h k =
     simp (e, lt-ltb i (length l / 4) (omega arith))
     (copied_run (bytes_of_word (get_or ws i 0)) c (bytes_of-at ws i h) (rw length-bytes_of (omega arith)) (omega arith))
 
-pub returns-then-bytes-count : goal.returns-then-bytes-count
+pub returns-then-bytes-words : goal.returns-then-bytes-words
 unfolding written_words tray
-returns-then-bytes-count c = let args = c.args in
+returns-then-bytes-words c = let args = c.args in
     let h : length args.bytes.now < 4 * length args.words.now = omega arith in
     simp (lt-leb _ _ h) (record { result_value = refl; bytes_after = refl })
 
 pub loop-i-init : goal.loop-i-init
-loop-i-init c = (omega arith, copied_none)
+loop-i-init c = copied_none
 
 pub loop-i-preserved : goal.loop-i-preserved
-loop-i-preserved c = let inv = c.loop-i.invariant in
-    (omega arith, rw c.set_word.ensures (copied-word _ inv.1 (omega arith) (omega arith)))
+loop-i-preserved c = rw c.set_word.ensures (copied-word _ c.loop-i.invariant (omega arith) (omega arith))
 
 pub returns : goal.returns
 unfolding written_words
 returns c = let args = c.args in
     let h : 4 * length args.words.now ≤ length args.bytes.now = omega arith in
-    simp (le-leb _ _ h) (record { result_value = refl; bytes_after = tray_copied _ _ _ _ c.loop-i.invariant.1 (omega arith) (length-bytes_of _) })
+    simp (le-leb _ _ h) (record {
+      result_value = refl;
+      bytes_after = tray_copied _ _ _ _ c.loop-i.invariant (omega arith) (length-bytes_of _);
+    })

@@ -1,23 +1,24 @@
--- `words::little_endian::set_word`: the code's four stores are the definition's. Assumes nothing.
+-- `words::little_endian::set_word`: the four bytes written over a stretch are the definition's stores. Assumes nothing.
+use Rattle.std.proofs.Common.{◌+◌, ◌*◌, ◌∙◌, sym, append_assoc, arith}
 use borrow.Author.Tests.{lt-ltb, le-ltb}
-use native.Mathlib.Numerals.{towards_suc}
-use native.Mathlib.Omega.{arith}
-use lib.ListN.{length-set}
+use borrow.Rule.Slice.PartMut.{Post-is}
+use lib.Seq.{sets-eq}
+use Rattle.words.specs.LittleEndian.{bytes_of_word}
 use Rattle.words.specs.AsCoded.WordSlices.{set_word}
 use Rattle.words.proofs.little_endian.set_word.Goals as goal
 
-pub bounds-bytes-at-then-place-bytes : goal.bounds-bytes-at-then-place-bytes
-bounds-bytes-at-then-place-bytes c = simp length-set (omega arith)
-
-pub bounds-bytes-at-then-place-bytes-2 : goal.bounds-bytes-at-then-place-bytes-2
-bounds-bytes-at-then-place-bytes-2 c = simp length-set (omega arith)
-
-pub bounds-bytes-at-then-place-bytes-3 : goal.bounds-bytes-at-then-place-bytes-3
-bounds-bytes-at-then-place-bytes-3 c = simp length-set (omega arith)
-
 pub returns-then-place-bytes : goal.returns-then-place-bytes
 unfolding set_word
-returns-then-place-bytes c = simp (towards_suc, lt-ltb _ _ c.if-place-bytes.true)
+returns-then-place-bytes c =
+    let bytes = c.args.bytes.now in
+    let at = 4 * c.args.place in
+    let w = bytes_of_word c.args.w in
+    simp (
+      lt-ltb _ _ c.if-place-bytes.true,
+      c.copy_from_slice.ensures.after,
+      c.to_le_bytes.ensures,
+      Post-is at (at + 4) bytes (omega arith),
+    ) (sym (sets-eq w bytes at (omega arith) ∙ append_assoc _ w _))
 
 pub returns-else-place-bytes : goal.returns-else-place-bytes
 unfolding set_word

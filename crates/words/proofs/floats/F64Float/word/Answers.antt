@@ -1,12 +1,10 @@
--- `words::floats::word_of_f64`: only a NaN differs from itself. Assumes nothing.
-use mathlib.Core.Path.{sym, ap}
-use lib.Ieee.{binary64, to_bits}
-use Rattle.ieee.specs.Laws.Nans.{no_nan, a-nan}
+-- `word` of `f64`: there is one NaN. Assumes nothing.
+use Rattle.std.proofs.Common.{sym, ap, subst, T}
+use Rattle.std.specs.Float.{binary64}
+use Rattle.std.specs.Float.Ieee.{to_bits}
+use Rattle.ieee.specs.Laws.Nans.{only_nan}
 use Rattle.words.proofs.floats.F64Float.word.Goals as goal
 
-pub float_to_bits-result : goal.float_to_bits-result
-float_to_bits-result c = no_nan c.args.self c.if-self.false
-
-pub returns-then-self : goal.returns-then-self
+pub returns-then-is_nan : goal.returns-then-is_nan
 unfolding to_bits
-returns-then-self c = sym (ap (to_bits binary64) (a-nan c.args.self c.if-self.true))
+returns-then-is_nan c = sym (ap (to_bits binary64) (only_nan c.args.self (subst T c.if-is_nan.ensures.value tt)))

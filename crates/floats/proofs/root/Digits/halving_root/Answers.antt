@@ -1,11 +1,10 @@
--- `floats::root::halving_root`: the root lies from `low` up to `low + range`, and the range falls to 1. Assumes
--- nothing.
+-- `Digits::halving_root`: the root lies from `low` up to `low + range`, and the range falls to 1. Assumes nothing.
 use Prim.Native.Nat.{ℕ, suc, ◌+◌, ◌-◌, ◌*◌, ◌/◌, ◌^◌, ◌≤◌, ◌<◌}
 use mathlib.Core.Path.{◌≡◌, subst}
 use native.Mathlib.Nat.{mul-le-mul}
 use native.Mathlib.Omega.{arith}
 use Rattle.ieee.specs.Laws.SqrtLaws.{root_unique}
-use Rattle.floats.proofs.root.halving_root.Goals as goal
+use Rattle.floats.proofs.root.Digits.halving_root.Goals as goal
 
 -- what is left of the range above the middle ends where it did
 same_end : (n low range : ℕ) → n < (low + range) * (low + range) →
@@ -20,22 +19,22 @@ square-fits k h = omega (arith, mul-le-mul h h)
 pub overflow_mul-middle : goal.overflow_mul-middle
 overflow_mul-middle c = record { fits = square-fits (c.loop-range.low + c.loop-range.range / 2) (omega arith) }
 
-pub loop-range-preserved-then-middle-n : goal.loop-range-preserved-then-middle-n
-loop-range-preserved-then-middle-n c = let at = c.loop-range in (
-  c.if-middle-n.true,
-  same_end c.args.n c.loop-range.low c.loop-range.range
+pub loop-range-preserved-then-middle-self : goal.loop-range-preserved-then-middle-self
+loop-range-preserved-then-middle-self c = let at = c.loop-range in (
+  c.if-middle-self.true,
+  same_end c.args.self.n c.loop-range.low c.loop-range.range
       c.loop-range.invariant.1,
   omega arith,
   omega arith,
 )
 
 pub loop-range-preserved : goal.loop-range-preserved
-loop-range-preserved c = (c.loop-range.invariant.0, c.if-middle-n.false, omega arith, omega arith)
+loop-range-preserved c = (c.loop-range.invariant.0, c.if-middle-self.false, omega arith, omega arith)
 
 pub returns : goal.returns
 returns c =
     let at = c.loop-range in
     let one : c.loop-range.low + c.loop-range.range ≡ suc c.loop-range.low = omega arith in
-    let n = c.args.n in
+    let n = c.args.self.n in
     root_unique n c.loop-range.low
     (record { at_most = c.loop-range.invariant.0; below = subst (λ (z : ℕ). n < z * z) one c.loop-range.invariant.1 })

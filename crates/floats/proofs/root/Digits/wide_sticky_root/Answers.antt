@@ -1,13 +1,13 @@
--- `floats::root::wide_sticky_root`: what the upper half leaves, over twice the upper half, is the lower half or one
--- more, and the rest of that division says which. Assumes nothing.
+-- `Digits::wide_sticky_root`: what the upper half leaves, over twice the upper half, is the lower half or one more, and
+-- the rest of that division says which. Assumes nothing.
 use Prim.Native.Nat.{ℕ, ◌-◌, ◌*◌, ◌/◌, ◌%◌, ◌^◌, ◌≤◌, ◌<◌}
 use native.Mathlib.Nat.{mul-le-mul}
 use native.Mathlib.Omega.{arith}
 use lib.Dec.{lit<}
 use Rattle.ieee.specs.Laws.SqrtLaws.{Root, root-of, root_below, root-from}
 use Rattle.ieee.specs.Laws.SqrtWords.{lower, over, whole-root, lower-le, over-lt, wide_exact, wide-above, wide_below}
-use Rattle.floats.proofs.root.wide_sticky_root.Goals as goal
-use Rattle.floats.proofs.root.wide_sticky_root.Goals.{After-root-upper}
+use Rattle.floats.proofs.root.Digits.wide_sticky_root.Goals as goal
+use Rattle.floats.proofs.root.Digits.wide_sticky_root.Goals.{After-root-upper}
 
 -- what is known of the upper half, and of the numbers that are made with it
 record Halves (n s : ℕ) : Type 0 where
@@ -19,19 +19,19 @@ record Halves (n s : ℕ) : Type 0 where
   square-to : (n - s * s) * 2 ^ 27 / (2 * s) * ((n - s * s) * 2 ^ 27 / (2 * s)) ≤ 2 ^ 54
   over-to : (n - s * s) * 2 ^ 27 % (2 * s) * 2 ^ 27 < 2 * s * 2 ^ 27
 
-halves : (c : After-root-upper) → Halves c.args.n c.root-upper.result
+halves : (c : After-root-upper) → Halves c.args.self.n c.root-upper.result
 unfolding lower over
 halves c =
-    let n = c.args.n in
+    let n = c.args.self.n in
     let s = c.root-upper.result in
     let r : Root n s = root-of n s c.root-upper.ensures in
-    let f : 2 ^ 26 ≤ s = root-from n s (2 ^ 26) r c.requires.bound in
+    let f : 2 ^ 26 ≤ s = root-from n s (2 ^ 26) r c.args.self.n_from in
     let w : 2 ^ 27 ≤ 2 * s = omega arith in
     let l : (n - s * s) * 2 ^ 27 / (2 * s) ≤ 2 ^ 27 = lower-le n s (2 ^ 27) r w (lit< tt) in
     record {
       upper = r;
       from = f;
-      to = root_below n s (2 ^ 27) r c.requires.n_bound;
+      to = root_below n s (2 ^ 27) r c.args.self.n_bound;
       rest = omega (arith, r.below);
       lower-to = l;
       square-to = mul-le-mul l l;
@@ -100,21 +100,21 @@ overflow_add-result c =
 pub returns-then-over-square : goal.returns-then-over-square
 unfolding lower over whole-root
 returns-then-over-square c =
-    wide_exact c.args.n c.root-upper.result (2 ^ 27)
+    wide_exact c.args.self.n c.root-upper.result (2 ^ 27)
     (halves (goal.at.returns-then-over-square c).After-root-upper).upper
     (wide (goal.at.returns-then-over-square c).After-root-upper) (lit< tt) c.if-over-square.true
 
 pub returns-then-over-square-2 : goal.returns-then-over-square-2
 unfolding lower over whole-root
 returns-then-over-square-2 c =
-    wide_below c.args.n c.root-upper.result (2 ^ 27)
+    wide_below c.args.self.n c.root-upper.result (2 ^ 27)
     (halves (goal.at.returns-then-over-square-2 c).After-root-upper).upper
     (wide (goal.at.returns-then-over-square-2 c).After-root-upper) (lit< tt) c.if-over-square-2.true
 
 pub returns-else-over-square-2 : goal.returns-else-over-square-2
 unfolding lower over whole-root
 returns-else-over-square-2 c =
-    let n = c.args.n in
+    let n = c.args.self.n in
     let s = c.root-upper.result in
     let more : lower n s (2 ^ 27) * lower n s (2 ^ 27) < over n s (2 ^ 27) =
     omega (arith, c.if-over-square-2.false, c.if-over-square.false) in
