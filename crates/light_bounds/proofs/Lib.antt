@@ -4,3 +4,4 @@ pub mod RootLaws
 pub mod PlainView
 pub mod BoundsLaws
 pub mod WeighingLaws
+pub mod DivisorLaws

@@ -1,11 +1,9 @@
 -- Boxes, as `Bounds3` of `light_bounds.rs` has them. Definitions only. Assumes nothing.
 use Rattle.std.specs.Prelude.{Bool, cond, ◌&&◌, ◌||◌, T, Float}
-use Rattle.std.proofs.Math.Option.{Option, none, some}
 use Rattle.std.specs.Float.Ieee.{lt, le}
 use Rattle.ieee.specs.Choose.{fmin, fmax}
 use Rattle.ieee.specs.Single.{◌⊕◌, ◌⊖◌, ◌⊗◌, half, twof}
 use Rattle.words.specs.Answers.{Answer, given, refused}
-use Rattle.words.specs.Refusals.{number}
 use Rattle.light_bounds.specs.Vecmath.{vec, finite_vec}
 use Rattle.light_bounds.specs.declared.vecmath.Vec3.{Vec3}
 use Rattle.light_bounds.specs.declared.bounds.Bounds3.{Bounds3}

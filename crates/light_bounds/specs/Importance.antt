@@ -7,7 +7,6 @@ use Rattle.std.specs.Float.Ieee.{le, eq}
 use Rattle.ieee.specs.Choose.{fmax, fabs}
 use Rattle.ieee.specs.Single.{◌⊖◌, ◌⊗◌, ◌⊘◌, zerof, half, onef}
 use Rattle.words.specs.Answers.{Answer, given, refused, ◌then◌}
-use Rattle.words.specs.Refusals.{number}
 use Rattle.light_bounds.specs.Bounds.{diagonal, centroid}
 use Rattle.light_bounds.specs.Cones.{safe_sqrt, cos_sub_clamped, sin_sub_clamped, bound_subtended_directions}
 use Rattle.light_bounds.specs.LightBounds.{validate}
@@ -96,5 +95,3 @@ importance r q = importance_by r q.p (finite_query q) (with_normal q.n)
 -- what a walk weighs a record by
 unfoldable pub weigh : LightBounds → Query → Answer Float
 weigh r q = importance r q
-
--- ---- as the code has it

@@ -6,7 +6,6 @@ use Rattle.std.specs.Float.Ieee.Scale.{finite}
 use Rattle.ieee.specs.Choose.{fmin}
 use Rattle.ieee.specs.Single.{◌⊕◌, zerof, onef, minus_one}
 use Rattle.words.specs.Answers.{Answer, given, refused, ◌then◌}
-use Rattle.words.specs.Refusals.{number}
 use Rattle.light_bounds.specs.Bounds.{box_check, box_union}
 use Rattle.light_bounds.specs.Cones.{union_direction_cones}
 use Rattle.light_bounds.specs.Side.{lamp_side, either}

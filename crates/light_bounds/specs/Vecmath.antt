@@ -8,7 +8,6 @@ use Rattle.ieee.specs.Single.{◌⊕◌, ◌⊖◌, ◌⊗◌, ◌⊘◌, zerof,
 use Rattle.ieee.specs.Sqrt.{sqrt}
 use Rattle.trig.specs.Trig.{cos, sin, asin}
 use Rattle.words.specs.Answers.{Answer, given, refused}
-use Rattle.words.specs.Refusals.{number}
 use Rattle.light_bounds.specs.declared.vecmath.Vec3.{Vec3}
 
 abbrev pub vec : Float → Float → Float → Vec3
@@ -41,6 +40,10 @@ vec_length v = sqrt binary32 (dot v v)
 -- whether a length can be divided by: "a length to divide by is 0 or not finite" is refusal 7
 abbrev pub dividing : Float → Bool
 dividing l = finite l && not (eq l zerof)
+
+-- the length, where it can be divided by
+abbrev pub divisor : Vec3 → Answer Float
+divisor v = cond (dividing (vec_length v)) (given (vec_length v)) (refused 7)
 
 unfoldable pub normalize : Vec3 → Answer Vec3
 normalize v = cond (dividing (vec_length v)) (given (scaled v (onef ⊘ vec_length v))) (refused 7)

@@ -5,7 +5,7 @@ ghost use Rattle.light_bounds.specs.Bounds.{box_check, finite_box, inverted};
 ghost use Rattle.light_bounds.specs.Bounds.{box_union, diagonal as diagonal_of, centroid as centroid_of};
 ghost use Rattle.light_bounds.specs.Bounds.{surface_area, least_of, greatest_of};
 
-use super::vecmath::{Vec3, is_finite_vec};
+use super::vecmath::{Vec3, add, by_axis, is_finite_vec, scale_vector, sub};
 use floats::choose::{max, min};
 use words::refusals::Refusal;
 
@@ -55,41 +55,25 @@ pub fn union(a: Bounds3, b: Bounds3) -> Bounds3
 pub fn lesser(a: Vec3, b: Vec3) -> Vec3
     ensures { result ≡ least_of a b }
 {
-    Vec3 {
-        x: min(a.x, b.x),
-        y: min(a.y, b.y),
-        z: min(a.z, b.z),
-    }
+    by_axis(a, b, min)
 }
 
 pub fn greater(a: Vec3, b: Vec3) -> Vec3
     ensures { result ≡ greatest_of a b }
 {
-    Vec3 {
-        x: max(a.x, b.x),
-        y: max(a.y, b.y),
-        z: max(a.z, b.z),
-    }
+    by_axis(a, b, max)
 }
 
 pub fn diagonal(b: Bounds3) -> Vec3
     ensures { result ≡ diagonal_of b }
 {
-    Vec3 {
-        x: b.max.x - b.min.x,
-        y: b.max.y - b.min.y,
-        z: b.max.z - b.min.z,
-    }
+    sub(b.max, b.min)
 }
 
 pub fn centroid(b: Bounds3) -> Vec3
     ensures { result ≡ centroid_of b }
 {
-    Vec3 {
-        x: (b.min.x + b.max.x) * 0.5,
-        y: (b.min.y + b.max.y) * 0.5,
-        z: (b.min.z + b.max.z) * 0.5,
-    }
+    scale_vector(add(b.min, b.max), 0.5)
 }
 
 pub fn surface_area(b: Bounds3) -> f32

@@ -8,7 +8,7 @@ ghost use Rattle.light_bounds.specs.LightBounds.{union as union_of, join as join
 
 use super::bounds::{Bounds3, check, union as box_union};
 use super::cones::{Cone, union_direction_cones};
-use super::side::{Side, either, lamp_side};
+use super::side::{Side, either};
 use super::vecmath::{Vec3, dot, is_finite, is_finite_vec};
 use floats::choose::min;
 use words::refusals::Refusal;
@@ -43,7 +43,7 @@ impl LightBounds {
     pub fn of_lamp(bounds: Bounds3, cone: Cone, phi: f32, cos_theta_e: f32, two_sided: bool) -> Self
         ensures { result ≡ lamp_record bounds cone.direction phi cone.cos_theta cos_theta_e two_sided }
     {
-        LightBounds::new(bounds, cone, phi, cos_theta_e, lamp_side(two_sided))
+        LightBounds::new(bounds, cone, phi, cos_theta_e, Side::from(two_sided))
     }
 
     // The cone of the directions that its lights face.

@@ -16,24 +16,30 @@ pub fn is_side(w: u32) -> bool
 }
 
 // The side that a word says.
-pub fn side_of(w: u32) -> Side
-    ensures { result ≡ side_of w }
-{
-    Side { two_sided: w == 1 }
+impl From<u32> for Side {
+    ghost from_gives = { λ w side. side ≡ side_of w };
+
+    fn from(w: u32) -> Side {
+        Side { two_sided: w == 1 }
+    }
 }
 
 // The side's word.
-pub fn side_word(side: Side) -> u32
-    ensures { result ≡ side_word side }
-{
-    if side.two_sided { 1 } else { 0 }
+impl From<Side> for u32 {
+    ghost from_gives = { λ side w. w ≡ side_word side };
+
+    fn from(side: Side) -> u32 {
+        if side.two_sided { 1 } else { 0 }
+    }
 }
 
 // The side of a lamp in a list.
-pub fn lamp_side(two_sided: bool) -> Side
-    ensures { result ≡ lamp_side two_sided }
-{
-    Side { two_sided }
+impl From<bool> for Side {
+    ghost from_gives = { λ two_sided side. side ≡ lamp_side two_sided };
+
+    fn from(two_sided: bool) -> Side {
+        Side { two_sided }
+    }
 }
 
 // The side of a union.

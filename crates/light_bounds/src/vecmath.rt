@@ -2,7 +2,7 @@
 ghost use Rattle.words.specs.Answers.{answered};
 ghost use Rattle.std.specs.Prelude.{◌≡◌};
 ghost use Rattle.std.specs.Float.Ieee.Scale.{finite};
-ghost use Rattle.light_bounds.specs.Vecmath.{dividing, divided, normalize_by_division, dot as dot_of};
+ghost use Rattle.light_bounds.specs.Vecmath.{dividing, divided, divisor, normalize_by_division, dot as dot_of};
 ghost use Rattle.light_bounds.specs.Vecmath.{cross as cross_of, plus, minus, scaled};
 ghost use Rattle.light_bounds.specs.Vecmath.{normalize as normalize_of, finite_vec};
 ghost use Rattle.light_bounds.specs.Vecmath.{rotate as rotate_of, angle_between, vec_length};
@@ -21,7 +21,7 @@ pub struct Vec3 {
 pub fn is_finite(x: f32) -> bool
     ensures { result ≡ finite x }
 {
-    x < 1.0 / 0.0 && -1.0 / 0.0 < x
+    x.is_finite()
 }
 
 pub fn is_finite_vec(v: Vec3) -> bool
@@ -39,20 +39,26 @@ pub fn dot(a: Vec3, b: Vec3) -> f32
 pub fn add(a: Vec3, b: Vec3) -> Vec3
     ensures { result ≡ plus a b }
 {
-    Vec3 {
-        x: a.x + b.x,
-        y: a.y + b.y,
-        z: a.z + b.z,
-    }
+    by_axis(a, b, |x, y| x + y)
 }
 
 pub fn sub(a: Vec3, b: Vec3) -> Vec3
     ensures { result ≡ minus a b }
 {
+    by_axis(a, b, |x, y| x - y)
+}
+
+// What f makes of each axis.
+pub(crate) fn by_axis<F: Fn(f32, f32) -> f32>(a: Vec3, b: Vec3, f: F) -> Vec3
+    requires { F.IsAlwaysCallable f }
+    ensures x { F.post f a.x b.x result.x }
+    ensures y { F.post f a.y b.y result.y }
+    ensures z { F.post f a.z b.z result.z }
+{
     Vec3 {
-        x: a.x - b.x,
-        y: a.y - b.y,
-        z: a.z - b.z,
+        x: f(a.x, b.x),
+        y: f(a.y, b.y),
+        z: f(a.z, b.z),
     }
 }
 
@@ -96,20 +102,23 @@ pub fn length(v: Vec3) -> f32
 pub fn normalize(v: Vec3) -> Result<Vec3, Refusal>
     ensures { answered result ≡ normalize_of v }
 {
-    let l = length(v);
-    if divides(l) {
-        return Ok(scale_vector(v, 1.0 / l));
-    }
-    Err(Refusal::NoDirection)
+    Ok(scale_vector(v, 1.0 / divisor(v)?))
 }
 
 // By the length itself, as the packed file has it.
 pub fn normalize_by_division(v: Vec3) -> Result<Vec3, Refusal>
     ensures { answered result ≡ normalize_by_division v }
 {
+    Ok(divide_vector(v, divisor(v)?))
+}
+
+// The length, where it can be divided by.
+fn divisor(v: Vec3) -> Result<f32, Refusal>
+    ensures { answered result ≡ divisor v }
+{
     let l = length(v);
     if divides(l) {
-        return Ok(divide_vector(v, l));
+        return Ok(l);
     }
     Err(Refusal::NoDirection)
 }

@@ -7,15 +7,15 @@ use mathlib.Core.List.{List, ◌∷◌}
 use native.Mathlib.Numerals.{add-one}
 use native.Mathlib.Omega.{arith}
 use borrow.Author.Tests.{le-leb, lt-leb, lt-ltb, le-ltb}
-use lib.Dec.{leb}
+use lib.Dec.{leb, ltb}
 use lib.ListN.{length, set, length-set}
 use lib.Seq.{sets}
 use Rattle.light_rows.specs.RecordWords.{record_list}
 use Rattle.light_rows.specs.AsCoded.RecordRow.{written_at}
 use Rattle.light_bounds.specs.declared.light_bounds.LightBounds.{LightBounds}
 use Rattle.light_rows.specs.Laws.RecordPlaces.{written_at-sets}
-use Rattle.light_rows.specs.Nodes.{LightBVHNode, node_words, node_place, node_list}
-use Rattle.light_rows.specs.AsCoded.NodeRow.{head_fits, node_fits, node_written, row_fits}
+use Rattle.light_rows.specs.Nodes.{LightBVHNode, leaf, interior, head_number, node_words, node_place, node_list}
+use Rattle.light_rows.specs.AsCoded.NodeRow.{head_fits, node_fits, node_written}
 
 -- three words, then the record
 pub put-node-parts : (ws : List ℕ) (at head right p : ℕ) (b : LightBounds) → at + node_words ≤ length ws
@@ -33,18 +33,26 @@ and-false : (a : Bool) → a && false ≡ false
 and-false true = refl
 and-false false = refl
 
-module _ (ws : List ℕ) (i number : ℕ) where
-  pub row_fits_lem : i < length ws / node_words → number < 0x4000_0000 → row_fits ws i number ≡ true
-  unfolding row_fits
-  row_fits_lem h f = rw (le-leb (node_place (suc i)) (length ws) (omega arith)) (lt-ltb number 0x4000_0000 f)
+-- the head has room for its number
+head_fits-is : (n : LightBVHNode) → head_fits n ≡ ltb (head_number n) 0x4000_0000
+head_fits-is (leaf h p) = refl
+head_fits-is (interior l r p) = refl
 
-  pub no_row : length ws / node_words ≤ i → row_fits ws i number ≡ false
-  unfolding row_fits
+module _ (ws : List ℕ) (i : ℕ) (n : LightBVHNode) where
+  pub fits : i < length ws / node_words → head_number n < 0x4000_0000 → node_fits ws i n ≡ true
+  unfolding node_fits
+  fits h f =
+      rw (le-leb (node_place (suc i)) (length ws) (omega arith), head_fits-is n)
+      (lt-ltb (head_number n) 0x4000_0000 f)
+
+  pub no_row : length ws / node_words ≤ i → node_fits ws i n ≡ false
+  unfolding node_fits
   no_row h = rw (lt-leb (node_place (suc i)) (length ws) (omega arith))
 
-  pub too_wide : 0x4000_0000 ≤ number → row_fits ws i number ≡ false
-  unfolding row_fits
-  too_wide h = rw (le-ltb number 0x4000_0000 h) (and-false (leb (node_place (suc i)) (length ws)))
+  pub too_wide : 0x4000_0000 ≤ head_number n → node_fits ws i n ≡ false
+  unfolding node_fits
+  too_wide h =
+      rw (head_fits-is n, le-ltb (head_number n) 0x4000_0000 h) (and-false (leb (node_place (suc i)) (length ws)))
 
 -- a node that fits is written
 pub node_written-room : (ws : List ℕ) (i : ℕ) (n : LightBVHNode) (b : LightBounds) → i < length ws / node_words

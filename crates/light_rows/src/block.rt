@@ -9,7 +9,9 @@ ghost use Rattle.light_rows.specs.Block.{block_words, bounds_words, bounds_row};
 ghost use Rattle.light_rows.specs.AsCoded.BlockRow.{row_written};
 ghost use Rattle.light_rows.specs.Block.{handle_place, record_place, side_at, block_layout, block_handles};
 
-use super::record_words::{RECORD_WORDS, SIDE_PLACE, box_at, phi_at, record_or_zeros, write_record};
+use super::record_words::{
+    RECORD_WORDS, SIDE_PLACE, box_at, phi_at, record_or_zeros, write_record,
+};
 use light_bounds::bounds::Bounds3;
 use light_bounds::light_bounds::LightBounds;
 use light_bounds::side::is_side;
@@ -102,11 +104,8 @@ fn check_sides(block: &[u32], m: u32) -> Result<usize, Refusal>
     requires { length block.now ≡ block_words m }
     ensures { answered result ≡ cond (below (side_at block.now) m) (given m) (refused 1) }
 {
-    let mut i: u32 = 0;
-    while i < m {
-        if is_side(block[record_place(i) + SIDE_PLACE]) {
-            i += 1;
-        } else {
+    for i in 0..m {
+        if !is_side(block[record_place(i) + SIDE_PLACE]) {
             return Err(Refusal::Ragged);
         }
     }
@@ -118,11 +117,8 @@ pub fn check_handles(block: &[u32]) -> Result<usize, Refusal>
     ensures { answered result ≡ block_handles block.now }
 {
     let m = word_or_zero(block, 0);
-    let mut i: u32 = 0;
-    while i < m {
-        if label(block, i) == i {
-            i += 1;
-        } else {
+    for i in 0..m {
+        if label(block, i) != i {
             return Err(Refusal::Misplaced);
         }
     }

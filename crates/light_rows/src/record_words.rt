@@ -2,7 +2,7 @@
 // words stand is said here alone. They are fetched by name, from words or from little-endian bytes
 // (specs/AsCoded/RecordRow.antt), and one decoder makes the record of them.
 ghost use Rattle.words.specs.Answers.{answered};
-ghost use Rattle.std.specs.Prelude.{◌≡◌, ℕ, ◌+◌, ◌/◌, ◌≤◌, get_or, length};
+ghost use Rattle.std.specs.Prelude.{◌≡◌, ℕ, List, ◌+◌, ◌/◌, ◌<◌, ◌≤◌, get_or, length};
 ghost use Rattle.std.proofs.lemmas.List.Edits.{sets};
 ghost use Rattle.ieee.specs.Single.{single};
 ghost use Rattle.words.specs.LittleEndian.{words_of};
@@ -15,7 +15,7 @@ ghost use Rattle.light_rows.specs.AsCoded.RecordRow.{written_at};
 use light_bounds::bounds::Bounds3;
 use light_bounds::cones::Cone;
 use light_bounds::light_bounds::LightBounds;
-use light_bounds::side::{is_side, side_of, side_word};
+use light_bounds::side::{Side, is_side};
 use light_bounds::vecmath::Vec3;
 use words::floats::Float;
 use words::limits::fits;
@@ -61,26 +61,64 @@ struct Row {
     side: u32,
 }
 
-// ---- fetching, from words: those past the end are 0
+// ---- fetching: words past the end are 0
 
-fn triple_at(words: &[u32], at: usize) -> Triple
-    ensures { result ≡ triple_at words.now at }
-{
-    if words.len() <= at {
-        return Triple { x: 0, y: 0, z: 0 };
+// Words as they are lent: a slice of them, or of their little-endian bytes.
+pub trait Words: Copy {
+    ghost words: { Self → List ℕ };
+
+    // How many there are.
+    fn count(self) -> usize
+        ensures value { result ≡ length (words self) }
+        ensures room { result < 0x8000_0000_0000_0000 };
+
+    // The word at a place.
+    fn word(self, place: usize) -> u32
+        ensures { result ≡ get_or (words self) place 0 };
+}
+
+impl Words for &[u32] {
+    ghost words = { λ s. s.now };
+
+    fn count(self) -> usize {
+        self.len()
     }
-    Triple {
-        x: words[at],
-        y: word_or_zero(words, at + 1),
-        z: word_or_zero(words, at + 2),
+
+    fn word(self, place: usize) -> u32 {
+        word_or_zero(self, place)
     }
 }
 
-fn row_at(words: &[u32], at: usize) -> Row
-    ensures { result ≡ row_at words.now at }
+impl Words for &[u8] {
+    ghost words = { λ s. words_of s.now };
+
+    fn count(self) -> usize {
+        self.len() / 4
+    }
+
+    fn word(self, place: usize) -> u32 {
+        word_at(self, place)
+    }
+}
+
+fn triple_at<W: Words>(words: W, at: usize) -> Triple
+    ensures { result ≡ triple_at (W.words words) at }
+{
+    if words.count() <= at {
+        return Triple { x: 0, y: 0, z: 0 };
+    }
+    Triple {
+        x: words.word(at),
+        y: words.word(at + 1),
+        z: words.word(at + 2),
+    }
+}
+
+fn row_at<W: Words>(words: W, at: usize) -> Row
+    ensures { result ≡ row_at (W.words words) at }
 {
     let min = triple_at(words, at);
-    if words.len() <= at {
+    if words.count() <= at {
         return Row {
             min,
             max: min,
@@ -95,38 +133,10 @@ fn row_at(words: &[u32], at: usize) -> Row
         min,
         max: triple_at(words, at + MAX_PLACE),
         direction: triple_at(words, at + DIRECTION_PLACE),
-        phi: word_or_zero(words, at + PHI_PLACE),
-        cos_theta_o: word_or_zero(words, at + COS_THETA_O_PLACE),
-        cos_theta_e: word_or_zero(words, at + COS_THETA_E_PLACE),
-        side: word_or_zero(words, at + SIDE_PLACE),
-    }
-}
-
-// ---- fetching, from little-endian bytes that hold them
-
-fn triple_in(bytes: &[u8], at: usize) -> Triple
-    requires { at + 3 ≤ length bytes.now / 4 }
-    ensures { result ≡ triple_at (words_of bytes.now) at }
-{
-    Triple {
-        x: word_at(bytes, at),
-        y: word_at(bytes, at + 1),
-        z: word_at(bytes, at + 2),
-    }
-}
-
-fn row_in(bytes: &[u8], at: usize) -> Row
-    requires { at + record_words ≤ length bytes.now / 4 }
-    ensures { result ≡ row_at (words_of bytes.now) at }
-{
-    Row {
-        min: triple_in(bytes, at),
-        max: triple_in(bytes, at + MAX_PLACE),
-        direction: triple_in(bytes, at + DIRECTION_PLACE),
-        phi: word_at(bytes, at + PHI_PLACE),
-        cos_theta_o: word_at(bytes, at + COS_THETA_O_PLACE),
-        cos_theta_e: word_at(bytes, at + COS_THETA_E_PLACE),
-        side: word_at(bytes, at + SIDE_PLACE),
+        phi: words.word(at + PHI_PLACE),
+        cos_theta_o: words.word(at + COS_THETA_O_PLACE),
+        cos_theta_e: words.word(at + COS_THETA_E_PLACE),
+        side: words.word(at + SIDE_PLACE),
     }
 }
 
@@ -156,7 +166,7 @@ fn record_of(row: Row) -> LightBounds
         cone,
         f32::of_word(row.phi),
         f32::of_word(row.cos_theta_e),
-        side_of(row.side),
+        Side::from(row.side),
     )
 }
 
@@ -173,8 +183,8 @@ fn judged(row: Row, unknown: Refusal) -> Result<LightBounds, Refusal>
 // ---- reading
 
 // Three words as a vector, words past the end as 0.
-pub fn vec_at(words: &[u32], at: usize) -> Vec3
-    ensures { result ≡ vec_at words.now at }
+pub fn vec_at<W: Words>(words: W, at: usize) -> Vec3
+    ensures { result ≡ vec_at (W.words words) at }
 {
     vec_of(triple_at(words, at))
 }
@@ -226,7 +236,7 @@ pub fn read_record_bytes(bytes: &[u8], at: usize) -> Result<LightBounds, Refusal
     if fits(bytes.len() / 4, at, RECORD_WORDS) {
         let from = 4 * at;
         return judged(
-            row_in(&bytes[from..from + RECORD_BYTES], 0),
+            row_at(&bytes[from..from + RECORD_BYTES], 0),
             Refusal::BrokenTree,
         );
     }
@@ -252,7 +262,7 @@ fn write_rest(words: &mut [u32], at: usize, record: LightBounds)
     words[at] = record.phi.word();
     words[at + 1] = record.cos_theta_o.word();
     words[at + 2] = record.cos_theta_e.word();
-    words[at + 3] = side_word(record.side);
+    words[at + 3] = u32::from(record.side);
 }
 
 fn put_record(words: &mut [u32], at: usize, record: LightBounds)

@@ -1,13 +1,8 @@
--- Whether a node's row is there and its head has room, as one function writes both kinds. Definitions only. Assumes
--- nothing.
+-- Whether a node's row is there and its head has room, and what is written. Definitions only. Assumes nothing.
 use Rattle.std.specs.Prelude.{ℕ, suc, Bool, ◌&&◌, cond, List, leb, ltb, length}
 use Rattle.light_rows.specs.Nodes.{node_place, node_list, LightBVHNode, leaf, interior}
 use Rattle.std.proofs.lemmas.List.Edits.{sets}
 use Rattle.light_bounds.specs.declared.light_bounds.LightBounds.{LightBounds}
-
--- a row is there, and a number has room in a head
-unfoldable pub row_fits : List ℕ → ℕ → ℕ → Bool
-row_fits ws i number = leb (node_place (suc i)) (length ws) && ltb number 0x4000_0000
 
 -- a head has thirty bits for a handle or a left child
 abbrev pub head_fits : LightBVHNode → Bool

@@ -4,4 +4,4 @@ use Rattle.light_bounds.proofs.bounds.greater.Goals as goal
 
 pub returns : goal.returns
 unfolding greatest_of
-returns c = λ i. record { x = c.max.ensures i; y = c.max-2.ensures i; z = c.max-3.ensures i }
+returns c = λ i. record { x = c.by_axis.ensures.x i; y = c.by_axis.ensures.y i; z = c.by_axis.ensures.z i }

@@ -4,4 +4,4 @@ use Rattle.light_bounds.proofs.bounds.lesser.Goals as goal
 
 pub returns : goal.returns
 unfolding least_of
-returns c = λ i. record { x = c.min.ensures i; y = c.min-2.ensures i; z = c.min-3.ensures i }
+returns c = λ i. record { x = c.by_axis.ensures.x i; y = c.by_axis.ensures.y i; z = c.by_axis.ensures.z i }

@@ -11,17 +11,17 @@ use Rattle.light_bounds.proofs.cones.union_by_angles.Goals.{After-acos-theta_a, 
 use Rattle.light_bounds.proofs.cones.union_by_angles.Goals.{After-angle_between-theta_d, After-min, After-min-2}
 
 -- the three angles
-theta-a : (c : After-acos-theta_a) → acos (clamp c.args.cos_a minus_one onef) ≡ c.acos-theta_a.result
+theta-a : (c : After-acos-theta_a) → acos (clamp c.args.a.cos_theta minus_one onef) ≡ c.acos-theta_a.result
 unfolding neg of_bits
 theta-a c = sym (c.acos-theta_a.ensures ∙ ap acos c.clamp.ensures)
 
 theta-b : (c : After-acos-theta_b) →
-    acos (clamp c.args.cos_b minus_one onef) ≡ c.acos-theta_b.result
+    acos (clamp c.args.b.cos_theta minus_one onef) ≡ c.acos-theta_b.result
 unfolding neg of_bits
 theta-b c = sym (c.acos-theta_b.ensures ∙ ap acos c.clamp-2.ensures)
 
 theta-d : (c : After-angle_between-theta_d) → (let s = c.args in angle_between
-    s.a s.b) ≡ c.angle_between-theta_d.result
+    s.a.direction s.b.direction) ≡ c.angle_between-theta_d.result
 theta-d c = sym c.angle_between-theta_d.ensures
 
 -- the two sums, at most half a turn

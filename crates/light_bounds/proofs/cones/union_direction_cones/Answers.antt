@@ -3,13 +3,12 @@
 use mathlib.Core.Path.{◌≡◌, refl, sym, ◌∙◌, ap, subst}
 use mathlib.Core.Bool.{Bool, true, false}
 use lib.Dec.{T}
-use lib.Ieee.{Float, binary32, of_bits, lt, le, is_nan}
-use lib.Ieee.Bits.{of_bits-to_bits}
+use lib.Ieee.{Float, of_bits, lt, le, is_nan}
 use Rattle.ieee.specs.Choose.{fmin, clamp}
 use Rattle.ieee.specs.Laws.ChooseOrder.{fmin-cap}
 use Rattle.ieee.specs.Single.{◌⊕◌, onef, minus_one, pi}
 use Rattle.trig.specs.Trig.{acos}
-use Rattle.trig.proofs.KnownArcs.{acos-minus-one}
+use Rattle.trig.proofs.KnownArcs.{acos-minus-one, at-word}
 use Rattle.light_bounds.specs.Cones.{union_direction_cones, cone}
 use Rattle.light_bounds.specs.Vecmath.{angle_between}
 use Rattle.light_bounds.specs.declared.vecmath.Vec3.{Vec3}
@@ -34,10 +33,12 @@ all-directions : (a : Vec3) (b : Vec3) (cos_b : Float) → union_direction_cones
 unfolding union_direction_cones
 all-directions a b cos_b = rw whole-turn (rw (cut (angle_between a b ⊕ acos (clamp cos_b minus_one onef))) refl)
 
-pub returns-then-word_of_f32-eq3212836864 : goal.returns-then-word_of_f32-eq3212836864
-unfolding of_bits
-returns-then-word_of_f32-eq3212836864 c =
-    let is : c.args.cos_a ≡ minus_one =
-    sym (of_bits-to_bits binary32 c.args.cos_a (subst T (sym c.well_formed.1.0.1) tt)) ∙
-    ap (of_bits binary32) (sym c.word_of_f32.ensures ∙ c.if-word_of_f32-eq3212836864.true) in
-    rw is (sym (all-directions c.args.a c.args.b c.args.cos_b))
+pub returns-then-word-eq3212836864 : goal.returns-then-word-eq3212836864
+returns-then-word-eq3212836864 c =
+    let a = c.args.a in
+    let b = c.args.b in
+    let is : minus_one ≡ a.cos_theta =
+    at-word (λ (x : Float). x) a.cos_theta minus_one _ _ c.well_formed.0.1.1.1.0.1 c.word.ensures
+    c.if-word-eq3212836864.true refl in
+    subst (λ (x : Float). cone a.direction x ≡ union_direction_cones a.direction x b.direction b.cos_theta) is
+    (sym (all-directions a.direction b.direction b.cos_theta))

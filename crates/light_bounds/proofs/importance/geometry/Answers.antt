@@ -1,6 +1,7 @@
 -- The distance decides whether anything is seen, then the direction from the centre, which may not be there. Assumes
 -- nothing.
 use mathlib.Core.Path.{◌≡◌, sym, ◌∙◌, ap}
+use Rattle.std.proofs.Common.{rules}
 use Rattle.words.specs.Answers.{◌then◌}
 use Rattle.light_bounds.specs.Bounds.{centroid}
 use Rattle.light_bounds.specs.Importance.{geometry}
@@ -20,14 +21,13 @@ pub returns-then-d2 : goal.returns-then-d2
 unfolding geometry
 returns-then-d2 c = rw (delta (goal.at.returns-then-d2 c).After-sub-delta, ← c.distance2-d2.ensures, c.if-d2.true)
 
-pub returns-in-Unit : goal.returns-in-Unit
+pub returns : goal.returns
 unfolding geometry ◌then◌
-returns-in-Unit c = rw (delta (goal.at.returns-in-Unit c).After-sub-delta, ← c.distance2-d2.ensures, c.if-d2.false)
-    (rw (← c.normalize.ensures, c.in-Unit.is)
-    c.toward.ensures)
+returns c = rw (delta (goal.at.returns c).After-sub-delta, ← c.distance2-d2.ensures, c.if-d2.false)
+    (rw (← c.in_ok-wi.ensures) c.toward.ensures)
 
-pub returns-in-Refused : goal.returns-in-Refused
+pub returns-in_err-wi : goal.returns-in_err-wi
 unfolding geometry ◌then◌
-returns-in-Refused c =
-    rw (delta (goal.at.returns-in-Refused c).After-sub-delta, ← c.distance2-d2.ensures, c.if-d2.false)
-    (rw (← c.normalize.ensures, c.in-Refused.is))
+returns-in_err-wi c =
+    rw (delta (goal.at.returns-in_err-wi c).After-sub-delta, ← c.distance2-d2.ensures, c.if-d2.false)
+    (rw (← c.in_err-wi.ensures) (search rules))

@@ -21,15 +21,15 @@ loop-i-preserved c = let loop = c.loop-i in
       c.loop-i.invariant.0,
       omega arith,
       rw (below_next (handle_at block) c.loop-i.i, c.loop-i.invariant.2)
-          (eq-eqb _ _ (sym c.label.ensures ∙ c.if-label-i.true)),
+          (eq-eqb _ _ (sym c.label.ensures ∙ c.if-label-i.false)),
     )
 
-pub returns-else-label-i : goal.returns-else-label-i
+pub returns-then-label-i : goal.returns-then-label-i
 unfolding block_handles
-returns-else-label-i c = let loop = c.loop-i in
+returns-then-label-i c = let loop = c.loop-i in
     let block = c.args.block.now in
     rw (below_false (handle_at block) (get_or block 0 0) c.loop-i.i (omega (arith, c.loop-i.invariant.0))
-    (ne_eqb _ _ (λ e. c.if-label-i.false (c.label.ensures ∙ e))))
+    (ne_eqb _ _ (λ e. c.if-label-i.true (c.label.ensures ∙ e))))
 
 pub returns : goal.returns
 unfolding block_handles

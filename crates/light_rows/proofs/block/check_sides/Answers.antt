@@ -23,15 +23,15 @@ loop-i-preserved c = let loop = c.loop-i in
     ∙ ap (λ (k : ℕ). side_known (get_or block (side_place k) 0)) c.record_place.ensures in (
       c.loop-i.invariant.0,
       omega arith,
-      rw (below_next (side_at block) c.loop-i.i, c.loop-i.invariant.2) (sym known ∙ c.if-is_side.true),
+      rw (below_next (side_at block) c.loop-i.i, c.loop-i.invariant.2) (sym known ∙ c.if-not-is_side.false),
     )
 
-pub returns-else-is_side : goal.returns-else-is_side
-returns-else-is_side c = let args = c.args in
+pub returns-then-not-is_side : goal.returns-then-not-is_side
+returns-then-not-is_side c = let args = c.args in
     let block = args.block.now in
     let known = c.is_side.ensures
     ∙ ap (λ (k : ℕ). side_known (get_or block (side_place k) 0)) c.record_place.ensures in
-    rw (below_false (side_at block) args.m c.loop-i.i (omega arith) (sym known ∙ c.if-is_side.false))
+    rw (below_false (side_at block) args.m c.loop-i.i (omega arith) (sym known ∙ c.if-not-is_side.true))
 
 pub returns : goal.returns
 returns c = let loop = c.loop-i in

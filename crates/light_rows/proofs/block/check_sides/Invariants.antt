@@ -1,5 +1,5 @@
 -- `light_rows::block::check_sides`: up to `i` every side is known. Assumes nothing.
-use Prim.Native.Nat.{◌-◌, ◌≤◌}
+use Prim.Native.Nat.{◌≤◌}
 use mathlib.Core.Path.{◌≡◌}
 use mathlib.Core.Bool.{true}
 use lib.ListN.{length}
@@ -9,6 +9,3 @@ use Rattle.light_rows.proofs.block.check_sides.Given as goal
 
 abbrev pub invariant-loop-i : goal.invariant-loop-i
 invariant-loop-i l = (length l.block ≡ block_words l.m) × (l.i ≤ l.m) × (below (side_at l.block) l.i ≡ true)
-
-abbrev pub decreases-loop-i : goal.decreases-loop-i
-decreases-loop-i l = l.m - l.i

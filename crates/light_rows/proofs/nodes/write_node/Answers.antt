@@ -1,23 +1,28 @@
--- There is no row, or no room for the number, or the node is put: below 2^30 a number is its own thirty bits.
--- Assumes nothing.
+-- There is no row, or no room in the head, or the node is put. Assumes nothing.
 use mathlib.Core.Path.{◌≡◌, refl}
+use mathlib.Core.Bool.{true, false}
 use native.Mathlib.Omega.{arith}
-use Rattle.words.specs.Heads.{handle_of}
-use Rattle.light_rows.proofs.NodePlaces.{row_fits_lem, no_row, too_wide}
+use Rattle.light_rows.specs.AsCoded.NodeRow.{node_fits, node_written}
+use Rattle.light_rows.specs.Nodes.{node_value}
+use Rattle.light_rows.proofs.NodePlaces.{fits, no_row, too_wide}
 use Rattle.light_rows.proofs.nodes.write_node.Goals as goal
+use Rattle.light_rows.proofs.nodes.write_node.Goals.{then-words-place-via-then-words-place}
+use Rattle.light_rows.proofs.nodes.write_node.Goals.{then-words-place-via-else-words-place+then-number-ge-HEAD_ROOM}
 
 pub returns-then-words-place : goal.returns-then-words-place
+unfolding node_written
 returns-then-words-place c = let args = c.args in
-    rw (no_row args.words.now args.place args.number c.if-words-place.true)
-    (record { value = refl; words_after = refl })
-
-pub returns-then-number-ge-HEAD_ROOM : goal.returns-then-number-ge-HEAD_ROOM
-returns-then-number-ge-HEAD_ROOM c = let args = c.args in
-    rw (too_wide args.words.now args.place args.number c.if-number-ge-HEAD_ROOM.true)
-    (record { value = refl; words_after = refl })
+    let no : node_fits args.words.now args.place (node_value args.node) ≡ false =
+    elim c.then-words-place.branch [
+      | then-words-place-via-then-words-place w ↦ no_row _ _ _ w.if-words-place.true
+      | then-words-place-via-else-words-place+then-number-ge-HEAD_ROOM w ↦
+          too_wide _ _ _ (omega (arith, w.number.ensures, w.if-number-ge-HEAD_ROOM.true))
+    ] in
+    rw no (record { value = refl; words_after = refl })
 
 pub returns : goal.returns
+unfolding node_written
 returns c = let args = c.args in
-    let own : handle_of args.number ≡ args.number = omega (arith, c.if-number-ge-HEAD_ROOM.false) in
-    rw (row_fits_lem args.words.now args.place args.number c.if-words-place.false c.if-number-ge-HEAD_ROOM.false, own)
-    (record { value = refl; words_after = c.put_node.ensures })
+    let yes : node_fits args.words.now args.place (node_value args.node) ≡ true =
+    fits _ _ _ c.if-words-place.false (omega arith) in
+    rw yes (record { value = refl; words_after = c.put_node.ensures })

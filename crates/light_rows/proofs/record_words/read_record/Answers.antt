@@ -6,7 +6,7 @@ use Rattle.light_rows.proofs.record_words.read_record.Goals as goal
 
 pub returns-then-fits : goal.returns-then-fits
 returns-then-fits c = let args = c.args in
-    c.judged.ensures 1 ∙ ap (judged_row 1) c.row_at.ensures
+    c.judged.ensures ∙ ap (judged_row 1) c.row_at.ensures
     ∙ sym (record_at-is 1 args.words.now args.at (sym c.fits.ensures ∙ c.if-fits.true))
 
 pub returns : goal.returns

@@ -23,21 +23,21 @@ overflow_mul-from c = omega (arith, fit c)
 pub overflow_add-from : goal.overflow_add-from
 overflow_add-from c = omega (arith, fit c)
 
-pub slice_bounds-row_in-count : goal.slice_bounds-row_in-count
-slice_bounds-row_in-count c = omega (arith, fit c)
+pub slice_bounds-row_at-count : goal.slice_bounds-row_at-count
+slice_bounds-row_at-count c = omega (arith, fit c)
 
-pub slice_bounds-row_in-start : goal.slice_bounds-row_in-start
-slice_bounds-row_in-start c = omega (arith, fit c)
+pub slice_bounds-row_at-start : goal.slice_bounds-row_at-start
+slice_bounds-row_at-start c = omega (arith, fit c)
 
-pub slice_bounds-row_in-end : goal.slice_bounds-row_in-end
-slice_bounds-row_in-end c = omega (arith, fit c)
+pub slice_bounds-row_at-end : goal.slice_bounds-row_at-end
+slice_bounds-row_at-end c = omega (arith, fit c)
 
 pub returns-then-fits : goal.returns-then-fits
 returns-then-fits c = let args = c.args in
     let size : 4 * args.at + 4 * record_words - 4 * args.at ≡ 4 * record_words = omega arith in
-    c.judged.ensures 12
+    c.judged.ensures
     ∙ ap (judged_row 12)
-    (rw size at c.row_in.ensures ∙ row-part args.bytes.now args.at (fit (goal.at.returns-then-fits c).Then-fits))
+    (rw size at c.row_at.ensures ∙ row-part args.bytes.now args.at (fit (goal.at.returns-then-fits c).Then-fits))
     ∙ sym (record_at-is 12 (words_of args.bytes.now) args.at
     (rw length-words_of (sym c.fits.ensures ∙ c.if-fits.true)))
 
