@@ -19,7 +19,8 @@ use Rattle.light_bounds.specs.declared.light_bounds.LightBounds.{LightBounds}
 use Rattle.light_rows.specs.Block.{bounds_words, bounds_row, block_words, handle_place, pack_exhaustive_bounds}
 use Rattle.light_rows.specs.AsCoded.BlockRow.{row_written}
 use Rattle.lamps.specs.BuildBounds.{build_light_bounds}
-use Rattle.lamps.specs.AsCoded.Passed.{Passed, next_bounds}
+use Rattle.lamps.specs.AsCoded.Passed.{next_bounds}
+use Rattle.lamps.specs.declared.build_bounds.Passed.{Passed}
 use Rattle.lamps.specs.LampList.{lamp_list}
 use Rattle.lamps.proofs.BuildLaws.{list_counted, build-refused, build-given, row_width, length-block}
 use Rattle.lamps.proofs.WalkLaws.{bounds_walk}

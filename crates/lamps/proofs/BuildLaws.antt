@@ -40,7 +40,6 @@ use Rattle.lamps.proofs.WalkLaws.{lamps_from-length, bounds_walk, bounds_walk-al
 -- ---- the lamps' figures: above 4
 
 late_emission : (value scale : Float) → Late (validate_emission value scale)
-unfolding validate_emission
 late_emission value scale =
     only-cond (emission_bad value scale) (only-refused (omega arith)) only-given
 
@@ -90,7 +89,6 @@ late_group emission scale side ts =
     (λ _. late-union_from emission scale side ts 0 _ (refused 9) (only-refused (omega arith)))
 
 late_lamp : (lamp : Lamp) (ts : List ℕ) → Late (light_bounds_for_input lamp ts)
-unfolding light_bounds_for_input
 late_lamp (Point h p i s) ts = late_point p i s
 late_lamp (Spot h p d i s o e) ts = late_spot p d i s o e
 late_lamp (AreaGroup h e s side) ts = late_group e s side ts
@@ -104,7 +102,6 @@ late-all ws (r ∷ rs) =
 -- ---- reading: 1, 2 and 4
 
 early_lamp : (ws : List ℕ) (at : ℕ) → Early (lamp_at ws at)
-unfolding lamp_at
 early_lamp ws at =
     let end = length ws in
     let kind = kind_of (get_or ws at 0) in
@@ -127,7 +124,6 @@ early-placed ws =
     (λ rs. only-cond (in_place 0 rs) only-given (only-refused (omega arith)))
 
 pub early-list : (ws : List ℕ) → Early (lamp_list ws)
-unfolding lamp_list
 early-list ws = only-cond (crowded ws) (only-refused (omega arith)) (early-placed ws)
 
 -- ---- lists read
@@ -135,7 +131,7 @@ early-list ws = only-cond (crowded ws) (only-refused (omega arith)) (early-place
 -- a list that was read: not over the limits, and as many lamps as word 0 says
 pub list_read : (ws : List ℕ) (rs : List Reading) → lamp_list ws ≡ given rs
     → (crowded ws ≡ false) × (lamps_from (get_or ws 0 0) ws 1 ≡ given rs) × (length rs ≡ get_or ws 0 0)
-unfolding lamp_list placed_lamps
+unfolding placed_lamps
 list_read ws rs e = uncrowded (crowded ws) refl e
   where
     placed : (b : Bool) (l : List Reading) → cond b (given l) (refused 4) ≡ given rs → l ≡ rs

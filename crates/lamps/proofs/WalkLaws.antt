@@ -13,7 +13,8 @@ use Rattle.words.proofs.AnswerLaws.{not-both, given_injective, then-given}
 use Rattle.words.proofs.RowLaws.{behind, Walked, walked-refused, walked_all}
 use Rattle.light_bounds.specs.declared.light_bounds.LightBounds.{LightBounds}
 use Rattle.lamps.specs.BuildBounds.{bounds_of, all_bounds}
-use Rattle.lamps.specs.AsCoded.Passed.{Passed, next_bounds}
+use Rattle.lamps.specs.AsCoded.Passed.{next_bounds}
+use Rattle.lamps.specs.declared.build_bounds.Passed.{Passed}
 use Rattle.lamps.specs.LampList.{lamp_at, lamps_from, handle, in_place, placed_lamps}
 use Rattle.lamps.specs.declared.lamp_list.Reading.{Reading}
 

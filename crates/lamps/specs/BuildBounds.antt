@@ -19,4 +19,6 @@ all_bounds ws (r ∷ rs) = bounds_of ws r then λ b. all_bounds ws rs then λ bs
 
 -- `room` words are lent for the block
 unfoldable pub build_light_bounds : List ℕ → ℕ → Answer (List LightBounds)
-build_light_bounds ws room = lamp_list ws then λ rs. cond (leb (block_words (length rs)) room) (all_bounds ws rs) (refused 3)
+build_light_bounds ws room =
+    lamp_list ws then λ rs.
+    cond (leb (block_words (length rs)) room) (all_bounds ws rs) (refused 3)

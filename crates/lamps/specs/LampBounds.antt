@@ -31,7 +31,7 @@ half_pi = single 0x3fc9_0fdb
 abbrev pub emission_bad : Float → Float → Bool
 emission_bad value scale = not (finite value) || (not (finite scale) || (lt value zerof || lt scale zerof))
 
-unfoldable pub validate_emission : Float → Float → Answer (Unit {0})
+abbrev pub validate_emission : Float → Float → Answer (Unit {0})
 validate_emission value scale = cond (emission_bad value scale) (refused 8) (given tt)
 
 -- a record that passes its own check
@@ -44,7 +44,7 @@ checked r = validate r then λ _. given r
 abbrev pub point_box : Vec3 → Bounds3
 point_box p = record { min = p; max = p }
 
-unfoldable pub point_phi : Float → Float → Float
+abbrev pub point_phi : Float → Float → Float
 point_phi intensity scale = four ⊗ pi ⊗ scale ⊗ intensity
 
 unfoldable pub point_bounds : Vec3 → Float → Float → Answer LightBounds
@@ -59,7 +59,7 @@ abbrev pub too_narrow : Float → Float → Float → Bool
 too_narrow cosE cos_o cos_end = eq cosE onef && not (eq cos_o cos_end)
 
 -- the cosine of the falloff's angle; a falloff too narrow to see is not none
-unfoldable pub falloff : Float → Float → Float
+abbrev pub falloff : Float → Float → Float
 falloff cos_o cos_end =
     let e = cos (acos cos_end ⊖ acos cos_o) in
     cond (too_narrow e cos_o cos_end) nearly_one e
@@ -73,12 +73,14 @@ spot_record position direction phi cos_o cos_end =
 unfoldable pub spot_bounds : Vec3 → Vec3 → Float → Float → Float → Float → Answer LightBounds
 spot_bounds position direction intensity scale cos_o cos_end =
     validate_emission intensity scale then λ _.
-    cond (are_cosines cos_o cos_end) (spot_record position direction (point_phi intensity scale) cos_o cos_end) (refused 8)
+    cond (are_cosines cos_o cos_end)
+    (spot_record position direction (point_phi intensity scale) cos_o cos_end)
+    (refused 8)
 
 -- ---- groups
 
 -- thirteen words: three vertices, area, normal
-unfoldable pub triangle_at : List ℕ → ℕ → AreaTriangleInput
+abbrev pub triangle_at : List ℕ → ℕ → AreaTriangleInput
 triangle_at ts i =
     record {
       a = vec_at ts i;
@@ -89,7 +91,7 @@ triangle_at ts i =
     }
 
 -- min and max drop a NaN, so a coordinate is NaN only where all three vertices have it so
-unfoldable pub triangle_bounds : AreaTriangleInput → Bounds3
+abbrev pub triangle_bounds : AreaTriangleInput → Bounds3
 triangle_bounds t =
     record { min = least_of (least_of t.a t.b) t.c; max = greatest_of (greatest_of t.a t.b) t.c }
 
@@ -97,7 +99,7 @@ triangle_bounds t =
 abbrev pub no_area : Float → Bool
 no_area area = not (finite area) || le area zerof
 
-unfoldable pub group_phi : Float → Float → Float → Float
+abbrev pub group_phi : Float → Float → Float → Float
 group_phi emission scale area = emission ⊗ scale ⊗ area ⊗ pi
 
 -- the normal, then the normalised one, then the record
@@ -133,7 +135,7 @@ group_bounds emission scale side ts =
 
 -- ---- a lamp, a group's triangles beside it
 
-unfoldable pub light_bounds_for_input : Lamp → List ℕ → Answer LightBounds
+abbrev pub light_bounds_for_input : Lamp → List ℕ → Answer LightBounds
 light_bounds_for_input (Point h p i s) ts = point_bounds p i s
 light_bounds_for_input (Spot h p d i s o e) ts = spot_bounds p d i s o e
 light_bounds_for_input (AreaGroup h e s side) ts = group_bounds e s side ts

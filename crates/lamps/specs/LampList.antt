@@ -2,10 +2,10 @@
 -- its kind in the top two bits (01 point, 10 spot, 11 group) and its handle in the low thirty. Reading comes before any
 -- figure is judged: over the limits is 2, a list whose words are not laid out as it says 1, a handle that is not its
 -- place 4. Definitions only. Assumes nothing.
-use Rattle.std.specs.Prelude.{ℕ, zero, suc, ◌+◌, ◌*◌, ◌-◌, Bool, true, cond, ◌&&◌, List, [], ◌∷◌, leb, eqb, length, get_or, take, drop}
+use Rattle.std.specs.Prelude.{ℕ, zero, suc, ◌+◌, ◌*◌, ◌-◌, Bool, true, cond, ◌&&◌, leb, eqb}
+use Rattle.std.specs.Prelude.{List, [], ◌∷◌, length, get_or, take, drop}
 use Rattle.ieee.specs.Single.{single}
 use Rattle.words.specs.Answers.{Answer, given, refused, ◌then◌}
-use Rattle.words.specs.Refusals.{number}
 use Rattle.words.specs.Heads.{kind_of, handle_of}
 use Rattle.words.specs.Limits.{crowded}
 use Rattle.light_rows.specs.RecordWords.{vec_at}
@@ -47,7 +47,11 @@ alone lamp end = record { lamp = lamp; triangles = end; next = record { at = end
 abbrev pub point_at : List ℕ → ℕ → Reading
 point_at ws at =
     alone
-    (Point (handle_of (get_or ws at 0)) (vec_at ws (at + 1)) (single (get_or ws (at + 4) 0)) (single (get_or ws (at + 5) 0)))
+    (Point
+    (handle_of (get_or ws at 0))
+    (vec_at ws (at + 1))
+    (single (get_or ws (at + 4) 0))
+    (single (get_or ws (at + 5) 0)))
     (at + point_words)
 
 abbrev pub spot_at : List ℕ → ℕ → Reading
@@ -82,16 +86,18 @@ abbrev pub group_fits : List ℕ → ℕ → Bool
 group_fits ws at = list_side_known (get_or ws (at + 3) 0) && leb (group_end ws at) (length ws)
 
 -- the lamp at a place: 1 where its words pass the end, and at an unknown kind or side
-unfoldable pub lamp_at : List ℕ → ℕ → Answer Reading
+abbrev pub lamp_at : List ℕ → ℕ → Answer Reading
 lamp_at ws at =
-    cond (eqb (kind_of (get_or ws at 0)) 1) (cond (leb (at + point_words) (length ws)) (given (point_at ws at)) (refused 1))
-    (cond (eqb (kind_of (get_or ws at 0)) 2) (cond (leb (at + spot_words) (length ws)) (given (spot_at ws at)) (refused 1))
+    cond (eqb (kind_of (get_or ws at 0)) 1)
+    (cond (leb (at + point_words) (length ws)) (given (point_at ws at)) (refused 1))
+    (cond (eqb (kind_of (get_or ws at 0)) 2)
+    (cond (leb (at + spot_words) (length ws)) (given (spot_at ws at)) (refused 1))
     (cond (eqb (kind_of (get_or ws at 0)) 3)
     (cond (leb (at + group_words) (length ws) && group_fits ws at) (given (group_at ws at)) (refused 1))
     (refused 1)))
 
 -- the words of a reading's triangles, the list's own
-unfoldable pub triangles_of : List ℕ → Reading → List ℕ
+abbrev pub triangles_of : List ℕ → Reading → List ℕ
 triangles_of ws r =
     cond (leb r.triangles r.next.at && leb r.next.at (length ws))
     (take (r.next.at - r.triangles) (drop r.triangles ws))
@@ -119,5 +125,5 @@ unfoldable pub placed_lamps : List ℕ → Answer (List Reading)
 placed_lamps ws = lamps_from (get_or ws 0 0) ws first_lamp.at then λ rs. cond (in_place 0 rs) (given rs) (refused 4)
 
 -- 2 first
-unfoldable pub lamp_list : List ℕ → Answer (List Reading)
+abbrev pub lamp_list : List ℕ → Answer (List Reading)
 lamp_list ws = cond (crowded ws) (refused 2) (placed_lamps ws)

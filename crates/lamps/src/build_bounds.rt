@@ -4,7 +4,7 @@ ghost use Rattle.words.specs.Answers.{given, count, answered};
 ghost use Rattle.words.specs.Tray.{tray};
 ghost use Rattle.light_rows.specs.Block.{block_words, pack_exhaustive_bounds};
 ghost use Rattle.lamps.specs.BuildBounds.{build_light_bounds};
-ghost use Rattle.lamps.specs.AsCoded.Passed.{next_bounds, passed};
+ghost use Rattle.lamps.specs.AsCoded.Passed.{next_bounds};
 ghost use Rattle.lamps.specs.LampList.{lamp_list};
 
 use super::lamp_bounds::light_bounds_for_input;
@@ -14,28 +14,22 @@ use light_rows::block::{block_words, write_row};
 use words::fill::zero_words;
 use words::refusals::Refusal;
 
-// The bounds of the lamp at a cursor, with the cursor past it; or why not.
-#[derive(Drop)]
-enum Next {
-    Bounds(LightBounds, Cursor),
-    Refused(Refusal),
+// The bounds of the lamp at a cursor, and the cursor past it.
+#[derive(Clone, Copy)]
+struct Passed {
+    bounds: LightBounds,
+    next: Cursor,
 }
 
-fn next_bounds(list: &[u32], cursor: Cursor) -> Next
-    ensures { passed result ≡ next_bounds list.now cursor.at }
+fn next_bounds(list: &[u32], cursor: Cursor) -> Result<Passed, Refusal>
+    ensures { answered result ≡ next_bounds list.now cursor.at }
 {
-    match cursor.next(list) {
-        Ok(reading) => {
-            let lamp = reading.lamp;
-            let next = reading.next;
-            let triangles = reading.triangles(list);
-            match light_bounds_for_input(lamp, triangles) {
-                Ok(record) => Next::Bounds(record, next),
-                Err(why) => Next::Refused(why),
-            }
-        }
-        Err(why) => Next::Refused(why),
-    }
+    let reading = cursor.next(list)?;
+    let bounds = light_bounds_for_input(reading.lamp, reading.triangles(list))?;
+    Ok(Passed {
+        bounds,
+        next: reading.next,
+    })
 }
 
 // The block of a list: 1 + 14m words, the side last in each record. Refusals 2, 1, 4, 3 leave the lent words as they
@@ -45,15 +39,11 @@ pub fn build_light_bounds(list: &[u32], block: &mut [u32]) -> Result<usize, Refu
     ensures block_after { block.new ≡ tray pack_exhaustive_bounds (block_words (get_or list.now 0 0))
         (build_light_bounds list.now (length block.old)) block.old }
 {
-    match check_list(list) {
-        Ok(m) => {
-            if block.len() < block_words(m as u32) {
-                return Err(Refusal::ShortTray);
-            }
-            write_block(list, m, block)
-        }
-        Err(why) => Err(why),
+    let m = check_list(list)?;
+    if block.len() < block_words(m as u32) {
+        return Err(Refusal::ShortTray);
     }
+    write_block(list, m, block)
 }
 
 // The block of a list that was read as m lamps, or zeros in its place.
@@ -65,20 +55,18 @@ fn write_block(list: &[u32], m: usize, block: &mut [u32]) -> Result<usize, Refus
         (build_light_bounds list.now (length block.old)) block.old }
 {
     block[0] = m as u32;
-    let mut place: usize = 0;
     let mut cursor = Cursor::new();
-    while place < m {
+    for place in 0..m {
         match next_bounds(list, cursor) {
-            Next::Bounds(record, next) => {
-                write_row(block, place as u32, record);
-                cursor = next;
+            Ok(passed) => {
+                write_row(block, place as u32, passed.bounds);
+                cursor = passed.next;
             }
-            Next::Refused(why) => {
+            Err(why) => {
                 zero_words(block, 0, block_words(m as u32));
                 return Err(why);
             }
         }
-        place += 1;
     }
     Ok(m)
 }

@@ -1,5 +1,5 @@
 // The bounds of one lamp (specs/LampBounds.antt): `light_bounds_for_input` of pbrt-r4's light_bounds.rs.
-ghost use Rattle.std.specs.Prelude.{◌≡◌, ◌+◌, ◌*◌, ◌≤◌, ◌-◌, length};
+ghost use Rattle.std.specs.Prelude.{◌≡◌, ◌/◌, ◌≤◌, length};
 ghost use Rattle.words.specs.Answers.{given, ◌then◌, answered};
 ghost use Rattle.lamps.specs.LampList.{triangle_words};
 ghost use Rattle.lamps.specs.LampBounds.{light_bounds_for_input, emission_bad, validate_emission};
@@ -15,16 +15,13 @@ use light_bounds::cones::Cone;
 use light_bounds::light_bounds::{LightBounds, are_cosines, union, validate};
 use light_bounds::vecmath::{Vec3, is_finite, is_finite_vec, normalize};
 use light_rows::record_words::vec_at;
+use std::f32::consts::PI;
 use trig::{acos, cos};
 use words::floats::Float;
 use words::refusals::Refusal;
 
-// π as f32 has it, 40490fdb, and the cosine of its half, b33bbd2e (proofs/LampBoundsLaws.antt computes it).
-const PI: f32 = 3.1415927;
-
+// The cosine of half π as f32 has it, b33bbd2e (proofs/LampBoundsLaws.antt computes it).
 const COS_HALF_PI: f32 = -0.00000004371139;
-
-const MINUS_ONE: f32 = -1.0;
 
 #[derive(Clone, Copy)]
 pub struct AreaTriangleInput {
@@ -35,64 +32,112 @@ pub struct AreaTriangleInput {
     pub geometric_normal: Vec3,
 }
 
+// What a lamp sends out: the greatest of its values, and the scale on them.
+#[derive(Clone, Copy)]
+struct Emission {
+    max: f32,
+    scale: f32,
+}
+
+// A group without its triangles.
+#[derive(Clone, Copy)]
+struct Group {
+    emission: Emission,
+    two_sided: bool,
+}
+
 // The bounds of a lamp; a group's triangles stand beside it, and are not looked at for a point or a spot.
 pub fn light_bounds_for_input(lamp: Lamp, triangles: &[u32]) -> Result<LightBounds, Refusal>
     ensures { answered result ≡ light_bounds_for_input lamp triangles.now }
 {
     match lamp {
         Lamp::Point {
-            handle: _,
             world_position,
             intensity_max,
             scale,
-        } => point_bounds(world_position, intensity_max, scale),
+            ..
+        } => {
+            let emission = Emission {
+                max: intensity_max,
+                scale,
+            };
+            point_bounds(world_position, emission)
+        }
         Lamp::Spot {
-            handle: _,
             world_position,
             direction,
             intensity_max,
             scale,
             cos_theta_o,
             cos_falloff_end,
+            ..
         } => {
+            let emission = Emission {
+                max: intensity_max,
+                scale,
+            };
             let cone = Cone {
                 direction,
                 cos_theta: cos_theta_o,
             };
-            spot_bounds(world_position, cone, intensity_max, scale, cos_falloff_end)
+            spot_bounds(world_position, cone, emission, cos_falloff_end)
         }
         Lamp::AreaGroup {
-            handle: _,
             emission_max,
             scale,
             two_sided,
-        } => group_bounds(emission_max, scale, two_sided, triangles),
+            ..
+        } => {
+            let emission = Emission {
+                max: emission_max,
+                scale,
+            };
+            let group = Group {
+                emission,
+                two_sided,
+            };
+            group.bounds(triangles)
+        }
     }
 }
 
-fn validate_emission(value: f32, scale: f32) -> Result<(), Refusal>
-    ensures { answered result ≡ validate_emission value scale }
-{
-    if emission_is_bad(value, scale) {
-        return Err(Refusal::OutOfRange);
+impl Emission {
+    fn validate(self) -> Result<(), Refusal>
+        ensures { answered result ≡ validate_emission self.max self.scale }
+    {
+        if self.is_bad() {
+            return Err(Refusal::OutOfRange);
+        }
+        Ok(())
     }
-    Ok(())
-}
 
-fn emission_is_bad(value: f32, scale: f32) -> bool
-    ensures { result ≡ emission_bad value scale }
-{
-    !is_finite(value) || (!is_finite(scale) || (value < 0.0 || scale < 0.0))
+    fn is_bad(self) -> bool
+        ensures { result ≡ emission_bad self.max self.scale }
+    {
+        !is_finite(self.max) || !is_finite(self.scale) || self.max < 0.0 || self.scale < 0.0
+    }
+
+    // The power of a point or a spot.
+    fn point_phi(self) -> f32
+        ensures { result ≡ point_phi self.max self.scale }
+    {
+        4.0 * PI * self.scale * self.max
+    }
+
+    // The power of a triangle.
+    fn group_phi(self, area: f32) -> f32
+        ensures { result ≡ group_phi self.max self.scale area }
+    {
+        self.max * self.scale * area * PI
+    }
 }
 
 // A record that passes its own check.
 fn checked(record: LightBounds) -> Result<LightBounds, Refusal>
     ensures { answered result ≡ checked_of «record» }
 {
-    match validate(record) {
-        Ok(()) => Ok(record),
-        Err(why) => Err(why),
-    }
+    validate(record)?;
+    Ok(record)
 }
 
 // ---- points and spots
@@ -106,42 +151,21 @@ fn point_box(position: Vec3) -> Bounds3
     }
 }
 
-fn point_phi(intensity_max: f32, scale: f32) -> f32
-    ensures { result ≡ point_phi intensity_max scale }
+fn point_bounds(position: Vec3, intensity: Emission) -> Result<LightBounds, Refusal>
+    ensures { answered result ≡ point_bounds position intensity.max intensity.scale }
 {
-    4.0 * PI * scale * intensity_max
-}
-
-fn point_bounds(position: Vec3, intensity_max: f32, scale: f32) -> Result<LightBounds, Refusal>
-    ensures { answered result ≡ point_bounds position intensity_max scale }
-{
-    match validate_emission(intensity_max, scale) {
-        Ok(()) => {
-            let bounds = point_box(position);
-            match check(bounds) {
-                Ok(()) => {
-                    let direction = Vec3 {
-                        x: 0.0,
-                        y: 0.0,
-                        z: 1.0,
-                    };
-                    let cone = Cone {
-                        direction,
-                        cos_theta: MINUS_ONE,
-                    };
-                    checked(LightBounds::of_lamp(
-                        bounds,
-                        cone,
-                        point_phi(intensity_max, scale),
-                        COS_HALF_PI,
-                        false,
-                    ))
-                }
-                Err(why) => Err(why),
-            }
-        }
-        Err(why) => Err(why),
-    }
+    intensity.validate()?;
+    let bounds = point_box(position);
+    check(bounds)?;
+    let cone = Cone {
+        direction: Vec3 {
+            x: 0.0,
+            y: 0.0,
+            z: 1.0,
+        },
+        cos_theta: -1.0,
+    };
+    checked(LightBounds::of_lamp(bounds, cone, intensity.point_phi(), COS_HALF_PI, false))
 }
 
 // The cosine of the falloff's angle; where that rounds to 1 and there is a falloff, 0.999.
@@ -165,67 +189,58 @@ fn too_narrow(cos_theta_e: f32, cos_theta_o: f32, cos_falloff_end: f32) -> bool
 fn spot_bounds(
     position: Vec3,
     cone: Cone,
-    intensity_max: f32,
-    scale: f32,
+    intensity: Emission,
     cos_falloff_end: f32,
 ) -> Result<LightBounds, Refusal>
     ensures { answered result ≡
-        spot_bounds position cone.direction intensity_max scale cone.cos_theta cos_falloff_end }
+        spot_bounds position cone.direction intensity.max intensity.scale cone.cos_theta cos_falloff_end }
 {
-    match validate_emission(intensity_max, scale) {
-        Ok(()) => {
-            if are_cosines(cone.cos_theta, cos_falloff_end) {
-                return spot_record(
-                    position,
-                    cone,
-                    point_phi(intensity_max, scale),
-                    cos_falloff_end,
-                );
-            }
-            Err(Refusal::OutOfRange)
-        }
-        Err(why) => Err(why),
+    intensity.validate()?;
+    if are_cosines(cone.cos_theta, cos_falloff_end) {
+        return spot_record(position, cone, intensity.point_phi(), cos_falloff_end);
     }
+    Err(Refusal::OutOfRange)
 }
 
 // Box, direction, record.
-fn spot_record(position: Vec3, cone: Cone, phi: f32, cos_falloff_end: f32) -> Result<LightBounds, Refusal>
+fn spot_record(
+    position: Vec3,
+    cone: Cone,
+    phi: f32,
+    cos_falloff_end: f32,
+) -> Result<LightBounds, Refusal>
     ensures { answered result ≡ spot_record position cone.direction phi cone.cos_theta cos_falloff_end }
 {
     let bounds = point_box(position);
-    match check(bounds) {
-        Ok(()) => match normalize(cone.direction) {
-            Ok(direction) => {
-                let cos_theta = cone.cos_theta;
-                checked(LightBounds::of_lamp(
-                    bounds,
-                    Cone {
-                        direction,
-                        cos_theta,
-                    },
-                    phi,
-                    falloff(cos_theta, cos_falloff_end),
-                    false,
-                ))
-            }
-            Err(why) => Err(why),
-        },
-        Err(why) => Err(why),
-    }
+    check(bounds)?;
+    let direction = normalize(cone.direction)?;
+    let cos_theta = cone.cos_theta;
+    let unit_cone = Cone {
+        direction,
+        cos_theta,
+    };
+    checked(LightBounds::of_lamp(
+        bounds,
+        unit_cone,
+        phi,
+        falloff(cos_theta, cos_falloff_end),
+        false,
+    ))
 }
 
 // ---- groups
 
-fn triangle_at(triangles: &[u32], at: usize) -> AreaTriangleInput
-    requires { at + triangle_words ≤ length triangles.now }
-    ensures { result ≡ triangle_at triangles.now at }
+// The triangle at the front of some words.
+fn triangle_at(words: &[u32]) -> AreaTriangleInput
+    requires { triangle_words ≤ length words.now }
+    ensures { result ≡ triangle_at words.now 0 }
 {
     AreaTriangleInput {
-        a: vec_at(triangles, at),
-        b: vec_at(triangles, at + 3),
-        c: vec_at(triangles, at + 6),
-        area: f32::of_word(triangles[at + 9]),
-        geometric_normal: vec_at(triangles, at + 10),
+        a: vec_at(words, 0),
+        b: vec_at(words, 3),
+        c: vec_at(words, 6),
+        area: f32::of_word(words[9]),
+        geometric_normal: vec_at(words, 10),
     }
 }
 
@@ -239,130 +254,79 @@ fn triangle_bounds(t: AreaTriangleInput) -> Bounds3
     }
 }
 
-fn group_phi(emission_max: f32, scale: f32, area: f32) -> f32
-    ensures { result ≡ group_phi emission_max scale area }
-{
-    emission_max * scale * area * PI
-}
-
-// Box, area, normal, the normalised normal, record.
-fn triangle_record(emission_max: f32, scale: f32, two_sided: bool, t: AreaTriangleInput) -> Result<LightBounds, Refusal>
-    ensures { answered result ≡ triangle_record emission_max scale two_sided t }
-{
-    let bounds = triangle_bounds(t);
-    match check(bounds) {
-        Ok(()) => {
-            if has_no_area(t.area) {
-                return Err(Refusal::NoArea);
-            }
-            faced_record(
-                bounds,
-                t.geometric_normal,
-                group_phi(emission_max, scale, t.area),
-                two_sided,
-            )
-        }
-        Err(why) => Err(why),
-    }
-}
-
 fn has_no_area(area: f32) -> bool
     ensures { result ≡ no_area area }
 {
     !is_finite(area) || area <= 0.0
 }
 
-fn faced_record(bounds: Bounds3, normal: Vec3, phi: f32, two_sided: bool) -> Result<LightBounds, Refusal>
+fn faced_record(
+    bounds: Bounds3,
+    normal: Vec3,
+    phi: f32,
+    two_sided: bool,
+) -> Result<LightBounds, Refusal>
     ensures { answered result ≡ faced_record bounds normal phi two_sided }
 {
-    match normalize(normal) {
-        Ok(direction) => {
-            if is_finite_vec(direction) {
-                let cone = Cone {
-                    direction,
-                    cos_theta: 1.0,
-                };
-                return checked(LightBounds::of_lamp(bounds, cone, phi, COS_HALF_PI, two_sided));
-            }
-            Err(Refusal::NoDirection)
-        }
-        Err(why) => Err(why),
+    let direction = normalize(normal)?;
+    if is_finite_vec(direction) {
+        let cone = Cone {
+            direction,
+            cos_theta: 1.0,
+        };
+        return checked(LightBounds::of_lamp(bounds, cone, phi, COS_HALF_PI, two_sided));
     }
+    Err(Refusal::NoDirection)
 }
 
-// The record around what there is and the next triangle.
-fn grown(
-    existing: LightBounds,
-    emission_max: f32,
-    scale: f32,
-    two_sided: bool,
-    t: AreaTriangleInput,
-) -> Result<LightBounds, Refusal>
-    ensures { answered result ≡ triangle_record emission_max scale two_sided t then join_next (given existing) }
-{
-    match triangle_record(emission_max, scale, two_sided, t) {
-        Ok(current) => union(existing, current),
-        Err(why) => Err(why),
-    }
-}
-
-// The triangles behind the first, of n, in a union with it.
-fn union_rest(
-    first: LightBounds,
-    emission_max: f32,
-    scale: f32,
-    two_sided: bool,
-    triangles: &[u32],
-    n: usize,
-) -> Result<LightBounds, Refusal>
-    requires n_in_bounds { triangle_words * n ≤ length triangles.now }
-    requires le_n { 1 ≤ n }
-    ensures { answered result ≡ union_from emission_max scale two_sided triangles.now triangle_words
-        (n - 1) (given first) }
-{
-    let mut result = first;
-    let mut k: usize = 1;
-    while k < n {
-        match grown(
-            result,
-            emission_max,
-            scale,
-            two_sided,
-            triangle_at(triangles, TRIANGLE_WORDS * k),
-        ) {
-            Ok(record) => {
-                result = record;
-            }
-            Err(why) => {
-                return Err(why);
-            }
+impl Group {
+    // Box, area, normal, the normalised normal, record.
+    fn triangle_record(self, t: AreaTriangleInput) -> Result<LightBounds, Refusal>
+        ensures { answered result ≡ triangle_record self.emission.max self.emission.scale self.two_sided t }
+    {
+        let bounds = triangle_bounds(t);
+        check(bounds)?;
+        if has_no_area(t.area) {
+            return Err(Refusal::NoArea);
         }
-        k += 1;
+        faced_record(
+            bounds,
+            t.geometric_normal,
+            self.emission.group_phi(t.area),
+            self.two_sided,
+        )
     }
-    Ok(result)
-}
 
-fn group_bounds(emission_max: f32, scale: f32, two_sided: bool, triangles: &[u32]) -> Result<LightBounds, Refusal>
-    ensures { answered result ≡ group_bounds emission_max scale two_sided triangles.now }
-{
-    match validate_emission(emission_max, scale) {
-        Ok(()) => {
-            let n = triangles.len() / TRIANGLE_WORDS;
-            if n == 0 {
-                return Err(Refusal::NoArea);
-            }
-            match triangle_record(emission_max, scale, two_sided, triangle_at(triangles, 0)) {
-                Ok(first) => union_rest(
-                    first,
-                    emission_max,
-                    scale,
-                    two_sided,
-                    triangles,
-                    n,
-                ),
-                Err(why) => Err(why),
-            }
+    // The record around what there is and the next triangle.
+    fn grown(self, existing: LightBounds, t: AreaTriangleInput) -> Result<LightBounds, Refusal>
+        ensures { answered result ≡ triangle_record self.emission.max self.emission.scale self.two_sided t
+            then join_next (given existing) }
+    {
+        let current = self.triangle_record(t)?;
+        union(existing, current)
+    }
+
+    // The triangles behind the first in a union with it.
+    fn union_rest(self, first: LightBounds, rest: &[u32]) -> Result<LightBounds, Refusal>
+        ensures { answered result ≡ union_from self.emission.max self.emission.scale self.two_sided rest.now 0
+            (length rest.now / triangle_words) (given first) }
+    {
+        let mut result = first;
+        for words in rest.chunks_exact(TRIANGLE_WORDS) {
+            result = self.grown(result, triangle_at(words))?;
         }
-        Err(why) => Err(why),
+        Ok(result)
+    }
+
+    fn bounds(self, triangles: &[u32]) -> Result<LightBounds, Refusal>
+        ensures { answered result ≡
+            group_bounds self.emission.max self.emission.scale self.two_sided triangles.now }
+    {
+        self.emission.validate()?;
+        if triangles.len() < TRIANGLE_WORDS {
+            return Err(Refusal::NoArea);
+        }
+        let first = self.triangle_record(triangle_at(triangles))?;
+        self.union_rest(first, &triangles[TRIANGLE_WORDS..])
     }
 }

@@ -57,11 +57,23 @@ pub enum Lamp {
 
 // A lamp, the place where its triangles start, and the cursor past it. A point or a spot has no triangles: they start
 // where the next lamp does.
-#[derive(Drop)]
+#[derive(Clone, Copy)]
 pub struct Reading {
     pub lamp: Lamp,
     pub triangles: usize,
     pub next: Cursor,
+}
+
+impl Lamp {
+    pub fn handle(self) -> u32
+        ensures { result ≡ handle self }
+    {
+        match self {
+            Lamp::Point { handle, .. } => handle,
+            Lamp::Spot { handle, .. } => handle,
+            Lamp::AreaGroup { handle, .. } => handle,
+        }
+    }
 }
 
 impl Cursor {
@@ -77,17 +89,12 @@ impl Cursor {
         ensures { answered result ≡ lamp_at list.now self.at }
     {
         let at = self.at;
-        let kind = kind_of(word_or_zero(list, at));
-        if kind == 1 {
-            return point_at(list, at);
+        match kind_of(word_or_zero(list, at)) {
+            1 => point_at(list, at),
+            2 => spot_at(list, at),
+            3 => group_at(list, at),
+            _ => Err(Refusal::Ragged),
         }
-        if kind == 2 {
-            return spot_at(list, at);
-        }
-        if kind == 3 {
-            return group_at(list, at);
-        }
-        Err(Refusal::Ragged)
     }
 }
 
@@ -96,24 +103,7 @@ impl Reading {
     pub fn triangles(self, list: &[u32]) -> &[u32]
         ensures { result.now ≡ triangles_of list.now self }
     {
-        let from = self.triangles;
-        let next = self.next;
-        let to = next.at;
-        if to < from || list.len() < to {
-            return &list[..0];
-        }
-        &list[from..to]
-    }
-}
-
-// Its handle.
-pub fn lamp_handle(lamp: Lamp) -> u32
-    ensures { result ≡ handle lamp }
-{
-    match lamp {
-        Lamp::Point { handle, .. } => handle,
-        Lamp::Spot { handle, .. } => handle,
-        Lamp::AreaGroup { handle, .. } => handle,
+        list.get(self.triangles..self.next.at).unwrap_or(&[])
     }
 }
 
@@ -184,18 +174,7 @@ fn group_at(list: &[u32], at: usize) -> Result<Reading, Refusal>
         at)
         (given (group_at list.now at)) (refused 1) }
 {
-    if fits(list.len(), at, GROUP_WORDS) {
-        return whole_group(list, at);
-    }
-    Err(Refusal::Ragged)
-}
-
-fn whole_group(list: &[u32], at: usize) -> Result<Reading, Refusal>
-    requires { at + group_words ≤ length list.now }
-    ensures { answered result ≡ cond (group_fits list.now at) (given (group_at list.now at))
-        (refused 1) }
-{
-    if group_fits(list, at) {
+    if fits(list.len(), at, GROUP_WORDS) && group_fits(list, at) {
         return Ok(read_group(list, at));
     }
     Err(Refusal::Ragged)
@@ -256,29 +235,20 @@ fn check_lamps(list: &[u32]) -> Result<usize, Refusal>
     ensures { answered result ≡ count (placed_lamps list.now) }
 {
     let m = wide(word_or_zero(list, 0));
-    let mut i: usize = 0;
     let mut cursor = Cursor::new();
     let mut placed = true;
-    while i < m {
-        match cursor.next(list) {
-            Ok(reading) => {
-                let lamp = reading.lamp;
-                placed = still_placed(placed, lamp_handle(lamp), i);
-                cursor = reading.next;
-            }
-            Err(why) => {
-                return Err(why);
-            }
-        }
-        i += 1;
+    for i in 0..m {
+        let reading = cursor.next(list)?;
+        placed = still_placed(placed, reading.lamp.handle(), i);
+        cursor = reading.next;
     }
-    if cursor.at == list.len() {
-        if placed {
-            return Ok(m);
-        }
+    if cursor.at != list.len() {
+        return Err(Refusal::Ragged);
+    }
+    if !placed {
         return Err(Refusal::Misplaced);
     }
-    Err(Refusal::Ragged)
+    Ok(m)
 }
 
 // Whether every handle so far is its place, this one too.

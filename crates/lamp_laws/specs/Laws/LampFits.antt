@@ -1,11 +1,12 @@
 -- The bounds of every lamp that is read from a list are of floats of the format, so that a block has each record whole.
 -- Assumes nothing.
-use Rattle.std.specs.Prelude.{ℕ, zero, suc, ◌+◌, ◌/◌, ◌≡◌, Bool, ◌&&◌, List, [], ◌∷◌, T, leb, eqb, Float, length, get_or}
+use Rattle.std.specs.Prelude.{ℕ, zero, suc, ◌+◌, ◌/◌, Bool, ◌&&◌, T, leb, eqb, Float}
+use Rattle.std.specs.Prelude.{List, [], ◌∷◌, length, get_or}
 use Rattle.std.specs.Float.{binary32}
 use Rattle.std.specs.Float.Ieee.{fits}
 use Rattle.std.specs.Float.Ieee.Fits.{mul-fits, cond-fits}
 use Rattle.ieee.specs.Laws.FormatLaws.{single-fits}
-use Rattle.ieee.specs.Single.{◌⊗◌, ◌⊖◌}
+use Rattle.ieee.specs.Single.{◌⊖◌}
 use Rattle.trig.specs.Trig.{cos, acos}
 use Rattle.trig.specs.Laws.TrigLaws.{cos-fits}
 use Rattle.words.specs.Answers.{Answer, given, refused}
@@ -19,7 +20,7 @@ use Rattle.light_bounds.specs.Vecmath.{finite_vec}
 use Rattle.light_bounds.specs.declared.light_bounds.LightBounds.{LightBounds}
 use Rattle.light_bounds.specs.declared.vecmath.Vec3.{Vec3}
 use Rattle.lamps.specs.BuildBounds.{all_bounds}
-use Rattle.lamps.specs.LampBounds.{nearly_one, point_box, point_phi, group_phi, validate_emission}
+use Rattle.lamps.specs.LampBounds.{nearly_one, point_box, point_phi, validate_emission}
 use Rattle.lamps.specs.LampBounds.{checked, point_bounds, too_narrow, falloff, spot_record}
 use Rattle.lamps.specs.LampBounds.{spot_bounds, no_area, triangle_bounds, triangle_at, faced_record}
 use Rattle.lamps.specs.LampBounds.{triangle_record, join_next, union_from, group_bounds, light_bounds_for_input}
@@ -38,7 +39,6 @@ LampOf (Spot h p d i s o e) = VecFits p × T (fits binary32 o)
 LampOf (AreaGroup h e s side) = Unit
 
 pub lamp-read : (ws : List ℕ) (at : ℕ) → Gives (λ (r : Reading). LampOf r.lamp) (lamp_at ws at)
-unfolding lamp_at
 lamp-read ws at =
     let kind = kind_of (get_or ws at 0) in
     let end = length ws in
@@ -58,7 +58,6 @@ point-box-fits : (p : Vec3) → VecFits p → BoxFits (point_box p)
 point-box-fits p h = record { min = h; max = h }
 
 point-phi-fits : (intensity scale : Float) → T (fits binary32 (point_phi intensity scale))
-unfolding point_phi
 point-phi-fits intensity scale = mul-fits binary32 _ intensity
 
 point-fits : (p : Vec3) (intensity scale : Float) → VecFits p → Gives RecordFits (point_bounds p intensity scale)
@@ -75,13 +74,12 @@ point-fits p intensity scale h =
     })))
 
 falloff-fits : (cos_o cos_end : Float) → T (fits binary32 (falloff cos_o cos_end))
-unfolding falloff
 falloff-fits cos_o cos_end =
     let e = cos (acos cos_end ⊖ acos cos_o) in
     cond-fits binary32 (too_narrow e cos_o cos_end) nearly_one e (single-fits 0x3f7f_be77) (cos-fits _)
 
-spot-fits : (p d : Vec3) (intensity scale cos_o cos_end : Float) → VecFits p → T (fits binary32 cos_o) → Gives RecordFits
-    (spot_bounds p d intensity scale cos_o cos_end)
+spot-fits : (p d : Vec3) (intensity scale cos_o cos_end : Float) → VecFits p → T (fits binary32 cos_o) →
+    Gives RecordFits (spot_bounds p d intensity scale cos_o cos_end)
 unfolding spot_bounds spot_record
 spot-fits p d intensity scale cos_o cos_end h o =
     gives_then (gives-any (validate_emission intensity scale))
@@ -98,7 +96,6 @@ spot-fits p d intensity scale cos_o cos_end h o =
     gives_none)
 
 triangle-box-fits : (ts : List ℕ) (i : ℕ) → BoxFits (triangle_bounds (triangle_at ts i))
-unfolding triangle_bounds triangle_at
 triangle-box-fits ts i =
     let a = vec-fits-read ts i in
     let b = vec-fits-read ts (i + 3) in
@@ -107,7 +104,7 @@ triangle-box-fits ts i =
 
 triangle-fits : (emission scale : Float) (side : Bool) (ts : List ℕ) (i : ℕ) →
     Gives RecordFits (triangle_record emission scale side (triangle_at ts i))
-unfolding triangle_record faced_record group_phi
+unfolding triangle_record faced_record
 triangle-fits emission scale side ts i =
     let t = triangle_at ts i in
     gives_then (gives-any (box_check (triangle_bounds t)))
@@ -148,7 +145,6 @@ group-fits emission scale side ts =
     (λ _ _. union-fits emission scale side ts 0 (length ts / triangle_words) (refused 9) gives_none)
 
 pub lamp-fits : (lamp : Lamp) (ts : List ℕ) → LampOf lamp → Gives RecordFits (light_bounds_for_input lamp ts)
-unfolding light_bounds_for_input
 lamp-fits (Point h p i s) ts k = point-fits p i s k
 lamp-fits (Spot h p d i s o e) ts k = spot-fits p d i s o e k.0 k.1
 lamp-fits (AreaGroup h e s side) ts k = group-fits e s side ts

@@ -2,7 +2,8 @@
 -- in order, record i with handle i, and only such a list does (`accepted-list`, `list_accepted`, `block_at`). An
 -- accepted block passes its own reading, and each record is found as it was (`block-checked`, `block_read`); of any
 -- block whose layout passes, each record below its count is found (`record-found`). Assumes nothing.
-use Rattle.std.specs.Prelude.{ℕ, zero, suc, ◌+◌, ◌*◌, ◌≤◌, ◌<◌, ◌≡◌, refl, Bool, true, false, cond, ◌&&◌, List, [], ◌∷◌, ◌++◌, T, leb, eqb, length, get_or, drop}
+use Rattle.std.specs.Prelude.{ℕ, zero, suc, ◌+◌, ◌*◌, ◌≤◌, ◌<◌, ◌≡◌, refl, Bool, true, false, cond, ◌&&◌, T, leb, eqb}
+use Rattle.std.specs.Prelude.{List, [], ◌∷◌, ◌++◌, length, get_or, drop}
 use Rattle.std.proofs.Common.{ap, subst, sym, ◌∙◌, arith, le-leb, le-ltb, leb-true, eq-eqb, eqb-true, get_or-drop}
 use Rattle.words.specs.Answers.{given, refused, ◌then◌}
 use Rattle.words.specs.Limits.{max_lamps, max_words, crowded}
@@ -17,7 +18,8 @@ use Rattle.light_bounds.specs.Laws.SideLaws.{side-known}
 use Rattle.light_bounds.specs.declared.light_bounds.LightBounds.{LightBounds}
 use Rattle.light_rows.specs.Laws.RecordPlaces.{record_at-found}
 use Rattle.light_rows.specs.Block.{bounds_words, bounds_row, block_words, pack_exhaustive_bounds, handle_place}
-use Rattle.light_rows.specs.Block.{record_place, side_at, handle_at, block_layout, block_handles, block_check, block_record}
+use Rattle.light_rows.specs.Block.{record_place, side_at, handle_at}
+use Rattle.light_rows.specs.Block.{block_layout, block_handles, block_check, block_record}
 use Rattle.lamps.specs.BuildBounds.{bounds_of, all_bounds, build_light_bounds}
 use Rattle.lamps.specs.LampList.{lamp_list}
 use Rattle.lamps.specs.declared.lamp_list.Reading.{Reading}
@@ -177,7 +179,8 @@ accepted-block-checked ws room bs e = block-checked bs (built-few ws room bs e)
 -- ---- records found
 
 -- what a layout that passes says
-layout_is : (ws : List ℕ) (m : ℕ) → block_layout ws ≡ given m → (length ws ≡ block_words m) × (below (side_at ws) m ≡ true)
+layout_is : (ws : List ℕ) (m : ℕ) → block_layout ws ≡ given m
+    → (length ws ≡ block_words m) × (below (side_at ws) m ≡ true)
 unfolding block_layout
 layout_is ws m e = uncrowded (crowded ws) e
   where
@@ -203,7 +206,8 @@ layout_is ws m e = uncrowded (crowded ws) e
         (given (get_or ws 0 0)) (refused 1)) ≡ given m
         → (length ws ≡ block_words m) × (below (side_at ws) m ≡ true)
     uncrowded true e = absurd (not-both e refl)
-    uncrowded false e = laid (eqb (length ws) (block_words (get_or ws 0 0))) (below (side_at ws) (get_or ws 0 0)) refl refl e
+    uncrowded false e =
+        laid (eqb (length ws) (block_words (get_or ws 0 0))) (below (side_at ws) (get_or ws 0 0)) refl refl e
 
 -- of any block whose layout passes, each record below its count is found
 pub record-found : (ws : List ℕ) (m i : ℕ) → block_layout ws ≡ given m → i < m →

@@ -1,26 +1,18 @@
 -- `lamps::build_bounds::next_bounds`: the lamp here, then its bounds. Assumes nothing.
+use Rattle.std.proofs.Common.{rules}
 use Rattle.words.specs.Answers.{◌then◌}
 use Rattle.lamps.specs.AsCoded.Passed.{next_bounds}
 use Rattle.lamps.proofs.build_bounds.next_bounds.Goals as goal
 
-pub returns-in-Bounds : goal.returns-in-Bounds
+pub returns-in_err-reading : goal.returns-in_err-reading
 unfolding next_bounds ◌then◌
-returns-in-Bounds c = rw (← c.next.ensures)
-    (rw (
-      c.in-Read.is,
-      ← c.triangles-triangles.ensures,
-    )
-    (rw (← c.light_bounds_for_input.ensures, c.in-Bounds.is)))
+returns-in_err-reading c = rw (← c.in_err-reading.ensures) (search rules)
 
-pub returns-in-Refused-light_bounds_for_input : goal.returns-in-Refused-light_bounds_for_input
+pub returns-in_err-bounds : goal.returns-in_err-bounds
 unfolding next_bounds ◌then◌
-returns-in-Refused-light_bounds_for_input c = rw (← c.next.ensures)
-    (rw (
-      c.in-Read.is,
-      ← c.triangles-triangles.ensures,
-    )
-    (rw (← c.light_bounds_for_input.ensures, c.in-Refused-light_bounds_for_input.is)))
+returns-in_err-bounds c = rw (← c.in_ok-reading.ensures, ← c.triangles.ensures, ← c.in_err-bounds.ensures)
+    (search rules)
 
-pub returns-in-Refused : goal.returns-in-Refused
+pub returns : goal.returns
 unfolding next_bounds ◌then◌
-returns-in-Refused c = rw (← c.next.ensures, c.in-Refused.is)
+returns c = rw (← c.in_ok-reading.ensures, ← c.triangles.ensures, ← c.in_ok-bounds.ensures)

@@ -5,7 +5,3 @@ use Rattle.lamps.proofs.lamp_bounds.too_narrow.Goals as goal
 pub returns-then-cos_theta_e : goal.returns-then-cos_theta_e
 unfolding of_bits ne
 returns-then-cos_theta_e c = rw c.if-cos_theta_e.true
-
-pub returns-else-cos_theta_e : goal.returns-else-cos_theta_e
-unfolding of_bits
-returns-else-cos_theta_e c = rw c.if-cos_theta_e.false

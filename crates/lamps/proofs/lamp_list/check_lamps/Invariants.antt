@@ -1,6 +1,5 @@
 -- `lamps::lamp_list::check_lamps`: the lamps before `i` are read, and `placed` says whether their handles are their
 -- places. Assumes nothing.
-use Prim.Native.Nat.{◌-◌, ◌<◌}
 use mathlib.Core.Path.{◌≡◌}
 use mathlib.Core.List.{List}
 use lib.ListN.{get_or}
@@ -10,8 +9,5 @@ use Rattle.lamps.proofs.WalkLaws.{LampsRead}
 use Rattle.lamps.proofs.lamp_list.check_lamps.Given as goal
 
 abbrev pub invariant-loop-i : goal.invariant-loop-i
-invariant-loop-i l = (l.m ≡ get_or l.list 0 0) × (l.m < 4294967296) ×
+invariant-loop-i l = (l.m ≡ get_or l.list 0 0) ×
     ((done : List Reading) × LampsRead l.list l.i l.cursor.at done × (l.placed ≡ in_place 0 done))
-
-abbrev pub decreases-loop-i : goal.decreases-loop-i
-decreases-loop-i l = l.m - l.i

@@ -1,20 +1,24 @@
 -- `lamps::lamp_list::Reading::triangles`: a stretch that is turned round or passes the end is empty. Assumes nothing.
-use borrow.Author.Tests.{le-leb, lt-leb}
-use Rattle.lamps.specs.LampList.{triangles_of}
+use Prim.Native.Nat.{ℕ, ◌-◌}
+use denote.Ref.{Bor}
+use mathlib.Core.Path.{◌≡◌, refl}
+use mathlib.Core.Bool.{cond, ◌&&◌}
+use mathlib.Core.List.{List, []}
+use native.Mathlib.Omega.{arith}
+use lib.Dec.{leb}
+use lib.ListN.{length, take, drop}
+use Rattle.std.proofs.lemmas.Bool.Decides.{nat_tests}
+use Rattle.std.specs.Option.{unwrap_or}
+use Rattle.std.specs.Prelude.{Option, Some, None}
+use Rattle.std.specs.Slice.{IsGetRangeResult}
 use Rattle.lamps.proofs.lamp_list.Reading.triangles.Goals as goal
-use Rattle.lamps.proofs.lamp_list.Reading.triangles.Goals.{
-  then-to-from-via-then-to-from,
-  then-to-from-via-else-to-from+then-list-to,
-}
 
-pub returns-then-to-from : goal.returns-then-to-from
-unfolding triangles_of
-returns-then-to-from c = elim c.then-to-from.branch [
-  | then-to-from-via-then-to-from w ↦ rw (lt-leb _ _ w.if-to-from.true)
-  | then-to-from-via-else-to-from+then-list-to w ↦
-      rw (le-leb _ _ w.if-to-from.false, lt-leb _ _ w.if-list-to.true)
-]
+stretch : (ws : List ℕ) (i j : ℕ) (o : Option (Bor (List ℕ))) (none : Bor (List ℕ)) → none.now ≡ [] →
+    IsGetRangeResult ws i j o
+    → (unwrap_or o none).now ≡ cond (leb i j && leb j (length ws)) (take (j - i) (drop i ws)) []
+stretch ws i j None none e h = grind (arith, nat_tests)
+stretch ws i j (Some x) none e h = grind (arith, nat_tests)
 
 pub returns : goal.returns
-unfolding triangles_of
-returns c = rw (le-leb _ _ c.if-to-from.false, le-leb _ _ c.if-list-to.false)
+returns c = let r = c.args.self in
+    rw c.unwrap_or.ensures (stretch c.args.list.now r.triangles r.next.at c.get.result _ refl c.get.ensures.lookup)
