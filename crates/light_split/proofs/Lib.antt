@@ -1,4 +1,3 @@
 pub mod BucketLaws
-pub mod LightLaws
 pub mod PartitionLaws
 pub mod SplitLaws

@@ -4,29 +4,27 @@ use Prim.Native.Nat.{ℕ, zero, suc, ◌+◌, ◌-◌, ◌≤◌, ◌<◌}
 use mathlib.Core.Path.{◌≡◌, refl, ap, subst, sym, ◌∙◌}
 use mathlib.Core.Bool.{Bool, true, false, cond, ◌&&◌, and-false}
 use mathlib.Core.List.{List, [], ◌∷◌, ◌++◌}
-use mathlib.Core.Option.{none, some}
+use Rattle.std.specs.Prelude.{None, Some}
+use Rattle.std.specs.Option.{is_some}
 use native.Mathlib.Numerals.{add-one}
 use native.Mathlib.Omega.{arith}
 use lib.Dec.{T}
-use lib.Ieee.{Float, lt}
-use lib.ListN.{length, get_or, take, drop}
+use lib.Ieee.{Float, lt, eq}
+use lib.ListN.{length, get_or, take, drop, length-drop}
+use borrow.Rule.Slice.PartMut.{mid_of}
 use lib.Seq.{take-suc, take_all, drop-cons}
 use Rattle.ieee.specs.Laws.OrderLaws.{lt→le, not_le_of_lt}
 use Rattle.ieee.specs.Single.{◌⊕◌, zerof}
 use Rattle.words.specs.Answers.{Answer, given, refused, ◌then◌}
 use Rattle.words.proofs.AnswerLaws.{then_assoc}
-use Rattle.light_bounds.specs.Bounds.{box_union}
 use Rattle.light_bounds.specs.declared.bounds.Bounds3.{Bounds3}
 use Rattle.light_bounds.specs.declared.light_bounds.LightBounds.{LightBounds}
-use Rattle.light_split.specs.Lights.{light_of, centroid_ends}
-use Rattle.words.specs.Lists.{folded}
+use Rattle.light_split.specs.Lights.{component, centroid_ends}
 use Rattle.light_split.specs.Buckets.{Bucket, join_to, union_range, union_bucket_range, side_cost, cut_cost}
-use Rattle.light_split.specs.AsCoded.Slots.{slot_list}
+use Rattle.light_split.specs.Buckets.{fill_buckets, empty_buckets}
 use Rattle.light_split.specs.Split.{split, combined_bounds, no_best, better, cuts, axis, choose_split}
-use Rattle.light_split.specs.declared.buckets.Slot.{Slot}
 use Rattle.light_split.specs.declared.split.Best.{Best}
 use Rattle.light_split.specs.declared.split.Split.{Split}
-use Rattle.light_split.proofs.BucketLaws.{slots_length, slots_at, blank}
 
 -- ---- buckets joined
 
@@ -40,37 +38,50 @@ pub union_range-append : (b : Bucket) (xs ys : List Bucket) →
     union_range b (xs ++ ys) ≡ union_range b xs then λ (r : Bucket). union_range r ys
 unfolding union_range ◌then◌
 union_range-append b [] ys = refl
-union_range-append b (none ∷ xs) ys = union_range-append b xs ys
-union_range-append b (some a ∷ xs) ys =
+union_range-append b (None ∷ xs) ys = union_range-append b xs ys
+union_range-append b (Some a ∷ xs) ys =
     ap (λ (next : Bucket → Answer Bucket). join_to b a then next) (λ i r. union_range-append r xs ys i)
     ∙ sym (then_assoc (join_to b a) (λ (r : Bucket). union_range r xs) (λ (r : Bucket). union_range r ys))
 
 module _ (bs : List Bucket) where
   -- one bucket more at the end
   pub union_range-take : (n : ℕ) → n < length bs
-      → union_range none (take (suc n) bs) ≡
-      union_range none (take n bs) then λ (l : Bucket). union_range l (get_or bs n none ∷ [])
+      → union_range None (take (suc n) bs) ≡
+      union_range None (take n bs) then λ (l : Bucket). union_range l (get_or bs n None ∷ [])
   union_range-take n h =
-      ap (union_range none) (take-suc bs n none h) ∙ union_range-append none (take n bs) (get_or bs n none ∷ [])
+      ap (union_range None) (take-suc bs n None h) ∙ union_range-append None (take n bs) (get_or bs n None ∷ [])
 
   -- the left side grows by one bucket
   -- by an empty one
-  pub left-empty : (n : ℕ) → n < length bs → get_or bs n none ≡ none →
-      union_range none (take (suc n) bs) ≡ union_range none (take n bs)
+  pub left-empty : (n : ℕ) → n < length bs → get_or bs n None ≡ None →
+      union_range None (take (suc n) bs) ≡ union_range None (take n bs)
   unfolding union_range
-  left-empty n h e = union_range-take n h ∙ rw e (then_same (union_range none (take n bs)))
+  left-empty n h e = union_range-take n h ∙ rw e (then_same (union_range None (take n bs)))
 
   -- by a filled one
-  pub left-filled : (n : ℕ) (l : Bucket) (b : LightBounds) → n < length bs → get_or bs n none ≡ some b →
-      union_range none (take n bs) ≡ given l
-      → union_range none (take (suc n) bs) ≡ join_to l b
+  pub left-filled : (n : ℕ) (l : Bucket) (b : LightBounds) → n < length bs → get_or bs n None ≡ Some b →
+      union_range None (take n bs) ≡ given l
+      → union_range None (take (suc n) bs) ≡ join_to l b
   unfolding union_range ◌then◌
   left-filled n l b h e f = union_range-take n h ∙ rw (f, e) (then_same (join_to l b))
 
-  right-empty : (n : ℕ) → n < length bs → get_or bs n none ≡ none →
-      union_range none (drop n bs) ≡ union_range none (drop (suc n) bs)
+  -- the same as the code counts
+  pub joined-some : (n : ℕ) (l : Bucket) (b : LightBounds) → n < length bs → get_or bs n None ≡ Some b →
+      union_range None (take n bs) ≡ given l → union_range None (take (n + 1) bs) ≡ join_to l b
+  joined-some n l b h e f = rw (add-one n) (left-filled n l b h e f)
+
+  pub joined-none : (n : ℕ) → n < length bs → get_or bs n None ≡ None →
+      union_range None (take (n + 1) bs) ≡ union_range None (take n bs)
+  joined-none n h e = rw (add-one n) (left-empty n h e)
+
+  right-empty : (n : ℕ) → n < length bs → get_or bs n None ≡ None →
+      union_range None (drop n bs) ≡ union_range None (drop (suc n) bs)
   unfolding union_range
-  right-empty n h e = rw (drop-cons bs n none h, e)
+  right-empty n h e = rw (drop-cons bs n None h, e)
+
+is_none : (b : Bucket) → is_some b ≡ false → b ≡ None
+is_none None e = refl
+is_none (Some a) e = cc
 
 -- ---- the better of two
 
@@ -95,16 +106,16 @@ better_again b s s' c = go (lt zerof c && lt c b.min_cost) refl
 
 module _ (bs : List Bucket) (parent : Bounds3) (d : ℕ) (twelve : length bs ≡ 12) where
   cut_cost-sides : (n : ℕ) → cut_cost bs parent d n
-      ≡ union_range none (take (suc n) bs) then λ (l : Bucket). union_range none (drop (suc n) bs) then λ (r : Bucket).
+      ≡ union_range None (take (suc n) bs) then λ (l : Bucket). union_range None (drop (suc n) bs) then λ (r : Bucket).
       given (side_cost parent d l ⊕ side_cost parent d r)
   unfolding cut_cost union_bucket_range
   cut_cost-sides n =
-      ap (λ (w : List Bucket). union_range none (take (suc n) bs) then λ (l : Bucket). union_range none (drop (suc n) w)
+      ap (λ (w : List Bucket). union_range None (take (suc n) bs) then λ (l : Bucket). union_range None (drop (suc n) w)
       then λ (r : Bucket).
       given (side_cost parent d l ⊕ side_cost parent d r)) (take_all 12 bs (omega arith))
 
   -- a cut behind an empty bucket has the sides of the cut before it
-  pub cut_cost-empty : (n : ℕ) → n < 11 → get_or bs (suc n) none ≡ none →
+  pub cut_cost-empty : (n : ℕ) → n < 11 → get_or bs (suc n) None ≡ None →
       cut_cost bs parent d (suc n) ≡ cut_cost bs parent d n
   cut_cost-empty n h e =
       rw (
@@ -115,9 +126,16 @@ module _ (bs : List Bucket) (parent : Bounds3) (d : ℕ) (twelve : length bs ≡
             (omega arith) e,
       )
 
+  -- the buckets behind a cut, as the code lends them
+  abbrev behind : ℕ → List Bucket
+  behind n = mid_of (n + 1) (12 - (n + 1)) bs
+
+  behind_all : (n : ℕ) → n < 11 → behind n ≡ drop (suc n) bs
+  behind_all n h = rw (add-one n) (take_all (12 - suc n) (drop (suc n) bs) (omega (arith, length-drop (suc n) bs)))
+
   module _ (b : Best) where
     -- and does not win
-    pub cuts-empty : (n : ℕ) → n < 11 → get_or bs (suc n) none ≡ none →
+    pub cuts-empty : (n : ℕ) → n < 11 → get_or bs (suc n) None ≡ None →
         cuts bs parent d b (suc (suc n)) ≡ cuts bs parent d b (suc n)
     unfolding cuts ◌then◌
     cuts-empty n h e = rw (cut_cost-empty n h e) (go (cuts bs parent d b n) (cut_cost bs parent d n))
@@ -140,92 +158,69 @@ module _ (bs : List Bucket) (parent : Bounds3) (d : ℕ) (twelve : length bs ≡
         go zero = let p : 0 + n ≡ n = omega arith in rw p e
         go (suc i) = let p : suc i + n ≡ suc (i + n) = omega arith in rw (p, go i)
 
--- ---- the loop that takes the cuts, over the slots
-
-module _ (ss : List Slot) (twelve : length ss ≡ 12) where
-  whole : length (slot_list ss) ≡ 12
-  whole = slots_length ss ∙ twelve
-
-  -- the left side with the bucket at hand
-  pub joined-filled : (n : ℕ) (l : Bucket) → n < 11 → (get_or ss n blank).filled ≡ true →
-      union_range none (take n (slot_list ss)) ≡ given l
-      → union_range none (take (n + 1) (slot_list ss)) ≡ join_to l (get_or ss n blank).bounds
-  joined-filled n l h e f =
-      rw (add-one n) (left-filled (slot_list ss) n l (get_or ss n blank).bounds (omega (arith, whole))
-      (slots_at ss n blank (omega arith) ∙ rw e) f)
-
-  pub joined-empty : (n : ℕ) → n < 11 → (get_or ss n blank).filled ≡ false →
-      union_range none (take (n + 1) (slot_list ss)) ≡ union_range none (take n (slot_list ss))
-  joined-empty n h e =
-      rw (add-one n) (left-empty (slot_list ss) n (omega (arith, whole)) (slots_at ss n blank (omega arith) ∙ rw e))
-
-  module _ (parent : Bounds3) (d : ℕ) (b : Best) (n : ℕ) (h : n < 11) (best : Best)
-      (e : cuts (slot_list ss) parent d b n ≡ given best) where
-    -- one cut more
-    pub cut-next : (l r : Bucket) → union_range none (take (n + 1) (slot_list ss)) ≡ given l →
-        union_range none (drop (n + 1) (slot_list ss)) ≡ given r
-        → cuts (slot_list ss) parent d b (n + 1) ≡
+    -- one cut more, of two sides
+    pub cut-next : (n : ℕ) (best : Best) (l r : Bucket) → cuts bs parent d b n ≡ given best →
+        union_range None (take (n + 1) bs) ≡ given l → given r ≡ union_range None (behind n)
+        → n < 11 → cuts bs parent d b (n + 1) ≡
         given (better best (split d n) (side_cost parent d l ⊕ side_cost parent d r))
     unfolding cuts ◌then◌
-    cut-next l r f g =
-        rw (add-one n, e, cut_cost-sides (slot_list ss) parent d whole n, rw (add-one n) at f, rw (add-one n) at g)
+    cut-next n best l r e f g h =
+        rw (add-one n, e, cut_cost-sides n, rw (add-one n) at f, sym (g ∙ ap (union_range None) (behind_all n h)))
 
     -- behind an empty bucket
-    pub cut-empty : 0 < n → (get_or ss n blank).filled ≡ false → cuts (slot_list ss) parent d b (n + 1) ≡ given best
-    cut-empty p f = go n refl
-      where
-        go : (k : ℕ) → k ≡ n → cuts (slot_list ss) parent d b (n + 1) ≡ given best
-        go zero q = absurd (omega arith)
-        go (suc k) q =
-            let z : get_or (slot_list ss) (suc k) none ≡ none = rw q (slots_at ss n blank (omega arith) ∙ rw f) in
-            let same : cuts (slot_list ss) parent d b (suc k) ≡ given best = rw q e in
-            rw (add-one n, ← q, cuts-empty (slot_list ss) parent d whole b k (omega arith) z) same
+    pub cut-empty : (n : ℕ) (best : Best) → cuts bs parent d b n ≡ given best → n < 11 → (n ≡ 0 → ⊥)
+        → is_some (get_or bs n None) ≡ false → cuts bs parent d b (n + 1) ≡ given best
+    cut-empty zero best e h p f = absurd (p refl)
+    cut-empty (suc k) best e h p f = rw (add-one (suc k), cuts-empty k (omega arith) (is_none _ f)) e
 
     -- a side that is lost
-    pub left_lost : (k : ℕ) → union_range none (take (n + 1) (slot_list ss)) ≡ refused k →
-        cuts (slot_list ss) parent d b 11 ≡ refused k
+    pub left_lost : (n k : ℕ) (best : Best) → cuts bs parent d b n ≡ given best
+        → refused k ≡ union_range None (take (n + 1) bs) → n < 11 → refused k ≡ cuts bs parent d b 11
     unfolding cuts ◌then◌
-    left_lost k f =
-        cuts_lost (slot_list ss) parent d whole b (suc n) 11 k
-        (rw (e, cut_cost-sides (slot_list ss) parent d whole n, rw (add-one n) at f)) h
+    left_lost n k best e f h =
+        sym (cuts_lost (suc n) 11 k (rw (e, cut_cost-sides n, rw (add-one n) at (sym f))) h)
 
-    pub right_lost : (l : Bucket) (k : ℕ) → union_range none (take (n + 1) (slot_list ss)) ≡ given l
-        → union_range none (drop (n + 1) (slot_list ss)) ≡ refused k → cuts (slot_list ss) parent d b 11 ≡ refused k
+    pub right_lost : (n k : ℕ) (best : Best) (l : Bucket) → cuts bs parent d b n ≡ given best
+        → union_range None (take (n + 1) bs) ≡ given l → refused k ≡ union_range None (behind n) → n < 11
+        → refused k ≡ cuts bs parent d b 11
     unfolding cuts ◌then◌
-    right_lost l k f g =
-        cuts_lost (slot_list ss) parent d whole b (suc n) 11 k
-        (rw (e, cut_cost-sides (slot_list ss) parent d whole n, rw (add-one n) at f, rw (add-one n) at g)) h
+    right_lost n k best l e f g h =
+        sym (cuts_lost (suc n) 11 k
+        (rw (e, cut_cost-sides n, rw (add-one n) at f, sym (g ∙ ap (union_range None) (behind_all n h)))) h)
 
--- ---- the box of a stretch
+-- ---- the axes
 
-abbrev pub join_box : List ℕ → Bounds3 → ℕ → Bounds3
-join_box ws b h = box_union b (light_of ws h).bounds
+-- what is chosen where n axes are left
+unfoldable pub axes : List ℕ → List ℕ → Bounds3 → Bounds3 → ℕ → Best → Answer Split
+axes ws hs ends parent zero b = given b.best
+axes ws hs ends parent (suc n) b = axis ws hs ends parent (2 - n) b then λ (b : Best). axes ws hs ends parent n b
 
-pub combined-none : (ws hs : List ℕ) → length hs ≡ 0 → combined_bounds ws hs ≡ (light_of ws 0).bounds
-unfolding combined_bounds
-combined-none ws [] e = refl
-combined-none ws (h ∷ hs) e = absurd (omega arith)
+pub axes_all : (ws hs : List ℕ) →
+    axes ws hs (centroid_ends ws hs) (combined_bounds ws hs) 3 no_best ≡ choose_split ws hs
+unfolding axes choose_split
+axes_all ws hs = refl
 
-pub combined-first : (ws hs : List ℕ) → 0 < length hs →
-    combined_bounds ws hs ≡ folded (join_box ws) (light_of ws (get_or hs 0 0)).bounds (drop 1 hs)
-unfolding combined_bounds
-combined-first ws [] l = absurd (omega arith)
-combined-first ws (h ∷ hs) l = refl
+axes-next : (ws hs : List ℕ) (ends parent : Bounds3) (d : ℕ) (b : Best) → d < 3
+    → axes ws hs ends parent (3 - d) b
+    ≡ axis ws hs ends parent d b then λ (b : Best). axes ws hs ends parent (3 - (d + 1)) b
+unfolding axes
+axes-next ws hs ends parent d b h =
+    let k = 3 - (d + 1) in
+    let e : 3 - d ≡ suc k = omega arith in
+    let f : 2 - k ≡ d = omega arith in
+    rw (e, f)
 
--- ---- the three axes
+-- an axis is left out, or its cuts are taken
+pub axis-out : (ws hs : List ℕ) (ends parent : Bounds3) (d : ℕ) (b : Best) → d < 3 →
+    eq (component d ends.min) (component d ends.max) ≡ true
+    → axes ws hs ends parent (3 - d) b ≡ axes ws hs ends parent (3 - (d + 1)) b
+unfolding axis ◌then◌
+axis-out ws hs ends parent d b h e = axes-next ws hs ends parent d b h ∙ rw e
 
-then-last : {A B : Type 0} (x : Answer A) (f g : A → Answer A) (h : A → Answer B)
-    → x then (λ (a : A). f a then λ (b : A). g b then h) ≡ (x then λ (a : A). f a then λ (b : A). g b) then h
-unfolding ◌then◌
-then-last (given a) f g h = sym (then_assoc (f a) g h)
-then-last (refused k) f g h = refl
-
-pub choose_axes : (ws hs : List ℕ) → choose_split ws hs
-    ≡ (axis ws hs (centroid_ends ws hs) (combined_bounds ws hs) 0 no_best then
-    λ (b : Best). axis ws hs (centroid_ends ws hs) (combined_bounds ws hs) 1 b then
-    λ (b : Best). axis ws hs (centroid_ends ws hs) (combined_bounds ws hs) 2 b) then λ (b : Best). given b.best
-unfolding choose_split
-choose_axes ws hs =
-    then-last (axis ws hs (centroid_ends ws hs) (combined_bounds ws hs) 0 no_best)
-    (axis ws hs (centroid_ends ws hs) (combined_bounds ws hs) 1)
-    (axis ws hs (centroid_ends ws hs) (combined_bounds ws hs) 2) (λ (b : Best). given b.best)
+pub axis-in : (ws hs : List ℕ) (ends parent : Bounds3) (d : ℕ) (b : Best) → d < 3 →
+    eq (component d ends.min) (component d ends.max) ≡ false
+    → axes ws hs ends parent (3 - d) b
+    ≡ (fill_buckets ws ends d empty_buckets hs then λ (bs : List Bucket). cuts bs parent d b 11) then λ (b : Best).
+    axes ws hs ends parent (3 - (d + 1)) b
+unfolding axis
+axis-in ws hs ends parent d b h e = axes-next ws hs ends parent d b h ∙ rw e

@@ -2,7 +2,7 @@
 -- and the cost of a cut. Where the Rust's `unwrap` of a union panics, the answer is refusal 10, whichever cut the union
 -- belongs to. Definitions only. Assumes nothing.
 use Rattle.std.specs.Prelude.{ℕ, suc, ◌-◌, cond, List, [], ◌∷◌, Float, get_or, set, take, drop, replicate}
-use Rattle.std.proofs.Math.Option.{Option, none, some}
+use Rattle.std.specs.Prelude.{Option, None, Some}
 use Rattle.std.specs.Float.Ieee.{eq}
 use Rattle.ieee.specs.Choose.{fmin, fmax}
 use Rattle.ieee.specs.Single.{◌⊕◌, ◌⊖◌, ◌⊗◌, ◌⊘◌, zerof, onef, twof, pi}
@@ -22,28 +22,28 @@ Bucket = Option LightBounds
 
 -- `Some(existing) => existing.union(bounds).unwrap(), None => bounds`
 unfoldable pub join_to : Bucket → LightBounds → Answer Bucket
-join_to none b = given (some b)
-join_to (some a) b = union a b then λ (r : LightBounds). given (some r)
+join_to None b = given (Some b)
+join_to (Some a) b = union a b then λ (r : LightBounds). given (Some r)
 
 -- each handle's record into the bucket of its centroid, in the stretch's order
 unfoldable pub fill_buckets : List ℕ → Bounds3 → ℕ → List Bucket → List ℕ → Answer (List Bucket)
 fill_buckets ws ends d bs [] = given bs
 fill_buckets ws ends d bs (h ∷ hs) =
     let k = bucket_of ws ends d h in
-    join_to (get_or bs k none) (light_of ws h) then λ (b : Bucket). fill_buckets ws ends d (set bs k b) hs
+    join_to (get_or bs k None) (light_of ws h) then λ (b : Bucket). fill_buckets ws ends d (set bs k b) hs
 
 abbrev pub empty_buckets : List Bucket
-empty_buckets = replicate n_buckets none
+empty_buckets = replicate n_buckets None
 
 -- buckets joined from left to right, the empty ones left out
 unfoldable pub union_range : Bucket → List Bucket → Answer Bucket
 union_range result [] = given result
-union_range result (none ∷ bs) = union_range result bs
-union_range result (some b ∷ bs) = join_to result b then λ (r : Bucket). union_range r bs
+union_range result (None ∷ bs) = union_range result bs
+union_range result (Some b ∷ bs) = join_to result b then λ (r : Bucket). union_range r bs
 
 -- `union_bucket_range`, both ends within
 unfoldable pub union_bucket_range : List Bucket → ℕ → ℕ → Answer Bucket
-union_bucket_range bs start end = union_range none (drop start (take (suc end) bs))
+union_bucket_range bs start end = union_range None (drop start (take (suc end) bs))
 
 -- ---- the cost
 
@@ -67,8 +67,8 @@ evaluate_cost b parent d =
     (b.phi ⊗ m_omega b.cos_theta_o b.cos_theta_e ⊗ kr diag d ⊗ surface_area b.bounds)
 
 unfoldable pub side_cost : Bounds3 → ℕ → Bucket → Float
-side_cost parent d none = zerof
-side_cost parent d (some b) = evaluate_cost b parent d
+side_cost parent d None = zerof
+side_cost parent d (Some b) = evaluate_cost b parent d
 
 -- of the cut behind a bucket
 unfoldable pub cut_cost : List Bucket → Bounds3 → ℕ → ℕ → Answer Float

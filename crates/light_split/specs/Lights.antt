@@ -1,9 +1,8 @@
 -- The records that a stretch of handles names, as `choose_split` and `partition_handles` of `light_bvh.rs` read them: a
 -- stretch is a list of rows of a block. A row past the block's end is read as zeros. Definitions only. Assumes nothing.
-use Rattle.std.specs.Prelude.{ℕ, zero, suc, ◌-◌, min, true, false, cond, List, Float}
+use Rattle.std.specs.Prelude.{ℕ, zero, suc, ◌-◌, min, true, false, cond, List, Float, fold}
 use Rattle.std.specs.Float.{inf}
 use Rattle.std.specs.Float.Ieee.{eq}
-use Rattle.words.specs.Lists.{folded}
 use Rattle.ieee.specs.Single.{◌⊖◌, ◌⊗◌, ◌⊘◌, single}
 use Rattle.ieee.specs.Whole.{to_usize}
 use Rattle.light_bounds.specs.Bounds.{box_union, centroid}
@@ -35,7 +34,7 @@ abbrev pub no_ends : Bounds3
 no_ends = record { min = vec (inf false) (inf false) (inf false); max = vec (inf true) (inf true) (inf true) }
 
 unfoldable pub centroid_ends : List ℕ → List ℕ → Bounds3
-centroid_ends ws hs = folded (widen ws) no_ends hs
+centroid_ends ws hs = fold (widen ws) no_ends hs
 
 -- `N_BUCKETS`, and as a float
 abbrev pub n_buckets : ℕ

@@ -1,6 +1,6 @@
 -- `choose_split` of `light_bvh.rs`: of all eleven cuts of every axis whose centroids differ, the first of the least
 -- cost above 0; without one, axis 0 behind bucket 5. Definitions only. Assumes nothing.
-use Rattle.std.specs.Prelude.{ℕ, zero, suc, ◌-◌, ◌/◌, false, cond, ◌&&◌, List, [], ◌∷◌, Float}
+use Rattle.std.specs.Prelude.{ℕ, zero, suc, ◌-◌, ◌/◌, false, cond, ◌&&◌, List, [], ◌∷◌, Float, fold}
 use Rattle.std.specs.Float.{inf}
 use Rattle.std.specs.Float.Ieee.{lt, eq}
 use Rattle.ieee.specs.Single.{zerof}
@@ -8,7 +8,6 @@ use Rattle.words.specs.Answers.{Answer, given, refused, ◌then◌}
 use Rattle.light_bounds.specs.Bounds.{box_union}
 use Rattle.light_bounds.specs.declared.bounds.Bounds3.{Bounds3}
 use Rattle.light_split.specs.Lights.{light_of, component, centroid_ends, n_buckets}
-use Rattle.words.specs.Lists.{folded}
 use Rattle.light_split.specs.Buckets.{Bucket, fill_buckets, empty_buckets, cut_cost}
 use Rattle.light_split.specs.declared.split.Split.{Split}
 use Rattle.light_split.specs.declared.split.Best.{Best}
@@ -20,7 +19,7 @@ split d k = record { dimension = d; bucket = k }
 unfoldable pub combined_bounds : List ℕ → List ℕ → Bounds3
 combined_bounds ws [] = (light_of ws 0).bounds
 combined_bounds ws (h ∷ hs) =
-    folded (λ (b : Bounds3) (h : ℕ). box_union b (light_of ws h).bounds) (light_of ws h).bounds hs
+    fold (λ (b : Bounds3) (h : ℕ). box_union b (light_of ws h).bounds) (light_of ws h).bounds hs
 
 -- `min_cost` and `best`; where no cut wins, `best` is the default from the start
 abbrev pub no_best : Best

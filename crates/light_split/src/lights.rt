@@ -1,6 +1,6 @@
 // The records that a stretch of handles names (specs/Lights.antt).
 ghost use Rattle.std.specs.Prelude.{◌≡◌, ◌<◌};
-ghost use Rattle.light_split.specs.Lights.{component as component_of, widen as widen_of, centroid_ends};
+ghost use Rattle.light_split.specs.Lights.{component as component_of, no_ends, widen as widen_of, centroid_ends};
 ghost use Rattle.light_split.specs.Lights.{bucket_index, bucket_of, n_buckets};
 
 use floats::whole::to_usize;
@@ -12,16 +12,39 @@ use light_rows::block::light_box;
 pub const N_BUCKETS: usize = 12;
 
 // A vector's figure along an axis.
+#[tactic(auto, unfolding(crate::specs::Lights::component))]
 pub fn component(v: Vec3, dimension: usize) -> f32
     ensures { result ≡ component_of dimension v }
 {
-    if dimension == 0 {
-        return v.x;
+    match dimension {
+        0 => v.x,
+        1 => v.y,
+        _ => v.z,
     }
-    if dimension == 1 { v.y } else { v.z }
+}
+
+// The box around no centroid.
+fn no_ends() -> Bounds3
+    ensures { result ≡ no_ends }
+{
+    let above = Vec3 {
+        x: f32::INFINITY,
+        y: f32::INFINITY,
+        z: f32::INFINITY,
+    };
+    let under = Vec3 {
+        x: f32::NEG_INFINITY,
+        y: f32::NEG_INFINITY,
+        z: f32::NEG_INFINITY,
+    };
+    Bounds3 {
+        min: above,
+        max: under,
+    }
 }
 
 // The box with one more centroid.
+#[tactic(auto, unfolding(crate::specs::Lights::widen))]
 fn widen(block: &[u32], b: Bounds3, handle: u32) -> Bounds3
     ensures { result ≡ widen_of block.now b handle }
 {
@@ -30,46 +53,26 @@ fn widen(block: &[u32], b: Bounds3, handle: u32) -> Bounds3
 }
 
 // The least and the greatest of the stretch's centroids, on each axis.
+#[tactic(auto, unfolding(crate::specs::Lights::centroid_ends))]
 pub fn centroid_ends(block: &[u32], handles: &[u32]) -> Bounds3
     ensures { result ≡ centroid_ends block.now handles.now }
 {
-    let above = Vec3 {
-        x: 1.0 / 0.0,
-        y: 1.0 / 0.0,
-        z: 1.0 / 0.0,
-    };
-    let under = Vec3 {
-        x: -1.0 / 0.0,
-        y: -1.0 / 0.0,
-        z: -1.0 / 0.0,
-    };
-    let mut ends = Bounds3 {
-        min: above,
-        max: under,
-    };
-    let mut i: usize = 0;
-    while i < handles.len() {
-        ends = widen(block, ends, handles[i]);
-        i += 1;
-    }
-    ends
+    handles.iter().fold(no_ends(), |ends, handle| widen(block, ends, *handle))
 }
 
+#[tactic(auto, unfolding(crate::specs::Lights::bucket_index))]
 fn bucket_index(value: f32, min: f32, max: f32) -> usize
-    ensures { result ≡ bucket_index value min max }
+    ensures value { result ≡ bucket_index value min max }
+    ensures upper_bound { result < n_buckets }
 {
     if min == max {
         return 0;
     }
-    let bucket = to_usize((value - min) / (max - min) * 12.0);
-    if bucket < N_BUCKETS {
-        bucket
-    } else {
-        N_BUCKETS - 1
-    }
+    to_usize((value - min) / (max - min) * 12.0).min(N_BUCKETS - 1)
 }
 
 // The bucket of a handle's centroid between the ends of an axis.
+#[tactic(auto, unfolding(crate::specs::Lights::bucket_of))]
 pub fn bucket_of(block: &[u32], ends: Bounds3, dimension: usize, handle: u32) -> usize
     ensures value { result ≡ bucket_of block.now ends dimension handle }
     ensures upper_bound { result < n_buckets }

@@ -11,6 +11,7 @@ use super::split::Split;
 use light_bounds::bounds::Bounds3;
 use words::refusals::Refusal;
 
+#[tactic(auto, unfolding(crate::specs::Partition::goes_left))]
 fn goes_left(block: &[u32], ends: Bounds3, split: Split, handle: u32) -> bool
     ensures { result ≡ goes_left block.now ends split handle }
 {
@@ -29,8 +30,7 @@ fn part(block: &[u32], ends: Bounds3, split: Split, handles: &mut [u32], work: &
 {
     let mut left: usize = 0;
     let mut right: usize = 0;
-    let mut i: usize = 0;
-    while i < handles.len() {
+    for i in 0..handles.len() {
         let handle = handles[i];
         if goes_left(block, ends, split, handle) {
             handles[left] = handle;
@@ -39,23 +39,8 @@ fn part(block: &[u32], ends: Bounds3, split: Split, handles: &mut [u32], work: &
             work[right] = handle;
             right += 1;
         }
-        i += 1;
     }
     left
-}
-
-// Writes the first words of the work behind the first `left` handles.
-fn put_behind(handles: &mut [u32], left: usize, work: &[u32])
-    requires left_in_bounds { left ≤ length handles.old }
-    requires handles_in_bounds { length handles.old ≤ length work.now + left }
-    ensures { handles.new ≡ take left handles.old ++
-        take (length handles.old - left) work.now }
-{
-    let mut i = left;
-    while i < handles.len() {
-        handles[i] = work[i - left];
-        i += 1;
-    }
 }
 
 // Parts the stretch: its left half comes first, and the answer is how many handles that has. The work, at least as long
@@ -79,7 +64,7 @@ pub fn partition_handles(
     }
     let ends = centroid_ends(block, handles);
     let left = part(block, ends, split, handles, work);
-    put_behind(handles, left, work);
+    handles[left..].copy_from_slice(&work[..n - left]);
     if left == 0 || left == n {
         return Ok(n / 2);
     }

@@ -41,26 +41,5 @@ returns-then-work-n c =
     let h = parted-short args.block.now args.handles.now args.split args.work.now c.if-work-n.true in
     record { result_value = h.0; handles_after = h.1.0; work_after = h.1.1 }
 
-pub put_behind-requires : goal.put_behind-requires
-put_behind-requires c =
-    let p = parted (goal.at.put_behind-requires c).After-part-left in
-    record { left_in_bounds = omega arith; handles_in_bounds = omega (arith, c.if-work-n.false) }
-
 pub returns-then-left-eq0 : goal.returns-then-left-eq0
-returns-then-left-eq0 c =
-    let args = c.args in
-    let p = parted (goal.at.returns-then-left-eq0 c).After-part-left in
-    let count = p.count in
-    let h = whole p c.if-work-n.false c.put_behind.ensures _ (partition-half args.block.now args.handles.now args.split
-    (⊎_map (λ e. sym count ∙ e) (λ e. sym count ∙ e.1) c.then-left-eq0.either)) in
-    record { result_value = h.0; handles_after = h.1.0; work_after = h.1.1 }
-
-pub returns : goal.returns
-returns c =
-    let args = c.args in
-    let p = parted (goal.at.returns c).After-part-left in
-    let count = p.count in
-    let h = whole p c.if-work-n.false c.put_behind.ensures _ (partition-both args.block.now args.handles.now args.split
-    (λ e. c.if-left-eq0.false (count ∙ e))
-    (λ e. c.if-left-n.false (count ∙ e)) ∙ sym count) in
-    record { result_value = h.0; handles_after = h.1.0; work_after = h.1.1 }
+returns-then-left-eq0 c = let e = c.copy_from_slice.ensures in let n = c.copy_from_slice.new in ?
