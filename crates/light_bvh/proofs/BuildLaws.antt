@@ -35,33 +35,15 @@ use Rattle.light_bvh.specs.Build.{nodes_reserve, work_reserve, is_short, build_c
 use Rattle.light_bvh.specs.AsCoded.Tables.{tabled_below}
 use Rattle.light_bvh.specs.Build.{built_bvh, build_light_bvh, nodes_written, table_written, work_written, summary}
 
--- ---- short reserves
-
-or-true : (a b : Bool) → b ≡ true → a || b ≡ true
-or-true true b e = refl
-or-true false b e = e
+-- ---- reserves that are not short
 
 or-false : (a b : Bool) → a || b ≡ false → (a ≡ false) × (b ≡ false)
 or-false true b e = (e, absurd (subst T e tt))
 or-false false b e = (refl, e)
 
 module _ (m nodes table work : ℕ) where
-  pub short-nodes : nodes < nodes_reserve m → is_short m nodes table work ≡ true
-  short-nodes h = rw (lt-ltb nodes (nodes_reserve m) h)
-
-  pub short-table : table < m → is_short m nodes table work ≡ true
-  short-table h = or-true (ltb nodes (nodes_reserve m)) (ltb table m || ltb work (work_reserve m)) (rw (lt-ltb table m h))
-
-  pub short_work : work < work_reserve m → is_short m nodes table work ≡ true
-  short_work h =
-      or-true (ltb nodes (nodes_reserve m)) (ltb table m || ltb work (work_reserve m))
-      (or-true (ltb table m) (ltb work (work_reserve m)) (lt-ltb work (work_reserve m) h))
-
-  pub not_short : nodes_reserve m ≤ nodes → m ≤ table → work_reserve m ≤ work → is_short m nodes table work ≡ false
-  not_short h k l = rw (le-ltb nodes (nodes_reserve m) h, le-ltb table m k) (le-ltb work (work_reserve m) l)
-
-  -- what is not short has room
-  pub reserves-fit : is_short m nodes table work ≡ false →
+  -- have room
+  reserves-fit : is_short m nodes table work ≡ false →
       (nodes_reserve m ≤ nodes) × (m ≤ table) × (work_reserve m ≤ work)
   reserves-fit h =
       let (n, h') = or-false (ltb nodes (nodes_reserve m)) (ltb table m || ltb work (work_reserve m)) h in
@@ -116,22 +98,37 @@ module _ (lights : ℕ) (ws : List ℕ) (nodes table work : ℕ) where
       (λ m. only-cond (is_short m nodes table work) (only-refused (omega arith)) only-given)))
 
   pub build-checked : (m : ℕ) → build_check lights ws nodes table work ≡ given m
-      → (m ≡ get_or ws 0 0) × (m ≤ max_lamps) × (length ws ≡ block_words m) × (block_handles ws ≡ given m)
-      × (is_short m nodes table work ≡ false)
+      → (m ≡ get_or ws 0 0) × (lights ≡ m) × (m ≤ max_lamps) × (length ws ≡ block_words m)
+      × (block_handles ws ≡ given m) × (is_short m nodes table work ≡ false)
   unfolding build_check
   build-checked m e =
       let reserves : ℕ → Answer ℕ = λ m. cond (is_short m nodes table work) (refused 3) (given m) in
       let rows : ℕ → Answer ℕ = λ _. block_handles ws then reserves in
       let records : ℕ → Answer ℕ = λ m. cond (eqb lights m) (given m) (refused 1) then rows in
       let (a, layout, e₁) = then-given (block_layout ws) records m e in
-      let (b, _, e₂) = then-given (cond (eqb lights a) (given a) (refused 1)) rows m e₁ in
+      let (b, lamps, e₂) = then-given (cond (eqb lights a) (given a) (refused 1)) rows m e₁ in
       let (k, handles, e₃) = then-given (block_handles ws) reserves m e₂ in
       let (short, is) = cond-kept (is_short k nodes table work) k 3 m e₃ in
       let (first, few, long) = layout-count ws a layout in
       let same = handles-count ws k handles in
       let count : a ≡ m = omega arith in
       let room = subst (λ (j : ℕ). is_short j nodes table work ≡ false) is short in
-      (sym is ∙ same, omega arith, rw count at long, handles ∙ ap given is, room)
+      let each = eqb-true lights a (cond-given (eqb lights a) a 1 b lamps).0 ∙ count in
+      (sym is ∙ same, each, omega arith, rw count at long, handles ∙ ap given is, room)
+
+  pub rows-fit : (m : ℕ) → build_check lights ws nodes table work ≡ given m →
+      (nodes_reserve m ≤ nodes) × (m ≤ table) × (work_reserve m ≤ work)
+  rows-fit m e =
+      let (is, each, few, long, handles, short) = build-checked m e in
+      reserves-fit m nodes table work short
+
+  -- by the count of the rows alone
+  pub check-again : (m : ℕ) → build_check lights ws nodes table work ≡ given m
+      → build_check (get_or ws 0 0) ws nodes table work ≡ given (get_or ws 0 0)
+  check-again m e =
+      let (is, each, few, long, handles, short) = build-checked m e in
+      subst (λ (k : ℕ). build_check k ws nodes table work ≡ given k) is
+      (subst (λ (k : ℕ). build_check k ws nodes table work ≡ given m) each e)
 
 -- ---- each record's check
 
@@ -215,11 +212,6 @@ module _ {ws hs hs' : List ℕ} {m k i : ℕ} (g : Gathering ws m hs hs' k i) wh
         is = rw out g.is;
       }
 
-  pub gathering-all : m ≤ i → (k ≡ length (bounded_handles ws m)) × (hs' ≡ laid (bounded_handles ws m) hs)
-  gathering-all h =
-      let e : i ≡ m = omega arith in
-      (g.count ∙ rw e, g.is ∙ rw e)
-
 -- ---- the handle table
 
 module _ (ws : List ℕ) (i : ℕ) (table : List ℕ) where
@@ -264,37 +256,38 @@ module _ (lights : ℕ) (ws nodes table work : List ℕ) where
         ),
       )
 
-  module _ (m : ℕ) (checked : build_check lights ws (length nodes) (length table) (length work) ≡ given m)
+  module _ {m : ℕ} (checked : build_check lights ws (length nodes) (length table) (length work) ≡ given m)
       {nodes' table' work' : List ℕ} where
     -- a record is refused
-    pub outcome_late : (n : ℕ) → validated ws m ≡ refused n → nodes' ≡ filled nodes 0 (nodes_reserve m) 0 →
-        table' ≡ filled table 0 m 0
-        → work' ≡ filled work 0 (work_reserve m) 0 → Outcome (refused n) nodes' table' work'
+    pub outcome_late : (n : ℕ) → validated ws (get_or ws 0 0) ≡ refused n →
+        nodes' ≡ filled nodes 0 (nodes_reserve (get_or ws 0 0)) 0 → table' ≡ filled table 0 (get_or ws 0 0) 0
+        → work' ≡ filled work 0 (work_reserve (get_or ws 0 0)) 0 → Outcome (refused n) nodes' table' work'
     unfolding build_light_bvh ◌then◌
     outcome_late n e en et ew =
-        let (is, few, long, handles, short) = build-checked lights ws (length nodes) (length table) (length work) m
+        let (is, each, few, long, handles, short) = build-checked lights ws (length nodes) (length table) (length work) m
         checked in
-        let (a, b, c) = reserves-fit m (length nodes) (length table) (length work) short in
-        let h = only-number (late-validated ws m) e in
-        rw (checked, e, ← is) (
+        let (a, b, c) = rows-fit lights ws (length nodes) (length table) (length work) m checked in
+        let h = only-number (late-validated ws (get_or ws 0 0)) e in
+        rw (checked, is, e) (
           refl,
           (
-            en ∙ tray-zeroed nodes_written (nodes_reserve m) nodes nodes n a refl h,
+            en ∙ tray-zeroed nodes_written (nodes_reserve (get_or ws 0 0)) nodes nodes n (rw is at a) refl h,
             (
-              et ∙ tray-zeroed table_written m table table n b refl h,
-              ew ∙
-                  tray-zeroed work_written (work_reserve m) work work n c refl h,
+              et ∙ tray-zeroed table_written (get_or ws 0 0) table table n (rw is at b) refl h,
+              ew ∙ tray-zeroed work_written (work_reserve (get_or ws 0 0)) work work n (rw is at c) refl h,
             ),
           ),
         )
 
     -- the rows behind the checks
-    pub outcome-rows : {r : Answer (ℕ × Option Bounds3)} → validated ws m ≡ given tt → r ≡ summary (built_bvh ws m)
-        → nodes' ≡ tray nodes_written (nodes_reserve m) (built_bvh ws m) nodes → table' ≡
-        tray table_written m (built_bvh ws m) table
-        → work' ≡ tray work_written (work_reserve m) (built_bvh ws m) work → Outcome r nodes' table' work'
+    pub outcome-rows : {r : Answer (ℕ × Option Bounds3)} → validated ws (get_or ws 0 0) ≡ given tt →
+        r ≡ summary (built_bvh ws (get_or ws 0 0))
+        → nodes' ≡ tray nodes_written (nodes_reserve (get_or ws 0 0)) (built_bvh ws (get_or ws 0 0)) nodes →
+        table' ≡ tray table_written (get_or ws 0 0) (built_bvh ws (get_or ws 0 0)) table
+        → work' ≡ tray work_written (work_reserve (get_or ws 0 0)) (built_bvh ws (get_or ws 0 0)) work →
+        Outcome r nodes' table' work'
     unfolding build_light_bvh ◌then◌
     outcome-rows e er en et ew =
-        let (is, few, long, handles, short) = build-checked lights ws (length nodes) (length table) (length work) m
+        let (is, each, few, long, handles, short) = build-checked lights ws (length nodes) (length table) (length work) m
         checked in
-        rw (checked, e, ← is) (er, (en, (et, ew)))
+        rw (checked, is, e) (er, (en, (et, ew)))

@@ -1,5 +1,5 @@
 pub mod BuildLaws
-pub mod LostLaws
+pub mod LateLaws
 pub mod RowTrays
 pub mod RowsLaws
 pub mod SubtreeLaws

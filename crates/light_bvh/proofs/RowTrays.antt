@@ -13,6 +13,7 @@ use Rattle.words.specs.Answers.{Answer, given, refused, ◌then◌}
 use Rattle.words.specs.AsCoded.Fill.{filled}
 use Rattle.words.specs.Tray.{tray}
 use Rattle.words.specs.Laws.TrayLaws.{tray-full}
+use Rattle.words.proofs.AnswerLaws.{only-number}
 use Rattle.words.proofs.FillLaws.{filled_within}
 use Rattle.words.proofs.Reserves.{zeroed, tray-zeroed}
 use Rattle.light_bounds.specs.declared.bounds.Bounds3.{Bounds3}
@@ -22,15 +23,14 @@ use Rattle.light_rows.specs.Tree.{Tree, leaves, tree_words}
 use Rattle.light_rows.specs.Laws.TreeLaws.{length-flatten}
 use Rattle.words.specs.AsCoded.ListParts.{laid}
 use Rattle.light_bvh.specs.Subtree.{label_of, build_subtree}
-use Rattle.light_bvh.specs.AsCoded.Stretches.{subtree, done, subtree_words}
+use Rattle.light_bvh.specs.AsCoded.Stretches.{done, subtree_words}
 use Rattle.light_bvh.specs.Build.{bounded_handles, all_bounds, LightBVH, tree_of, built_bvh}
 use Rattle.light_bvh.specs.Build.{nodes_reserve, work_reserve, nodes_written, table_written}
-use Rattle.light_bvh.specs.Build.{is_short, work_written, summary}
+use Rattle.light_bvh.specs.Build.{build_check, work_written, summary}
 use Rattle.light_bvh.specs.AsCoded.Tables.{tabled_below}
-use Rattle.light_bvh.specs.declared.subtree.Subtree.{Subtree}
-use Rattle.light_bvh.specs.declared.subtree.Subtree.TheVariants.{Built, Lost}
-use Rattle.light_bvh.proofs.BuildLaws.{reserves-fit}
-use Rattle.light_bvh.proofs.RowsLaws.{bounds-none, bounds-there, bounded-few}
+use Rattle.light_bvh.proofs.BuildLaws.{build-checked, rows-fit}
+use Rattle.light_bvh.proofs.LateLaws.{late-tree}
+use Rattle.light_bvh.proofs.RowsLaws.{bounds-none, bounds_some, bounded-few}
 use Rattle.light_bvh.proofs.RowsLaws.{bounded-below, labels-fit, labels-below}
 use Rattle.light_bvh.proofs.SubtreeLaws.{build-size, given-of, refused-of, done-moved, words-moved}
 use Rattle.light_bvh.proofs.TableLaws.{Labels, labels-map, Thirty}
@@ -152,12 +152,13 @@ pub record Gathered (ws : List ℕ) (m : ℕ) (nodes table work table' : List �
   pub same : length table' ≡ length table
   pub is : table' ≡ laid (bounded_handles ws m) table
 
-pub gathered : (ws : List ℕ) (m : ℕ) (nodes table work table' : List ℕ) (k : ℕ) → m ≤ 4096 → length ws ≡ block_words m
-    → block_handles ws ≡ given m → is_short m (length nodes) (length table) (length work) ≡ false
+pub gathered : (ws : List ℕ) (m : ℕ) (nodes table work table' : List ℕ) (k : ℕ)
+    → build_check m ws (length nodes) (length table) (length work) ≡ given m
     → k ≡ length (bounded_handles ws m) → table' ≡ laid (bounded_handles ws m) table
     → Gathered ws m nodes table work table' k
-gathered ws m nodes table work table' k few long checked room count is =
-    let (n, t, w) = reserves-fit m (length nodes) (length table) (length work) room in
+gathered ws m nodes table work table' k e count as_laid =
+    let (is, each, few, long, checked, room) = build-checked m ws (length nodes) (length table) (length work) m e in
+    let (n, t, w) = rows-fit m ws (length nodes) (length table) (length work) m e in
     let small = bounded-few ws m in
     record {
       few = few;
@@ -168,8 +169,8 @@ gathered ws m nodes table work table' k few long checked room count is =
       room_work = w;
       count = count;
       within = omega arith;
-      same = ap length is ∙ front_length (bounded_handles ws m) table (length (bounded_handles ws m)) refl (omega arith);
-      is = is;
+      same = ap length as_laid ∙ front_length (bounded_handles ws m) table (length (bounded_handles ws m)) refl (omega arith);
+      is = as_laid;
     }
 
 -- what is to be shown of an answer and what is left in the slices
@@ -299,27 +300,26 @@ module _ {ws : List ℕ} {m : ℕ} {nodes table work table' : List ℕ} {k : ℕ
   any = omega (arith, l.gathered.count, l.some)
 
   -- a union is lost
-  pub rows_lost : {r : Subtree} →
-      subtree r ≡ done (build_subtree ws (length (take (k - 0) table')) (take (k - 0) table'))
-      → r ≡ Lost → {nodes'' table'' work'' : List ℕ} →
+  pub rows_lost : (n : ℕ) →
+      refused n ≡ done (build_subtree ws (length (take (k - 0) table')) (take (k - 0) table')) →
+      {nodes'' table'' work'' : List ℕ} →
       nodes'' ≡ filled (nx ++ drop (end_of k - 0) nodes) 0 (nodes_reserve m) 0
       → table'' ≡ filled (hx ++ drop (k - 0) table') 0 m 0 → work'' ≡ filled (wx ++ drop (k - 0) work) 0 (work_reserve m) 0
-      → Done ws m nodes table work (refused 10) nodes'' table'' work''
-  rows_lost told lost en et ew =
+      → Done ws m nodes table work (refused n) nodes'' table'' work''
+  rows_lost n told en et ew =
       let g = l.gathered in
       let hs = bounded_handles ws m in
-      let told' = done-moved ws (take (k - 0) table') hs _ Lost (front-is g) told lost in
-      let e = refused-of (build_subtree ws (length hs) hs) 10 told' in
-      rw (built_lost ws m any 10 e) (
+      let e = refused-of (build_subtree ws (length hs) hs) n (done-moved ws (take (k - 0) table') hs _ (front-is g) told) in
+      let late = only-number (late-tree ws (length hs) hs) e in
+      rw (built_lost ws m any n e) (
         refl,
         (
-          en ∙ tray-zeroed nodes_written (nodes_reserve m) nodes _ 10 (omega (arith, nodes-size, g.room-nodes))
-              nodes-rest (omega arith),
+          en ∙ tray-zeroed nodes_written (nodes_reserve m) nodes _ n (omega (arith, nodes-size, g.room-nodes))
+              nodes-rest late,
           (
-            et ∙ tray-zeroed table_written m table _ 10 (omega (arith, table-size, g.room-table)) table-rest
-                (omega arith),
-            ew ∙ tray-zeroed work_written (work_reserve m) work _ 10 (omega (arith, work-size, g.room_work)) work-rest
-                (omega arith),
+            et ∙ tray-zeroed table_written m table _ n (omega (arith, table-size, g.room-table)) table-rest late,
+            ew ∙ tray-zeroed work_written (work_reserve m) work _ n (omega (arith, work-size, g.room_work)) work-rest
+                late,
           ),
         ),
       )
@@ -372,9 +372,7 @@ module _ {ws : List ℕ} {m : ℕ} {nodes table work table' : List ℕ} {k : ℕ
         (omega (arith, work-size, g.room_work)) work-rest in
         rw (built-tree ws m any t e) (rw (← g.count, ← is) refl, (tree, (table-left tree et el, ew ∙ clean)))
 
-  pub rows-tree : {r : Subtree} →
-      subtree r ≡ done (build_subtree ws (length (take (k - 0) table')) (take (k - 0) table'))
-      → r ≡ Built
+  pub rows-tree : given tt ≡ done (build_subtree ws (length (take (k - 0) table')) (take (k - 0) table'))
       → nx ≡ subtree_words 0 invalid_index (build_subtree ws (length (take (k - 0) table')) (take (k - 0) table'))
       nx → {nodes'' table'' table''' work'' : List ℕ}
       → nodes'' ≡ filled (nx ++ drop (end_of k - 0) nodes) (end_of k) (nodes_reserve m) 0 → table'' ≡
@@ -382,15 +380,14 @@ module _ {ws : List ℕ} {m : ℕ} {nodes table work table' : List ℕ} {k : ℕ
       → table''' ≡ tabled_below nodes'' (2 * k - 1) table'' → work'' ≡ filled (wx ++ drop (k - 0) work) 0 (work_reserve m) 0
       → (box : Bounds3) → some box ≡ all_bounds ws m → Done ws m nodes table work (given (k, some box)) nodes'' table'''
       work''
-  rows-tree told there words en et el ew box is =
+  rows-tree told words en et el ew box is =
       let hs = bounded_handles ws m in
       let front = front-is l.gathered in
-      let told' = done-moved ws (take (k - 0) table') hs _ Built front told there in
-      let (t, e) = given-of (build_subtree ws (length hs) hs) told' in
+      let (t, e) = given-of (build_subtree ws (length hs) hs) (done-moved ws (take (k - 0) table') hs _ front told) in
       let whole = words-moved ws (take (k - 0) table') hs 0 invalid_index nx front words ∙
       ap (λ (x : Answer Tree). subtree_words 0 invalid_index x nx) e in
       tree-left t e whole en et el ew box is
 
   -- where there is a tree there is a box
-  pub rows-boxed : none ≡ all_bounds ws m → ⊥
-  rows-boxed e = bounds-there ws m any (sym e)
+  pub rows-boxed : (box : Bounds3) × (all_bounds ws m ≡ some box)
+  rows-boxed = bounds_some ws m any

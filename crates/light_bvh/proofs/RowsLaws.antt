@@ -130,7 +130,7 @@ accepted-few lights ws nodes table work b e =
     let (m, checked, e₁) =
     then-given (build_check lights ws nodes table work) (λ (m : ℕ). validated ws m then λ _. built_bvh ws m) b e in
     let (_, _, e₂) = then-given (validated ws m) (λ _. built_bvh ws m) b e₁ in
-    let few = (build-checked lights ws nodes table work m checked).1 in
+    let (is, each, few, long, handles, short) = build-checked lights ws nodes table work m checked in
     omega (arith, gives-value (built-few ws m) e₂)
 
 -- their box is there where one of them is
@@ -139,7 +139,6 @@ BoxOf [] o = o ≡ none
 BoxOf (h ∷ hs) o = (b : Bounds3) × (o ≡ some b)
 
 box-more : (hs : List ℕ) (n : ℕ) (o : Option Bounds3) (b : Bounds3) → BoxOf hs o → BoxOf (hs ++ n ∷ []) (grown o b)
-unfolding grown
 box-more [] n o b e = (b, rw e)
 box-more (h ∷ hs) n o b e = (box_union e.0 b, rw e.1)
 
@@ -165,7 +164,9 @@ box-some (h ∷ hs) o l b = b
 pub bounds-none : (ws : List ℕ) (m : ℕ) → length (bounded_handles ws m) ≡ 0 → all_bounds ws m ≡ none
 bounds-none ws m e = box-none (bounded_handles ws m) (all_bounds ws m) e (box_of ws m)
 
+pub bounds_some : (ws : List ℕ) (m : ℕ) → 0 < length (bounded_handles ws m) →
+    (b : Bounds3) × (all_bounds ws m ≡ some b)
+bounds_some ws m l = box-some (bounded_handles ws m) (all_bounds ws m) l (box_of ws m)
+
 pub bounds-there : (ws : List ℕ) (m : ℕ) → 0 < length (bounded_handles ws m) → all_bounds ws m ≡ none → ⊥
-bounds-there ws m l e =
-    let (b, is) = box-some (bounded_handles ws m) (all_bounds ws m) l (box_of ws m) in
-    none-ne-some b (sym e ∙ is)
+bounds-there ws m l e = let (b, is) = bounds_some ws m l in none-ne-some b (sym e ∙ is)

@@ -16,7 +16,7 @@ use borrow.Rule.Slice.PartMut.{mid_of, put_mid, mid_len, same_len_mid}
 use Rattle.words.specs.Answers.{Answer, given, refused, ◌then◌}
 use Rattle.words.proofs.AnswerLaws.{Gives, gives, gives_none, gives-any, gives_then}
 use Rattle.words.proofs.AnswerLaws.{gives-value, given_injective, refused_injective, then-given, not-both}
-use Rattle.words.proofs.AnswerLaws.{only-number, then_same, then-refused, then_is, gives_of, cond-given}
+use Rattle.words.proofs.AnswerLaws.{then_same, then-refused, then_is, gives_of, cond-given}
 use Rattle.light_bounds.proofs.BoundsLaws.{union-given}
 use Rattle.light_bounds.specs.LightBounds.{union}
 use Rattle.light_rows.specs.Laws.RecordLaws.{RecordFits, join-fits, record-fits-read}
@@ -36,11 +36,8 @@ use Rattle.light_split.specs.Split.{choose_split}
 use Rattle.light_split.specs.declared.split.Split.{Split}
 use Rattle.light_split.proofs.PartitionLaws.{both_lengths, partition-joined, partition-half, partition-both}
 use Rattle.light_bvh.specs.Subtree.{label_of, forked, tree_by, build_subtree}
-use Rattle.light_bvh.specs.AsCoded.Stretches.{subtree, done, subtree_words}
+use Rattle.light_bvh.specs.AsCoded.Stretches.{done, subtree_words}
 use Rattle.light_bvh.specs.AsCoded.Stretches.{split_count, split_handles, union_at, joined_words}
-use Rattle.light_bvh.specs.declared.subtree.Subtree.{Subtree}
-use Rattle.light_bvh.specs.declared.subtree.Subtree.TheVariants.{Built, Lost}
-use Rattle.light_bvh.proofs.LostLaws.{ten-split}
 
 -- ---- the halves
 
@@ -224,7 +221,6 @@ module _ (root : List ℕ) (at : ℕ) (l r : Tree) (room : length root ≡ node_
 
   pub union-read : RecordFits (bounds l) → RecordFits (bounds r) →
       union_at (laid_out root at l r) (2 * leaves l) ≡ union (bounds l) (bounds r)
-  unfolding union_at
   union-read f g =
       ap (λ (b : LightBounds). union b (read_record (laid_out root at l r) (bounds_place (2 * leaves l)))) (left-read f)
       ∙ ap (union (bounds l)) (right-read g)
@@ -299,29 +295,26 @@ cut_of ws hs hs' left e e' h =
     }
 
 -- what a build answers and leaves
-abbrev pub Left : ℕ → ℕ → Answer Tree → Subtree → List ℕ → Type 0
-Left at p x r nodes = (subtree r ≡ done x) × (nodes ≡ subtree_words at p x nodes)
+abbrev pub Left : ℕ → ℕ → Answer Tree → Answer (Unit {0}) → List ℕ → Type 0
+Left at p x r nodes = (r ≡ done x) × (nodes ≡ subtree_words at p x nodes)
 
 -- of one list, it is so of a list that is the same
-pub done-moved : (ws l l' : List ℕ) (r s : Subtree) → l ≡ l' → subtree r ≡ done (whole ws l) → r ≡ s
-    → done (whole ws l') ≡ subtree s
-done-moved ws l l' r s e h k = ap (λ (l : List ℕ). done (whole ws l)) (sym e) ∙ sym h ∙ ap subtree k
+pub done-moved : (ws l l' : List ℕ) (r : Answer (Unit {0})) → l ≡ l' → r ≡ done (whole ws l) → done (whole ws l') ≡ r
+done-moved ws l l' r e h = ap (λ (l : List ℕ). done (whole ws l)) (sym e) ∙ sym h
 
 pub words-moved : (ws l l' : List ℕ) (at p : ℕ) (n : List ℕ) → l ≡ l' → n ≡ subtree_words at p (whole ws l) n →
     n ≡ subtree_words at p (whole ws l') n
 words-moved ws l l' at p n e h = h ∙ ap (λ (l : List ℕ). subtree_words at p (whole ws l) n) e
 
-lost-tree : (at p : ℕ) (x : Answer Tree) (nodes : List ℕ) → x ≡ refused 10 → Left at p x Lost nodes
-lost-tree at p x nodes e = rw e (refl, refl)
+lost-tree : (at p n : ℕ) (x : Answer Tree) (nodes : List ℕ) → x ≡ refused n → Left at p x (refused n) nodes
+lost-tree at p n x nodes e = rw e (refl, refl)
 
 pub lost-left : (ws hs : List ℕ) (at p n : ℕ) (nodes : List ℕ) → split_count ws hs ≡ refused n → 2 ≤ length hs
-    → Left at p (whole ws hs) Lost nodes
+    → Left at p (whole ws hs) (refused n) nodes
 unfolding split_count forked ◌then◌
 lost-left ws hs at p n nodes e h =
-    let lost = no-split (choose_split ws hs) _ e in
-    let ten = only-number (ten-split ws hs) lost in
-    lost-tree at p (whole ws hs) nodes
-    (build-fork ws hs h ∙ then-refused (choose_split ws hs) _ 10 (lost ∙ ap refused ten))
+    lost-tree at p n (whole ws hs) nodes
+    (build-fork ws hs h ∙ then-refused (choose_split ws hs) _ n (no-split (choose_split ws hs) _ e))
   where
     no-split : (x : Answer Split) (f : Split → ℕ) → x then (λ (s : Split). given (f s)) ≡ refused n → x ≡ refused n
     no-split (given s) f e = absurd (not-both refl e)
@@ -338,19 +331,19 @@ module _ {ws hs hs' : List ℕ} {left : ℕ} (cut : Cut ws hs hs' left) where
       ws (partition_handles ws hs s).1 then
       λ (r : Tree). union (bounds l) (bounds r) then λ (b : LightBounds). given (fork b l r)) cut.chosen)
 
-  pub no-left : (at p : ℕ) (nodes : List ℕ) → done (whole ws (take left hs')) ≡ refused 10
-      → Left at p (whole ws hs) Lost nodes
-  no-left at p nodes e =
-      let x = refused-of (whole ws (take left hs')) 10 e in
-      lost-tree at p (whole ws hs) nodes (forked-cut ∙ then-refused (whole ws (take left hs')) _ 10 x)
+  pub no-left : (at p n : ℕ) (nodes : List ℕ) → done (whole ws (take left hs')) ≡ refused n
+      → Left at p (whole ws hs) (refused n) nodes
+  no-left at p n nodes e =
+      let x = refused-of (whole ws (take left hs')) n e in
+      lost-tree at p n (whole ws hs) nodes (forked-cut ∙ then-refused (whole ws (take left hs')) _ n x)
 
-  pub no-right : (at p : ℕ) (nodes : List ℕ) → done (whole ws (take left hs')) ≡ given tt
-      → done (whole ws (drop left hs')) ≡ refused 10 → Left at p (whole ws hs) Lost nodes
-  no-right at p nodes e e' =
+  pub no-right : (at p n : ℕ) (nodes : List ℕ) → done (whole ws (take left hs')) ≡ given tt
+      → done (whole ws (drop left hs')) ≡ refused n → Left at p (whole ws hs) (refused n) nodes
+  no-right at p n nodes e e' =
       let (l, x) = given-of (whole ws (take left hs')) e in
-      let y = refused-of (whole ws (drop left hs')) 10 e' in
-      let lost = then-refused (whole ws (drop left hs')) _ 10 y in
-      lost-tree at p (whole ws hs) nodes (forked-cut ∙ then_is (whole ws (take left hs')) _ l x ∙ lost)
+      let y = refused-of (whole ws (drop left hs')) n e' in
+      let lost = then-refused (whole ws (drop left hs')) _ n y in
+      lost-tree at p n (whole ws hs) nodes (forked-cut ∙ then_is (whole ws (take left hs')) _ l x ∙ lost)
 
 -- ---- one handle
 
@@ -366,7 +359,7 @@ node-alone nodes n b room fits =
 pub leaf-left : (ws hs nodes nodes' : List ℕ) (at p label : ℕ) (light : LightBounds) → length hs ≡ 1 →
     length nodes + node_words ≡ node_words * (2 * length hs)
     → ((h : ℕ) → label_of ws h < 2 ^ 30) → label ≡ label_of ws (get_or hs 0 0) → light ≡ light_of ws (get_or hs 0 0)
-    → nodes' ≡ node_written nodes 0 (leaf_node label p) light → Left at p (whole ws hs) Built nodes'
+    → nodes' ≡ node_written nodes 0 (leaf_node label p) light → Left at p (whole ws hs) (given tt) nodes'
 unfolding flatten
 leaf-left ws hs nodes nodes' at p label light one size labels is-label is-light e =
     let fits = lt-ltb (label_of ws (get_or hs 0 0)) 0x4000_0000 (labels (get_or hs 0 0)) in
@@ -374,9 +367,9 @@ leaf-left ws hs nodes nodes' at p label light one size labels is-label is-light 
 
 -- ---- more than one
 
-joined-left : (at p right : ℕ) (nodes nodes' : List ℕ) (l r : Tree) (x : Answer LightBounds) (res : Subtree)
+joined-left : (at p right : ℕ) (nodes nodes' : List ℕ) (l r : Tree) (x : Answer LightBounds) (res : Answer (Unit {0}))
     → ((b : LightBounds) → node_written nodes 0 (interior (at + 1) (at + right) p) b ≡ flatten at p (fork b l r))
-    → subtree res ≡ done x → nodes' ≡
+    → res ≡ done x → nodes' ≡
     joined_words at p right nodes x → Left at p (x then λ (b : LightBounds). given (fork b l r)) res nodes'
 unfolding ◌then◌
 joined-left at p right nodes nodes' l r (given b) res j e e' = (e, e' ∙ j b)
@@ -387,7 +380,7 @@ module _ {ws hs hs' : List ℕ} {left : ℕ} (cut : Cut ws hs hs' left) (at p : 
       → done (whole ws (take left hs')) ≡ given tt → n1 ≡ subtree_words (at + 1) at (whole ws (take left hs')) n1
       → done (whole ws (drop left hs')) ≡ given tt → n2 ≡
       subtree_words (at + 2 * left) at (whole ws (drop left hs')) n2 → nodes ≡ root ++ n1 ++ n2
-      → (res : Subtree) (nodes' : List ℕ) → subtree res ≡ done (union_at nodes (2 * left))
+      → (res : Answer (Unit {0})) (nodes' : List ℕ) → res ≡ done (union_at nodes (2 * left))
       → nodes' ≡ joined_words at p (2 * left) nodes (union_at nodes (2 * left)) → Left at p (whole ws hs) res nodes'
   both_left root n1 n2 nodes fits room e w e' w' laid res nodes' told told' =
       let (l, x) = given-of (whole ws (take left hs')) e in

@@ -29,7 +29,7 @@ bounded_handles ws zero = []
 bounded_handles ws (suc n) = bounded_handles ws n ++ cond (is_powered ws n) (n ∷ []) []
 
 -- `all_bounds`: the box of just these
-unfoldable pub grown : Option Bounds3 → Bounds3 → Option Bounds3
+abbrev pub grown : Option Bounds3 → Bounds3 → Option Bounds3
 grown none b = some b
 grown (some a) b = some (box_union a b)
 

@@ -1,11 +1,9 @@
 // `build_light_bvh` (specs/Build.antt): a bounds block in, the nodes and the handle table out. The handles of the
 // powered lamps stand in the table's words while the tree is built; the work is what their stretches are parted by.
-ghost use Rattle.std.specs.Prelude.{◌≡◌, cond, false, ◌*◌, ◌^◌, ◌≤◌, length, get_or};
-ghost use Rattle.words.specs.Answers.{given, refused, answered, optional};
+ghost use Rattle.std.specs.Prelude.{◌≡◌, ◌≤◌, length, get_or};
+ghost use Rattle.words.specs.Answers.{given, answered, optional};
 ghost use Rattle.words.specs.AsCoded.Fill.{filled};
 ghost use Rattle.words.specs.Tray.{tray};
-ghost use Rattle.light_rows.specs.Block.{block_handles, block_words};
-ghost use Rattle.light_rows.specs.Nodes.{node_words};
 ghost use Rattle.words.specs.AsCoded.ListParts.{laid};
 ghost use Rattle.light_bvh.specs.Build.{is_powered, bounded_handles, grown, all_bounds as powered_box, validated};
 ghost use Rattle.light_bvh.specs.Build.{built_bvh, nodes_reserve, work_reserve, is_short, build_check, build_light_bvh};
@@ -19,7 +17,7 @@ use light_rows::block::{check_handles, check_layout, light, light_box, light_phi
 use light_rows::nodes::{INVALID_INDEX, NODE_WORDS, head_at};
 use words::fill::{fill, zero_words};
 use words::heads::{handle_of, kind_of};
-use words::places::wide;
+use words::places::{wide, word_or_zero};
 use words::refusals::Refusal;
 
 // A tree: how many lamps have power, and the box of just these.
@@ -29,57 +27,63 @@ pub struct Built {
     pub bounds: Bounds3,
 }
 
+// How many rows the block has.
+fn row_count(block: &[u32]) -> u32
+    ensures { result ≡ get_or block.now 0 0 }
+{
+    word_or_zero(block, 0)
+}
+
+// ---- the reserves of m rows
+
+fn nodes_reserve(m: u32) -> usize
+    ensures { result ≡ nodes_reserve m }
+{
+    NODE_WORDS * (2 * wide(m)).saturating_sub(1)
+}
+
+fn work_reserve(m: u32) -> usize
+    ensures { result ≡ work_reserve m }
+{
+    2 * wide(m)
+}
+
 // ---- the checks that leave the lent words alone: 2, 1, 4, 3
 
-fn check_reserves(m: usize, nodes: usize, table: usize, work: usize) -> Result<usize, Refusal>
-    requires { m ≤ 2 ^ 32 }
-    ensures { answered result ≡ cond (is_short m nodes table work) (refused 3) (given m) }
+// Whether a lent slice is under its reserve.
+fn is_short(m: u32, nodes: usize, table: usize, work: usize) -> bool
+    ensures { result ≡ is_short m nodes table work }
 {
-    if m > 0 && nodes < NODE_WORDS * (2 * m - 1) {
-        return Err(Refusal::ShortTray);
+    nodes < nodes_reserve(m) || table < wide(m) || work < work_reserve(m)
+}
+
+// How many rows a tree is to be built of.
+pub fn check_build(
+    lights: usize,
+    block: &[u32],
+    nodes: usize,
+    table: usize,
+    work: usize,
+) -> Result<usize, Refusal>
+    ensures { answered result ≡ build_check lights block.now nodes table work }
+{
+    let rows = check_layout(block)?;
+    if lights != rows {
+        return Err(Refusal::Ragged);
     }
-    if table < m {
-        return Err(Refusal::ShortTray);
-    }
-    if work < 2 * m {
+    let m = check_handles(block)?;
+    if is_short(row_count(block), nodes, table, work) {
         return Err(Refusal::ShortTray);
     }
     Ok(m)
 }
 
-// How many rows a tree is to be built of.
-pub fn check_build(lights: usize, block: &[u32], nodes: usize, table: usize, work: usize) -> Result<usize, Refusal>
-    ensures { answered result ≡ build_check lights block.now nodes table work }
-{
-    match check_layout(block) {
-        Ok(m) => {
-            if lights != m {
-                return Err(Refusal::Ragged);
-            }
-            match check_handles(block) {
-                Ok(rows) => check_reserves(rows, nodes, table, work),
-                Err(why) => Err(why),
-            }
-        }
-        Err(why) => Err(why),
-    }
-}
-
 // Every record's own check, in order.
-fn check_records(block: &[u32], m: usize) -> Result<(), Refusal>
-    requires { m ≤ 4096 }
-    ensures { answered result ≡ validated block.now m }
+fn check_records(block: &[u32]) -> Result<(), Refusal>
+    ensures { answered result ≡ validated block.now (get_or block.now 0 0) }
 {
-    let mut i: u32 = 0;
-    while wide(i) < m {
-        match validate(light(block, i)) {
-            Ok(()) => {
-                i += 1;
-            }
-            Err(why) => {
-                return Err(why);
-            }
-        }
+    for i in 0..row_count(block) {
+        validate(light(block, i))?;
     }
     Ok(())
 }
@@ -93,36 +97,31 @@ fn is_powered(block: &[u32], handle: u32) -> bool
 }
 
 // Their handles, in order, to the front of the slice, and how many they are.
-fn gather_handles(block: &[u32], m: usize, handles: &mut [u32]) -> usize
-    requires m_bound { m ≤ 4096 }
-    requires m_in_bounds { m ≤ length handles.old }
-    ensures value { result ≡ length (bounded_handles block.now m) }
-    ensures handles_after { handles.new ≡ laid (bounded_handles block.now m) handles.old }
+fn gather_handles(block: &[u32], handles: &mut [u32]) -> usize
+    requires { get_or block.now 0 0 ≤ length handles.old }
+    ensures value { result ≡ length (bounded_handles block.now (get_or block.now 0 0)) }
+    ensures handles_after { handles.new ≡
+        laid (bounded_handles block.now (get_or block.now 0 0)) handles.old }
 {
     let mut k: usize = 0;
-    let mut i: u32 = 0;
-    while wide(i) < m {
+    for i in 0..row_count(block) {
         if is_powered(block, i) {
             handles[k] = i;
             k += 1;
         }
-        i += 1;
     }
     k
 }
 
 // Their box.
-fn all_bounds(block: &[u32], m: usize) -> Option<Bounds3>
-    requires { m ≤ 4096 }
-    ensures { optional result ≡ powered_box block.now m }
+fn all_bounds(block: &[u32]) -> Option<Bounds3>
+    ensures { optional result ≡ powered_box block.now (get_or block.now 0 0) }
 {
     let mut all = None;
-    let mut i: u32 = 0;
-    while wide(i) < m {
+    for i in 0..row_count(block) {
         if is_powered(block, i) {
             all = grow(all, light_box(block, i));
         }
-        i += 1;
     }
     all
 }
@@ -138,27 +137,22 @@ fn grow(all: Option<Bounds3>, bounds: Bounds3) -> Option<Bounds3>
 
 // ---- what is left in the lent words
 
-// Zeroes the reserves of m rows.
-fn zero_reserves(m: usize, nodes: &mut [u32], table: &mut [u32], work: &mut [u32])
-    requires { m ≤ 4096 }
-    ensures nodes_after { nodes.new ≡ filled nodes.old 0 (nodes_reserve m) 0 }
-    ensures table_after { table.new ≡ filled table.old 0 m 0 }
-    ensures work_after { work.new ≡ filled work.old 0 (work_reserve m) 0 }
+// Zeroes the reserves of so many rows.
+fn zero_reserves(rows: u32, nodes: &mut [u32], table: &mut [u32], work: &mut [u32])
+    ensures nodes_after { nodes.new ≡ filled nodes.old 0 (nodes_reserve rows) 0 }
+    ensures table_after { table.new ≡ filled table.old 0 rows 0 }
+    ensures work_after { work.new ≡ filled work.old 0 (work_reserve rows) 0 }
 {
-    let end = if m == 0 { 0 } else { NODE_WORDS * (2 * m - 1) };
-    zero_words(nodes, 0, end);
-    zero_words(table, 0, m);
-    zero_words(work, 0, 2 * m);
+    zero_words(nodes, 0, nodes_reserve(rows));
+    zero_words(table, 0, wide(rows));
+    zero_words(work, 0, work_reserve(rows));
 }
 
 // Writes each leaf's place at its label, by a pass over the first n nodes.
-fn table_leaves(nodes: &[u32], n: usize, table: &mut [u32])
-    requires n_bound { n ≤ 8191 }
-    requires n_in_bounds { node_words * n ≤ length nodes.now }
+fn table_leaves(nodes: &[u32], n: u32, table: &mut [u32])
     ensures { table.new ≡ tabled_below nodes.now n table.old }
 {
-    let mut i: u32 = 0;
-    while wide(i) < n {
+    for i in 0..n {
         let head = head_at(nodes, i);
         if kind_of(head) == 1 {
             let handle = wide(handle_of(head));
@@ -166,37 +160,35 @@ fn table_leaves(nodes: &[u32], n: usize, table: &mut [u32])
                 table[handle] = i;
             }
         }
-        i += 1;
     }
 }
 
 // The rows behind the checks: the tree, or why there is none.
 fn build_rows(
     block: &[u32],
-    m: usize,
     nodes: &mut [u32],
     table: &mut [u32],
     work: &mut [u32],
 ) -> Result<Option<Built>, Refusal>
-    requires m_bound { m ≤ 4096 }
-    requires block_len { length block.now ≡ block_words m }
-    requires block_value { block_handles block.now ≡ given m }
-    requires work_value { is_short m (length nodes.old) (length table.old) (length work.old) ≡ false }
-    ensures result_value { built result ≡ summary (built_bvh block.now m) }
-    ensures nodes_after { nodes.new ≡
+    requires { let m = get_or block.now 0 0 in
+        build_check m block.now (length nodes.old) (length table.old) (length work.old) ≡ given m }
+    ensures result_value { built result ≡ summary (built_bvh block.now (get_or block.now 0 0)) }
+    ensures nodes_after { let m = get_or block.now 0 0 in nodes.new ≡
         tray nodes_written (nodes_reserve m) (built_bvh block.now m) nodes.old }
-    ensures table_after { table.new ≡ tray table_written m (built_bvh block.now m) table.old }
-    ensures work_after { work.new ≡
+    ensures table_after { let m = get_or block.now 0 0 in table.new ≡
+        tray table_written m (built_bvh block.now m) table.old }
+    ensures work_after { let m = get_or block.now 0 0 in work.new ≡
         tray work_written (work_reserve m) (built_bvh block.now m) work.old }
 {
-    let k = gather_handles(block, m, table);
+    let m = row_count(block);
+    let k = gather_handles(block, table);
     if k == 0 {
         zero_reserves(m, nodes, table, work);
-        fill(table, 0, m, INVALID_INDEX);
+        fill(table, 0, wide(m), INVALID_INDEX);
         return Ok(None);
     }
     let end = NODE_WORDS * (2 * k - 1);
-    match build_subtree(
+    if let Err(why) = build_subtree(
         block,
         &mut table[0..k],
         &mut work[0..k],
@@ -204,21 +196,14 @@ fn build_rows(
         0,
         INVALID_INDEX,
     ) {
-        Ok(()) => {
-            zero_words(nodes, end, NODE_WORDS * (2 * m - 1));
-            fill(table, 0, m, INVALID_INDEX);
-            table_leaves(nodes, 2 * k - 1, table);
-            zero_words(work, 0, 2 * m);
-            match all_bounds(block, m) {
-                Some(bounds) => Ok(Some(Built { powered: k, bounds })),
-                None => Ok(None),
-            }
-        }
-        Err(Refusal::LostUnion) => {
-            zero_reserves(m, nodes, table, work);
-            Err(Refusal::LostUnion)
-        }
+        zero_reserves(m, nodes, table, work);
+        return Err(why);
     }
+    zero_words(nodes, end, nodes_reserve(m));
+    fill(table, 0, wide(m), INVALID_INDEX);
+    table_leaves(nodes, 2 * k as u32 - 1, table);
+    zero_words(work, 0, work_reserve(m));
+    Ok(all_bounds(block).map(|bounds| Built { powered: k, bounds }))
 }
 
 // The tree of a block of m rows: 16(2m - 1) words of nodes, m of the handle table, 2m of work are lent. Refusals 2, 1,
@@ -243,14 +228,10 @@ pub fn build_light_bvh(
         tray work_written (work_reserve (get_or block.now 0 0)) (build_light_bvh lights block.now
         (length nodes.old) (length table.old) (length work.old)) work.old }
 {
-    match check_build(lights, block, nodes.len(), table.len(), work.len()) {
-        Ok(m) => match check_records(block, m) {
-            Ok(()) => build_rows(block, m, nodes, table, work),
-            Err(why) => {
-                zero_reserves(m, nodes, table, work);
-                Err(why)
-            }
-        },
-        Err(why) => Err(why),
+    check_build(lights, block, nodes.len(), table.len(), work.len())?;
+    if let Err(why) = check_records(block) {
+        zero_reserves(row_count(block), nodes, table, work);
+        return Err(why);
     }
+    build_rows(block, nodes, table, work)
 }

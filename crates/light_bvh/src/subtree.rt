@@ -5,7 +5,7 @@ ghost use Rattle.words.specs.Answers.{answered};
 ghost use Rattle.std.specs.Prelude.{◌≡◌, List, ◌++◌, ℕ, ◌+◌, ◌*◌, ◌^◌, ◌≤◌, ◌<◌, length};
 ghost use Rattle.light_rows.specs.Nodes.{node_words};
 ghost use Rattle.light_bvh.specs.Subtree.{label_of, build_subtree};
-ghost use Rattle.light_bvh.specs.AsCoded.Stretches.{subtree, done, subtree_words};
+ghost use Rattle.light_bvh.specs.AsCoded.Stretches.{done, subtree_words};
 ghost use Rattle.light_bvh.specs.AsCoded.Stretches.{split_count, split_handles, union_at, joined_words};
 
 use light_bounds::light_bounds::{LightBounds, union};
@@ -21,10 +21,8 @@ fn part_stretch(block: &[u32], handles: &mut [u32], work: &mut [u32]) -> Result<
     ensures result_value { answered result ≡ split_count block.now handles.old }
     ensures handles_after { handles.new ≡ split_handles block.now handles.old }
 {
-    match choose_split(block, handles) {
-        Ok(split) => partition_handles(block, handles, work, split),
-        Err(Refusal::LostUnion) => Err(Refusal::LostUnion),
-    }
+    let split = choose_split(block, handles)?;
+    partition_handles(block, handles, work, split)
 }
 
 // The same. It is called in two places, of which one is for the many stretches of two, so that the compiler leaves its
@@ -54,22 +52,18 @@ fn union_children(nodes: &[u32], right: usize) -> Result<LightBounds, Refusal>
 // read back from their nodes.
 fn join_children(nodes: &mut [u32], right: usize, at: u32, parent: u32) -> Result<(), Refusal>
     requires { at + right < 2 ^ 30 }
-    ensures result_value { subtree result ≡ done (union_at nodes.old right) }
+    ensures result_value { answered result ≡ done (union_at nodes.old right) }
     ensures nodes_after { nodes.new ≡
         joined_words at parent right nodes.old (union_at nodes.old right) }
 {
-    match union_children(nodes, right) {
-        Ok(bounds) => {
-            let node = Node::Interior {
-                left_child: at + 1,
-                right_child: at + right as u32,
-                parent,
-            };
-            write_node(nodes, 0, node, bounds);
-            Ok(())
-        }
-        Err(_) => Err(Refusal::LostUnion),
-    }
+    let bounds = union_children(nodes, right)?;
+    let node = Node::Interior {
+        left_child: at + 1,
+        right_child: at + right as u32,
+        parent,
+    };
+    write_node(nodes, 0, node, bounds);
+    Ok(())
 }
 
 // Writes the tree of a stretch, its root at node `at` under `parent`, to nodes that are as many as it needs. Labels and
@@ -87,7 +81,7 @@ pub(crate) fn build_subtree(
     requires node_words_len { length nodes.old + node_words ≡ node_words * (2 * length handles.old) }
     requires handles_bound { at + 2 * length handles.old < 2 ^ 30 }
     requires by_index { (h : ℕ) → label_of block.now h < 2 ^ 30 }
-    ensures result_value { subtree result ≡ done
+    ensures result_value { answered result ≡ done
         (build_subtree block.now (length handles.old) handles.old) }
     ensures nodes_after { nodes.new ≡ subtree_words at parent
         (build_subtree block.now (length handles.old) handles.old) nodes.new }
@@ -101,30 +95,22 @@ pub(crate) fn build_subtree(
         write_node(nodes, 0, leaf, light(block, handles[0]));
         return Ok(());
     }
-    match split_stretch(block, handles, work) {
-        Ok(left) => {
-            match build_subtree(
-                block,
-                &mut handles[0..left],
-                &mut work[0..left],
-                &mut nodes[NODE_WORDS..2 * NODE_WORDS * left],
-                at + 1,
-                at,
-            ) {
-                Ok(()) => match build_subtree(
-                    block,
-                    &mut handles[left..n],
-                    &mut work[0..n - left],
-                    &mut nodes[2 * NODE_WORDS * left..],
-                    at + 2 * left as u32,
-                    at,
-                ) {
-                    Ok(()) => join_children(nodes, 2 * left, at, parent),
-                    Err(Refusal::LostUnion) => Err(Refusal::LostUnion),
-                },
-                Err(Refusal::LostUnion) => Err(Refusal::LostUnion),
-            }
-        }
-        Err(_) => Err(Refusal::LostUnion),
-    }
+    let left = split_stretch(block, handles, work)?;
+    build_subtree(
+        block,
+        &mut handles[0..left],
+        &mut work[0..left],
+        &mut nodes[NODE_WORDS..2 * NODE_WORDS * left],
+        at + 1,
+        at,
+    )?;
+    build_subtree(
+        block,
+        &mut handles[left..n],
+        &mut work[0..n - left],
+        &mut nodes[2 * NODE_WORDS * left..],
+        at + 2 * left as u32,
+        at,
+    )?;
+    join_children(nodes, 2 * left, at, parent)
 }

@@ -11,13 +11,6 @@ use Rattle.light_rows.specs.Tree.{Tree, flatten}
 use Rattle.light_split.specs.Partition.{partition_handles}
 use Rattle.light_split.specs.Split.{choose_split}
 use Rattle.light_split.specs.declared.split.Split.{Split}
-use Rattle.light_bvh.specs.declared.subtree.Subtree.{Subtree}
-use Rattle.light_bvh.specs.declared.subtree.Subtree.TheVariants.{Built, Lost}
-
--- what the enum `Subtree` answers: the tree stands in the nodes, or 10
-abbrev pub subtree : Subtree → Answer (Unit {0})
-subtree Built = given tt
-subtree Lost = refused 10
 
 -- that something is given, or why not
 abbrev pub done : {A : Type 0} → Answer A → Answer (Unit {0})
@@ -41,7 +34,7 @@ split_handles ws hs = parted (choose_split ws hs)
     parted (refused n) = hs
 
 -- the record around the trees at nodes 1 and `right`, read back from their words; and the node over them, in front
-unfoldable pub union_at : List ℕ → ℕ → Answer LightBounds
+abbrev pub union_at : List ℕ → ℕ → Answer LightBounds
 union_at ws right = union (read_record ws (bounds_place 1)) (read_record ws (bounds_place right))
 
 abbrev pub joined_words : ℕ → ℕ → ℕ → List ℕ → Answer LightBounds → List ℕ

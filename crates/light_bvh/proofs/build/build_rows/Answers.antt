@@ -1,11 +1,14 @@
 -- The fronts of the table, the work and the nodes are lent for the tree of the powered rows, and what is left of them
 -- is the definition's at each of the three ends; where there is a tree there is a box. Assumes nothing.
-use Rattle.words.specs.Answers.{optional}
-use Prim.Native.Nat.{◌≤◌}
-use mathlib.Core.Path.{sym, ap, ◌∙◌}
-use native.Mathlib.Omega.{arith}
-use lib.ListN.{length}
-use Rattle.light_bvh.proofs.BuildLaws.{reserves-fit}
+use Prim.Native.Nat.{ℕ, ◌≤◌}
+use mathlib.Core.Path.{◌≡◌, sym, ◌∙◌}
+use mathlib.Core.Option.{some}
+use Rattle.std.proofs.Common.{arith, Ok}
+use Rattle.std.proofs.lemmas.Grind.{common_steps}
+use Rattle.words.specs.Answers.{given, optional}
+use Rattle.light_bvh.specs.Build.{built}
+use lib.ListN.{length, get_or}
+use Rattle.light_bvh.proofs.BuildLaws.{rows-fit}
 use Rattle.light_bvh.proofs.RowTrays.{Gathered, gathered, end_of, asks, Lent, nodes-size}
 use Rattle.light_bvh.proofs.RowTrays.{rows_none, rows_lost, rows-tree, rows-boxed}
 use Rattle.light_bvh.proofs.build.build_rows.Goals as goal
@@ -14,24 +17,21 @@ use Rattle.light_bvh.proofs.build.build_rows.Goals.{After-gather_handles-k, Afte
 -- ---- the places: the handles are gathered, the tree is tried
 
 got : (c : After-gather_handles-k) →
-    Gathered c.args.block.now c.args.m c.args.nodes.now c.args.table.now c.args.work.now c.gather_handles-k.new.handles
-    c.gather_handles-k.result
+    Gathered c.args.block.now (get_or c.args.block.now 0 0) c.args.nodes.now c.args.table.now c.args.work.now
+    c.gather_handles-k.new.handles c.gather_handles-k.result
 got c =
-    let pre = c.requires in
     let told = c.gather_handles-k.ensures in
-    gathered _ _ _ _ _ _ _ pre.m_bound pre.block_len pre.block_value pre.work_value told.value told.handles_after
+    gathered _ _ _ _ _ _ _ c.requires told.value told.handles_after
 
 lent : (c : After-build_subtree) →
-    Lent c.args.block.now c.args.m c.args.nodes.now c.args.table.now c.args.work.now c.gather_handles-k.new.handles
-    c.gather_handles-k.result c.build_subtree.new.handles c.build_subtree.new.work c.build_subtree.new.nodes
+    Lent c.args.block.now (get_or c.args.block.now 0 0) c.args.nodes.now c.args.table.now c.args.work.now
+    c.gather_handles-k.new.handles c.gather_handles-k.result c.build_subtree.new.handles c.build_subtree.new.work
+    c.build_subtree.new.nodes
 lent c =
-    let pre = c.requires in
     let told = c.gather_handles-k.ensures in
     let kept = c.build_subtree.auto in
     record {
-      gathered =
-          gathered _ _ _ _ _ _ _ pre.m_bound pre.block_len pre.block_value pre.work_value told.value
-          told.handles_after;
+      gathered = gathered _ _ _ _ _ _ _ c.requires told.value told.handles_after;
       some = omega (arith, c.if-k-eq0.false);
       same-table = kept.handles;
       same_work = kept.work;
@@ -41,21 +41,14 @@ lent c =
 -- ---- the needs
 
 pub gather_handles-k-requires : goal.gather_handles-k-requires
-gather_handles-k-requires c =
-    let pre = c.requires in
-    let args = c.args in
-    record {
-      m_bound = pre.m_bound;
-      m_in_bounds =
-          (reserves-fit args.m (length args.nodes.now) (length args.table.now) (length args.work.now)
-          pre.work_value).1;
-    }
+gather_handles-k-requires c = (rows-fit _ _ _ _ _ _ c.requires).1
 
 pub returns-then-k-eq0 : goal.returns-then-k-eq0
 returns-then-k-eq0 c =
-    let told = c.zero_reserves.ensures in
+    let m = c.row_count-m.ensures in
+    let told = rw m at c.zero_reserves.ensures in
     let h = rows_none (got (goal.at.returns-then-k-eq0 c).After-gather_handles-k) c.if-k-eq0.true told.nodes_after
-    told.table_after c.fill_words.ensures told.work_after in
+    told.table_after (rw (c.wide.ensures, m) at c.fill.ensures) told.work_after in
     record { result_value = h.0; nodes_after = h.1.0; table_after = h.1.1.0; work_after = h.1.1.1 }
 
 pub overflow_mul-end-2 : goal.overflow_mul-end-2
@@ -85,34 +78,31 @@ build_subtree-requires c =
       by_index = h.1.1.1.1;
     }
 
-pub overflow_sub-m : goal.overflow_sub-m
-overflow_sub-m c =
-    let l = lent (goal.at.overflow_sub-m c).After-build_subtree in omega (arith, l.some, l.gathered.within)
+pub overflow_cast-k : goal.overflow_cast-k
+overflow_cast-k c =
+    let g = got (goal.at.overflow_cast-k c).After-gather_handles-k in omega (arith, g.within, g.few)
 
-pub table_leaves-requires : goal.table_leaves-requires
-table_leaves-requires c =
-    let l = lent (goal.at.table_leaves-requires c).After-build_subtree in
-    let g = l.gathered in
-    let e : end_of c.gather_handles-k.result ≤ length c.zero_words.new.s =
-    omega (arith, c.zero_words.auto.s, nodes-size l, g.within, g.room-nodes) in
-    record { n_bound = omega (arith, g.within, g.few); n_in_bounds = e }
+pub overflow_mul-k : goal.overflow_mul-k
+overflow_mul-k c =
+    let g = got (goal.at.overflow_mul-k c).After-gather_handles-k in omega (arith, g.within, g.few)
 
-pub returns-in-Bounds : goal.returns-in-Bounds
-returns-in-Bounds c =
-    let told = c.build_subtree.ensures in
-    let h = rows-tree (lent (goal.at.returns-in-Bounds c).After-build_subtree) told.result_value c.in-Built.is
-    told.nodes_after c.zero_words.ensures c.fill_words-in-Built.ensures c.table_leaves.ensures
-    c.zero_words-in-Built.ensures _ (sym (ap optional c.in-Bounds.is) ∙ c.all_bounds.ensures) in
+pub returns-in-Err : goal.returns-in-Err
+returns-in-Err c =
+    let told = rw c.row_count-m.ensures at c.zero_reserves-in-Err.ensures in
+    let h = rows_lost (lent (goal.at.returns-in-Err c).After-build_subtree) _ c.in-Err.ensures.result_value
+    told.nodes_after told.table_after told.work_after in
     record { result_value = h.0; nodes_after = h.1.0; table_after = h.1.1.0; work_after = h.1.1.1 }
 
-pub returns-in-Absent : goal.returns-in-Absent
-returns-in-Absent c =
-    absurd (rows-boxed (lent (goal.at.returns-in-Absent c).After-build_subtree)
-    (sym (ap optional c.in-Absent.is) ∙ c.all_bounds.ensures))
-
-pub returns-in-Lost : goal.returns-in-Lost
-returns-in-Lost c =
-    let told = c.zero_reserves-in-Lost.ensures in
-    let h = rows_lost (lent (goal.at.returns-in-Lost c).After-build_subtree) c.build_subtree.ensures.result_value
-    c.in-Lost.is told.nodes_after told.table_after told.work_after in
-    record { result_value = h.0; nodes_after = h.1.0; table_after = h.1.1.0; work_after = h.1.1.1 }
+pub returns : goal.returns
+returns c =
+    let m = c.row_count-m.ensures in
+    let l = lent (goal.at.returns c).After-build_subtree in
+    let (box, is) = rows-boxed l in
+    let there : optional c.all_bounds.result ≡ some box = c.all_bounds.ensures ∙ is in
+    let answer : built (Ok c.map.result) ≡ given (c.gather_handles-k.result, some box) =
+    grind (arith, common_steps, there) in
+    let told = c.in_default.ensures in
+    let h = rows-tree l told.result_value told.nodes_after
+    (rw (c.nodes_reserve.ensures, m) at c.zero_words.ensures) (rw (c.wide-2.ensures, m) at c.fill-2.ensures)
+    c.table_leaves.ensures (rw (c.work_reserve.ensures, m) at c.zero_words-2.ensures) box (sym is) in
+    record { result_value = answer ∙ h.0; nodes_after = h.1.0; table_after = h.1.1.0; work_after = h.1.1.1 }

@@ -1,52 +1,38 @@
 -- `light_bvh::build::check_build`: the layout, the number of records, the handles, the reserves, in that order. Assumes
 -- nothing.
+use Rattle.std.proofs.Common.{rules}
+use mathlib.Core.Bool.{Bool, cond}
 use mathlib.Core.Path.{sym, ap, ◌∙◌}
-use native.Mathlib.Omega.{arith}
 use borrow.Author.Tests.{eq-eqb, ne_eqb}
-use Rattle.words.specs.Answers.{◌then◌, answered}
+use lib.ListN.{get_or}
+use Rattle.words.specs.Answers.{given, refused, ◌then◌}
 use Rattle.light_bvh.specs.Build.{build_check}
-use Rattle.light_bvh.proofs.BuildLaws.{layout-count, handles-count}
+use Rattle.light_bvh.proofs.BuildLaws.{handles-count}
 use Rattle.light_bvh.proofs.build.check_build.Goals as goal
 
-pub returns-then-lights-m : goal.returns-then-lights-m
+pub returns-in_err-rows : goal.returns-in_err-rows
 unfolding build_check ◌then◌
-returns-then-lights-m c = rw (
-  ← c.check_layout.ensures,
-  c.in-Count.is,
-  ne_eqb _ _
-      c.if-lights-m.true,
-)
+returns-in_err-rows c = rw (← c.in_err-rows.ensures) (search rules)
 
-pub check_reserves-requires : goal.check_reserves-requires
-check_reserves-requires c =
-    let block = c.args.block.now in
-    let (is, few, _) = layout-count block _
-    (sym c.check_layout.ensures ∙ ap answered c.in-Count.is) in
-    let is' = handles-count block _
-    (sym c.check_handles.ensures ∙ ap answered c.in-Count-check_handles.is) in
-    omega (arith, is, few, is')
-
-pub returns-in-Count-check_handles : goal.returns-in-Count-check_handles
+pub returns-then-lights-rows : goal.returns-then-lights-rows
 unfolding build_check ◌then◌
-returns-in-Count-check_handles c = rw (
-  ← c.check_layout.ensures,
-  c.in-Count.is,
-  eq-eqb _ _
-      c.if-lights-m.false,
-)
-    (rw (← c.check_handles.ensures, c.in-Count-check_handles.is)
-    c.check_reserves.ensures)
+returns-then-lights-rows c = rw (← c.in_ok-rows.ensures, ne_eqb _ _ c.if-lights-rows.true)
 
-pub returns-in-Refused-check_handles : goal.returns-in-Refused-check_handles
+pub returns-in_err-m : goal.returns-in_err-m
 unfolding build_check ◌then◌
-returns-in-Refused-check_handles c = rw (
-  ← c.check_layout.ensures,
-  c.in-Count.is,
-  eq-eqb _ _
-      c.if-lights-m.false,
-)
-    (rw (← c.check_handles.ensures, c.in-Refused-check_handles.is))
+returns-in_err-m c =
+    rw (← c.in_ok-rows.ensures, eq-eqb _ _ c.if-lights-rows.false) (rw (← c.in_err-m.ensures) (search rules))
 
-pub returns-in-Refused : goal.returns-in-Refused
+pub returns-then-is_short : goal.returns-then-is_short
 unfolding build_check ◌then◌
-returns-in-Refused c = rw (← c.check_layout.ensures, c.in-Refused.is)
+returns-then-is_short c =
+    let count = handles-count c.args.block.now _ (sym c.in_ok-m.ensures) in
+    rw (← c.in_ok-rows.ensures, eq-eqb _ _ c.if-lights-rows.false) (rw (← c.in_ok-m.ensures, count)
+    (ap (λ (b : Bool). cond b (refused 3) (given (get_or c.args.block.now 0 0))) (rw c.row_count.ensures at (sym c.if-is_short.true ∙ c.is_short.ensures))))
+
+pub returns : goal.returns
+unfolding build_check ◌then◌
+returns c =
+    let count = handles-count c.args.block.now _ (sym c.in_ok-m.ensures) in
+    rw (← c.in_ok-rows.ensures, eq-eqb _ _ c.if-lights-rows.false) (rw (← c.in_ok-m.ensures, count)
+    (ap (λ (b : Bool). cond b (refused 3) (given (get_or c.args.block.now 0 0))) (rw c.row_count.ensures at (sym c.if-is_short.false ∙ c.is_short.ensures))))
