@@ -74,10 +74,9 @@ module _ {m : ℕ} {bins_rest work_rest : List ℕ} {s : State} {bins work : Lis
       → Game m bins_rest work_rest (turn s) (settled bins work (under_top un) (over_top m ov))
       (put work (top m (un - 1) (ov - 1) below) (left work (under_top un) (over_top m ov))
       (get_or work (over_top m ov + 1) 0))
-      (cond below un (un - 1)) (cond below (ov - 1) ov)
+      (cond below (un - 1 + 1) (un - 1)) (cond below (ov - 1) (ov - 1 + 1))
   unfolding bs
   turn-next below l =
-      let back : (un - 1 + 1 ≡ un) × (ov - 1 + 1 ≡ ov) = (omega arith, omega arith) in
       let words = settle-words 0 s.bins (get_or work (under_top un + 1) 0) (single (get_or work (under_top un) 0))
       (get_or work (over_top m ov + 1) 0) bins_rest in
       rw turned-is
@@ -85,10 +84,10 @@ module _ {m : ℕ} {bins_rest work_rest : List ℕ} {s : State} {bins work : Lis
         bins-are = rw (push-bins, g.bins-are) (rw sound.1 at (words (rw g.count sound.0)));
         count = rw (push-bins, length-update) g.count;
         stacks =
-            rw (back.0, back.1) at (stacks-push (popped g.stacks bs) (left work (under_top un) (over_top m ov))
+            stacks-push (popped g.stacks bs) (left work (under_top un) (over_top m ov))
             (get_or work (over_top m ov + 1) 0)
             (sub-fits binary32 _ onef) (g.stacks.over-is.sound (ov - 1) (omega arith)).0
-            (omega (arith, g.stacks.together)) below l);
+            (omega (arith, g.stacks.together)) below l;
       })
 
 -- The turns' loop. Whatever the game was where it began, it has gone on to a state from which the turns to go lead to
@@ -127,29 +126,29 @@ module _ {m : ℕ} {bins₀ work₀ : List ℕ} {under over : ℕ} {bins work : 
       3 * get_or work (under_top un + 1) 0 + 2 < length bins
   going_in (bins_rest, work_rest, s, p) u o = settle_in (g.on bins_rest work_rest s p).2 u o
 
-  -- a turn, by what its steps promise: x is what is left, and it goes on the stack that b says
-  pub going_next : {x : Float} {bins' work' : List ℕ} {b : Bool} → 0 < un → 0 < ov →
+  -- a turn, by what its steps promise: x is what is left
+  pub going_next : {x : Float} {bins' work' : List ℕ} {un' ov' : ℕ} → 0 < un → 0 < ov →
       x ≡ left work (under_top un) (over_top m ov)
       → bins' ≡ settled bins work (under_top un) (over_top m ov)
-      → (b ≡ lt x onef) × (work' ≡ put work (top m (un - 1) (ov - 1) (lt x onef)) x (get_or work (over_top m ov + 1) 0))
-      → (below : Bool) → b ≡ below → Going m bins₀ work₀ under over bins' work' (cond below un (un - 1))
-      (cond below (ov - 1) ov)
-  going_next u o x-is bins-are (b-is, work-is) below e =
-      let l = rw x-is at (sym b-is ∙ e) in
-      rw (bins-are, work-is, x-is, l)
+      → un' ≡ cond (lt x onef) (un - 1 + 1) (un - 1)
+      → ov' ≡ cond (lt x onef) (ov - 1) (ov - 1 + 1)
+      → work' ≡ put work (top m (un - 1) (ov - 1) (lt x onef)) x (get_or work (over_top m ov + 1) 0)
+      → Going m bins₀ work₀ under over bins' work' un' ov'
+  going_next {x} u o x-is bins-are un-is ov-is work-is =
+      rw (bins-are, work-is, un-is, ov-is, x-is)
       (record {
-        together = omega (arith, less below, g.together);
+        together = omega (arith, less (lt (left work (under_top un) (over_top m ov)) onef), g.together);
         room = simp length-set g.room;
         same-bins = simp length-set g.same-bins;
         same_work = simp length-set g.same_work;
         to-go = g.to-go - 1;
-        enough = omega (arith, less below, g.enough);
+        enough = omega (arith, less (lt (left work (under_top un) (over_top m ov)) onef), g.enough);
         on = λ bins_rest work_rest s p.
             let (t, then, game) = g.on bins_rest work_rest s p in
-            (turn t, sym (turns-one g.to-go t (omega (arith, g.enough))) ∙ then, turn-next game u o below l);
+            (turn t, sym (turns-one g.to-go t (omega (arith, g.enough))) ∙ then, turn-next game u o _ refl);
       })
     where
-      less : (b : Bool) → cond b un (un - 1) + cond b (ov - 1) ov < un + ov
+      less : (b : Bool) → cond b (un - 1 + 1) (un - 1) + cond b (ov - 1) (ov - 1 + 1) < un + ov
       less true = omega arith
       less false = omega arith
 
@@ -203,26 +202,25 @@ starting-none {m} ws sum {bins} {work} len r =
 
 module _ {m : ℕ} {ws : List Float} {sum : Float} {bins₀ work₀ bins work : List ℕ} {under over i : ℕ}
     (g : Starting m ws sum bins₀ work₀ bins work under over i) where
-  -- one bin more, by what its steps promise: w is its weight, and it goes on the stack that b says
-  pub starting-next : {w : Float} {bins' work' : List ℕ} {b : Bool} → i < m → w ≡ get_or ws i zerof
+  -- one bin more, by what its steps promise: w is its weight
+  pub starting-next : {w : Float} {bins' work' : List ℕ} {under' over' : ℕ} → i < m → w ≡ get_or ws i zerof
       → bins' ≡ sets bins (3 * i) (0 ∷ to_bits binary32 (w ⊘ sum) ∷ none ∷ [])
-      → (b ≡ lt (w ⊘ sum ⊗ count m) onef) ×
-      (work' ≡ put work (top m under over (lt (w ⊘ sum ⊗ count m) onef)) (w ⊘ sum ⊗ count m) i)
-      → (below : Bool) → b ≡ below
-      → Starting m ws sum bins₀ work₀ bins' work' (cond below (under + 1) under) (cond below over (over + 1)) (i + 1)
+      → under' ≡ cond (lt (w ⊘ sum ⊗ count m) onef) (under + 1) under
+      → over' ≡ cond (lt (w ⊘ sum ⊗ count m) onef) over (over + 1)
+      → work' ≡ put work (top m under over (lt (w ⊘ sum ⊗ count m) onef)) (w ⊘ sum ⊗ count m) i
+      → Starting m ws sum bins₀ work₀ bins' work' under' over' (i + 1)
   unfolding push_all
-  starting-next h w-is bins-are (b-is, work-is) below e =
+  starting-next h w-is bins-are under-is over-is work-is =
       let hat = get_or ws i zerof ⊘ sum ⊗ count m in
-      let l = rw w-is at (sym b-is ∙ e) in
       let xs = map (bin sum) ws in
       let long : i < length xs = rw (length-map, g.len) h in
       let is : get_or xs i (bin sum zerof) ≡ bin sum (get_or ws i zerof) = get_or-map (bin sum) ws i zerof in
       let done : length (take i xs) ≡ i = length-take-le i xs (omega arith) in
-      rw (bins-are, work-is, w-is, l)
+      rw (bins-are, work-is, under-is, over-is, w-is)
       (record {
         len = g.len;
         room = g.room;
-        all = more below;
+        all = more (lt hat onef);
         some = omega arith;
         bins-are =
             rw (add-one i, take-suc xs i (bin sum zerof) long, is)
@@ -230,7 +228,7 @@ module _ {m : ℕ} {ws : List Float} {sum : Float} {bins₀ work₀ bins work : 
             g.bins-are (omega arith) (omega (arith, g.room.bins-room))));
         same = simp length-set g.same;
         state = push (record { weight = hat; index = i }) g.state;
-        stacks = stacks-push g.stacks hat i (mul-fits binary32 _ _) h (omega (arith, g.all)) below l;
+        stacks = stacks-push g.stacks hat i (mul-fits binary32 _ _) h (omega (arith, g.all)) _ refl;
         then = rw (add-one i) (rw (drop-cons xs i (bin sum zerof) long, is) at g.then);
       })
     where

@@ -21,15 +21,15 @@ use words::floats::Float;
 use words::limits::MAX_LAMPS;
 use words::refusals::Refusal;
 
-// The sum of the weights as f32 and as f64, or a weight is not finite or below zero.
-#[derive(Drop)]
-enum Sums {
-    Of(f32, f64),
-    Bad,
+// The sum of the weights as f32 and as f64.
+#[derive(Clone, Copy)]
+struct Sums {
+    single: f32,
+    double: f64,
 }
 
 // How many entries each stack holds.
-#[derive(Drop)]
+#[derive(Clone, Copy)]
 struct Heights {
     under: usize,
     over: usize,
@@ -37,7 +37,11 @@ struct Heights {
 
 // Bins of three words (q, p, alias) into `bins`, with `work` of four words a weight, and how many bins. Over MAX_LAMPS
 // weights is refusal 2, short bins or work 3, a weight that is NaN, infinite or below zero 8.
-pub fn build_power_alias_table(weights: &[u32], bins: &mut [u32], work: &mut [u32]) -> Result<usize, Refusal>
+pub fn build_power_alias_table(
+    weights: &[u32],
+    bins: &mut [u32],
+    work: &mut [u32],
+) -> Result<usize, Refusal>
     ensures result_value { answered result ≡ count
         (build_power_alias_table weights.now (length bins.old) (length work.old)) }
     ensures bins_after { bins.new ≡ tray bin_words (3 * length weights.now)
@@ -54,38 +58,31 @@ pub fn build_power_alias_table(weights: &[u32], bins: &mut [u32], work: &mut [u3
     if bins.len() < 3 * m || work.len() < 4 * m {
         return Err(Refusal::ShortTray);
     }
-    let s = add_up(weights);
-    match s {
-        Sums::Of(single, double) => {
-            let flat = single == 0.0;
-            build(weights, flat, total(flat, double, m), bins, work);
-            Ok(m)
-        }
-        Sums::Bad => {
-            zero_words(bins, 0, 3 * m);
-            zero_words(work, 0, 4 * m);
-            Err(Refusal::OutOfRange)
-        }
-    }
+    let Some(sums) = add_up(weights) else {
+        zero_words(bins, 0, 3 * m);
+        zero_words(work, 0, 4 * m);
+        return Err(Refusal::OutOfRange);
+    };
+    let flat = sums.single == 0.0;
+    build(weights, flat, total(flat, sums.double, m), bins, work);
+    Ok(m)
 }
 
-// Both sums left to right, in one pass.
-fn add_up(weights: &[u32]) -> Sums
+// Both sums left to right, in one pass; None where a weight is not finite or below zero.
+fn add_up(weights: &[u32]) -> Option<Sums>
     ensures { result ≡ sums_of (map single weights.now) }
 {
     let mut single = 0.0;
     let mut double = 0.0;
-    let mut i = 0;
-    while i < weights.len() {
-        let w = f32::of_word(weights[i]);
-        if !(w < 1.0 / 0.0) || w < 0.0 {
-            return Sums::Bad;
+    for word in weights {
+        let w = f32::of_word(*word);
+        if !w.is_finite() || w < 0.0 {
+            return None;
         }
-        single = single + w;
-        double = double + widen(w);
-        i += 1;
+        single += w;
+        double += widen(w);
     }
-    Sums::Of(single, double)
+    Some(Sums { single, double })
 }
 
 // The sum to divide by: that of the weights, or of m ones.
@@ -103,15 +100,14 @@ fn ones(m: usize) -> f64
     ensures { result ≡ sum_from binary64 zerof (replicate m onef) }
 {
     let mut s = 0.0;
-    let mut i = 0;
-    while i < m {
-        s = s + 1.0;
-        i += 1;
+    for _ in 0..m {
+        s += 1.0;
     }
     s
 }
 
-// The weight at a place; where the weights are flat each is one.
+// The weight at a place; where the weights are flat each is one. The two are no struct: of one with a slice in it each
+// clause would have to name the moment, as `weights.entry.words.now`.
 fn weight_at(weights: &[u32], flat: bool, i: usize) -> f32
     requires { i < length weights.now }
     ensures { result ≡ get_or (weighted flat weights.now) i zerof }
@@ -132,7 +128,7 @@ fn build(weights: &[u32], flat: bool, sum: f32, bins: &mut [u32], work: &mut [u3
 {
     let count = weights.len();
     let first = start(weights, flat, sum, bins, work);
-    let last = play(count, bins, work, first.under, first.over);
+    let last = play(count, bins, work, first);
     make_whole(bins, work, 0, last.under);
     make_whole(bins, work, 2 * count, last.over);
     zero_words(work, 0, 4 * count);
@@ -148,21 +144,13 @@ fn start(weights: &[u32], flat: bool, sum: f32, bins: &mut [u32], work: &mut [u3
 {
     let m = weights.len();
     let count = m as f32;
-    let mut under = 0;
-    let mut over = 0;
-    let mut i = 0;
-    while i < m {
+    let mut heights = Heights { under: 0, over: 0 };
+    for i in 0..m {
         let p = weight_at(weights, flat, i) / sum;
         put_bin(bins, 3 * i, p);
-        let below = push(m, work, under, over, p * count, i as u32);
-        i += 1;
-        if below {
-            under += 1;
-        } else {
-            over += 1;
-        }
+        heights.push(m, work, p * count, i as u32);
     }
-    Heights { under, over }
+    heights
 }
 
 // A bin's three words at a place: q zero, p, no alias.
@@ -175,18 +163,22 @@ fn put_bin(bins: &mut [u32], at: usize, p: f32)
     bins[at + 2] = 0xffff_ffff;
 }
 
-// An entry on top of its stack: below one on `under`, else on `over`. Whether it is below one.
-fn push(m: usize, work: &mut [u32], under: usize, over: usize, weight: f32, index: u32) -> bool
-    requires { (2 * under + 1 < length work.old) × (2 * m + 2 * over + 1 < length work.old) }
-    ensures value { result ≡ lt weight onef }
-    ensures work_after { work.new ≡ put work.old (top m under over (lt weight onef)) weight index }
-{
-    if weight < 1.0 {
-        put_entry(work, 2 * under, weight, index);
-        true
-    } else {
-        put_entry(work, 2 * m + 2 * over, weight, index);
-        false
+impl Heights {
+    // An entry on top of its stack: below one on `under`, else on `over`.
+    fn push(&mut self, m: usize, work: &mut [u32], weight: f32, index: u32)
+        requires { (2 * self.old.under + 1 < length work.old) × (2 * m + 2 * self.old.over + 1 < length work.old) }
+        ensures under_after { self.new.under ≡ cond (lt weight onef) (self.old.under + 1) self.old.under }
+        ensures over_after { self.new.over ≡ cond (lt weight onef) self.old.over (self.old.over + 1) }
+        ensures work_after { work.new
+            ≡ put work.old (top m self.old.under self.old.over (lt weight onef)) weight index }
+    {
+        if weight < 1.0 {
+            put_entry(work, 2 * self.under, weight, index);
+            self.under += 1;
+        } else {
+            put_entry(work, 2 * m + 2 * self.over, weight, index);
+            self.over += 1;
+        }
     }
 }
 
@@ -200,30 +192,24 @@ fn put_entry(work: &mut [u32], at: usize, weight: f32, index: u32)
 }
 
 // Turns, while neither stack is empty. Each takes one bin out of the game.
-fn play(m: usize, bins: &mut [u32], work: &mut [u32], under: usize, over: usize) -> Heights
-    requires { Playing m bins.old work.old under over }
-    ensures { Played m bins.old work.old under over bins.new work.new
+fn play(m: usize, bins: &mut [u32], work: &mut [u32], first: Heights) -> Heights
+    requires { Playing m bins.old work.old first.under first.over }
+    ensures { Played m bins.old work.old first.under first.over bins.new work.new
         result.under result.over }
 {
-    let mut nu = under;
-    let mut no = over;
-    while 0 < nu && 0 < no {
-        let u = 2 * (nu - 1);
-        let o = 2 * m + 2 * (no - 1);
+    let mut heights = first;
+    'turns: while 0 < heights.under && 0 < heights.over {
+        heights.under -= 1;
+        heights.over -= 1;
+        let u = 2 * heights.under;
+        let o = 2 * m + 2 * heights.over;
         let under_word = work[u];
         let over_index = work[o + 1];
         let excess = joint(under_word, work[o]);
         settle(bins, work[u + 1], under_word, over_index);
-        if push(m, work, nu - 1, no - 1, excess, over_index) {
-            no -= 1;
-        } else {
-            nu -= 1;
-        }
+        heights.push(m, work, excess, over_index);
     }
-    Heights {
-        under: nu,
-        over: no,
-    }
+    heights
 }
 
 // What an over bin has left beside an under one.
@@ -248,10 +234,8 @@ fn make_whole(bins: &mut [u32], work: &[u32], base: usize, n: usize)
     requires { Left bins.old work.now base n }
     ensures { Wholed bins.old work.now base n bins.new }
 {
-    let mut k = 0;
-    while k < n {
+    for k in 0..n {
         let at = 3 * (work[base + 2 * k + 1] as usize);
         bins[at] = 0x3f80_0000;
-        k += 1;
     }
 }

@@ -1,5 +1,5 @@
 -- `bvh_light_sampler_sample` and `bvh_light_sampler_pmf` of `light_bvh.rs`, over words as little-endian bytes: the
--- checks of R6 and R7, then the walk. A draw and a answered by name are the outcomes of `sample_walk` and `pmf_walk`, which
+-- checks of R6 and R7, then the walk. A draw and a chance by name are the outcomes of `sample_walk` and `pmf_walk`, which
 -- also tell the places entered. Definitions only. Assumes nothing.
 use Rattle.std.specs.Prelude.{ℕ, zero, suc, ◌/◌, ◌%◌, cond, ◌&&◌, List, eqb, ltb, Float, length, get_or}
 use Rattle.std.proofs.Math.Option.{none, some}
@@ -35,7 +35,7 @@ sample_walk nodes q u = after_check (sample_check nodes u) (from_root (words_of 
 abbrev pub sample : List ℕ → Query → Float → Answer Draw
 sample nodes q u = (sample_walk nodes q u).outcome
 
--- ---- answered by name
+-- ---- chance by name
 
 -- 2 of the nodes or of the table, then 1: how many nodes
 unfoldable pub pmf_check : List ℕ → List ℕ → Answer ℕ
@@ -47,7 +47,7 @@ pmf_check nodes table =
 unfoldable pub leaf_of : List ℕ → ℕ → ℕ
 leaf_of table handle = get_or table handle invalid_index
 
--- a light without a leaf has answered 0
+-- a light without a leaf has chance 0
 unfoldable pub from_leaf : List ℕ → Query → ℕ → ℕ → Walked Float
 from_leaf ws q i n = cond (eqb i invalid_index) (ended (given zerof)) (ascend ws q n i onef)
 
@@ -58,7 +58,7 @@ pmf_walk nodes table q handle =
 abbrev pub pmf : List ℕ → List ℕ → Query → ℕ → Answer Float
 pmf nodes table q handle = (pmf_walk nodes table q handle).outcome
 
--- ---- what the enums `Drawn` and `Chance` answer
+-- ---- as the code has it
 
 abbrev pub drawn : Result (Option-of-std SampledLight) Refusal → Answer Draw
 drawn (Ok (Some s)) = given (some (s.light, s.pmf))

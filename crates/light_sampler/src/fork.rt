@@ -1,5 +1,5 @@
 // A fork of the tree (specs/Fork.antt): from two weights and u, the branch with its share and the u within it.
-ghost use Rattle.std.specs.Prelude.{◌≡◌};
+ghost use Rattle.std.specs.Prelude.{◌≡◌, Some};
 ghost use Rattle.light_sampler.specs.Fork.{parted as parted_of, fork as fork_of};
 ghost use Rattle.light_sampler.specs.AsCoded.Turns.{turned};
 
@@ -8,30 +8,36 @@ use floats::choose::min;
 // The greatest u that a walk goes on with, 3f7ffffe: 1 - 2^-23.
 pub const MOST: f32 = 0.99999988;
 
-// Where a fork sends u: nowhere, where no branch has weight; or into a branch, with its share and the u within it.
-#[derive(Drop)]
+// The branch that a fork sends u into, with its share and the u within it.
+#[derive(Clone, Copy)]
 pub enum Turn {
-    Neither,
-    Left(f32, f32),
-    Right(f32, f32),
+    Left { share: f32, u: f32 },
+    Right { share: f32, u: f32 },
 }
 
 fn part(share: f32, u: f32) -> Turn
-    ensures { turned result ≡ parted_of share u }
+    ensures { turned (Some result) ≡ parted_of share u }
 {
     if u < share {
-        return Turn::Left(share, min(u / share, MOST));
+        return Turn::Left {
+            share,
+            u: min(u / share, MOST),
+        };
     }
     let rest = 1.0 - share;
-    Turn::Right(rest, min((u - share) / rest, MOST))
+    Turn::Right {
+        share: rest,
+        u: min((u - share) / rest, MOST),
+    }
 }
 
-pub fn fork(left: f32, right: f32, u: f32) -> Turn
+// None where neither branch has weight.
+pub fn fork(left: f32, right: f32, u: f32) -> Option<Turn>
     ensures { turned result ≡ fork_of left right u }
 {
     let total = left + right;
     if total <= 0.0 {
-        return Turn::Neither;
+        return None;
     }
-    part(left / total, u)
+    Some(part(left / total, u))
 }

@@ -1,12 +1,12 @@
-// A answered by name (specs/Sampler.antt): from the light's leaf up to the root, by parent words.
-ghost use Rattle.words.specs.Answers.{answered};
+// A chance by name (specs/Sampler.antt): from the light's leaf up to the root, by parent words.
+ghost use Rattle.words.specs.Answers.{answered, given};
 ghost use Rattle.std.specs.Prelude.{◌≡◌};
 ghost use Rattle.ieee.specs.Single.{onef};
 ghost use Rattle.words.specs.LittleEndian.{words_of};
 ghost use Rattle.light_sampler.specs.Sampler.{pmf_check, leaf_of, pmf as pmf_of};
 ghost use Rattle.light_sampler.specs.Walks.{part_of, rise as rise_of, ascend as ascend_of};
-ghost use Rattle.light_rows.specs.Nodes.{node, node_at};
-ghost use Rattle.light_sampler.specs.AsCoded.Turns.{by_prepared, factor_of, parent_of, above_of};
+ghost use Rattle.light_rows.specs.Nodes.{node_value, node_at};
+ghost use Rattle.light_sampler.specs.AsCoded.Turns.{by_prepared, risen_of};
 
 use super::weigh::weigh_children;
 use light_bounds::importance::{Prepared, Query, prepare};
@@ -15,57 +15,40 @@ use words::limits::MAX_LAMPS;
 use words::little_endian::word_at;
 use words::refusals::Refusal;
 
-// An upward step: no child has weight, or the child's part of the two weights, or why not.
-#[derive(Drop)]
-enum Factor {
-    Nought,
-    Part(f32),
-    Refused(Refusal),
-}
-
-fn part_of(place: usize, left: usize, right: usize, x: f32, y: f32) -> Factor
-    ensures { factor_of result ≡ part_of place left right x y }
+// The child's part of the two weights; None where no child has weight.
+fn part_of(place: usize, left: usize, right: usize, x: f32, y: f32) -> Result<Option<f32>, Refusal>
+    ensures { risen_of result ≡ part_of place left right x y }
 {
     let total = x + y;
     if total <= 0.0 {
-        return Factor::Nought;
+        return Ok(None);
     }
     if place == left {
-        return Factor::Part(x / total);
+        return Ok(Some(x / total));
     }
     if place == right {
-        return Factor::Part(y / total);
+        return Ok(Some(y / total));
     }
-    Factor::Refused(Refusal::BrokenTree)
+    Err(Refusal::BrokenTree)
 }
 
 // From a child to its parent, whose node is read already.
-fn rise(nodes: &[u8], query: Prepared, place: usize, parent: u32, above: Node) -> Factor
-    requires { node above ≡ node_at (words_of nodes.now) parent }
-    ensures { factor_of result ≡ rise_of (words_of nodes.now) (by_prepared query) place parent }
+fn rise(
+    nodes: &[u8],
+    query: Prepared,
+    place: usize,
+    parent: u32,
+    above: Node,
+) -> Result<Option<f32>, Refusal>
+    requires { given (node_value above) ≡ node_at (words_of nodes.now) parent }
+    ensures { risen_of result ≡ rise_of (words_of nodes.now) (by_prepared query) place parent }
 {
     match above {
-        Node::Interior { right_child: right, .. } => match weigh_children(nodes, query, parent as usize, right) {
-            Ok((x, y)) => part_of(place, parent as usize + 1, right as usize, x, y),
-            Err(why) => Factor::Refused(why),
-        },
-        Node::Leaf { .. } => Factor::Refused(Refusal::BrokenTree),
-    }
-}
-
-// The parent of a node; `Unknown` where there is no node.
-#[derive(Drop)]
-enum Above {
-    Parent(u32),
-    Unknown,
-}
-
-fn parent_of(here: Node) -> Above
-    ensures { above_of result ≡ parent_of (node here) }
-{
-    match here {
-        Node::Leaf { parent, .. } => Above::Parent(parent),
-        Node::Interior { parent, .. } => Above::Parent(parent),
+        Node::Interior { right_child, .. } => {
+            let (x, y) = weigh_children(nodes, query, parent as usize, right_child)?;
+            part_of(place, parent as usize + 1, right_child as usize, x, y)
+        }
+        Node::Leaf { .. } => Err(Refusal::BrokenTree),
     }
 }
 
@@ -74,36 +57,21 @@ fn ascend(nodes: &[u8], query: Query, count: usize, leaf: u32) -> Result<f32, Re
     ensures { answered result ≡ (ascend_of (words_of nodes.now) query count leaf onef).outcome }
 {
     let held = prepare(query);
-    let mut entries = count;
     let mut place = leaf as usize;
     let mut here = node_at(nodes, place)?;
     let mut pmf: f32 = 1.0;
-    while entries > 0 {
-        entries -= 1;
-        match parent_of(here) {
-            Above::Parent(parent) => {
-                if parent == INVALID_INDEX {
-                    return Ok(pmf);
-                }
-                let above = node_at(nodes, parent as usize)?;
-                match rise(nodes, held, place, parent, above) {
-                    Factor::Part(share) => {
-                        pmf = pmf * share;
-                        place = parent as usize;
-                        here = above;
-                    }
-                    Factor::Nought => {
-                        return Ok(0.0);
-                    }
-                    Factor::Refused(why) => {
-                        return Err(why);
-                    }
-                }
-            }
-            Above::Unknown => {
-                return Err(Refusal::BrokenTree);
-            }
+    for _ in 0..count {
+        let parent = here.parent();
+        if parent == INVALID_INDEX {
+            return Ok(pmf);
         }
+        let above = node_at(nodes, parent as usize)?;
+        let Some(share) = rise(nodes, held, place, parent, above)? else {
+            return Ok(0.0);
+        };
+        pmf *= share;
+        place = parent as usize;
+        here = above;
     }
     Err(Refusal::BrokenTree)
 }
@@ -115,15 +83,11 @@ fn check_pmf(nodes: &[u8], table: &[u8]) -> Result<usize, Refusal>
     if MAX_LAMPS < table.len() / 4 {
         return Err(Refusal::Crowded);
     }
-    match node_count(nodes) {
-        Ok(n) => {
-            if table.len() % 4 == 0 {
-                return Ok(n);
-            }
-            Err(Refusal::Ragged)
-        }
-        Err(why) => Err(why),
+    let n = node_count(nodes)?;
+    if table.len() % 4 == 0 {
+        return Ok(n);
     }
+    Err(Refusal::Ragged)
 }
 
 // The light's place in the table, none past its end.
@@ -136,20 +100,21 @@ fn leaf_of(table: &[u8], handle: u32) -> u32
     INVALID_INDEX
 }
 
-// The answered of a light for a query, as the product of its weights' parts along the way up. Refusals: 2 over 8,191
+// The chance of a light for a query, as the product of its weights' parts along the way up. Refusals: 2 over 8,191
 // nodes or 4,096 table words, 1 of a part of a node or of a word; then those that the walk meets, 12 where the words do
-// not hang together. A light past the table or without a leaf has answered 0.
-pub fn bvh_light_sampler_pmf(nodes: &[u8], table: &[u8], query: Query, handle: u32) -> Result<f32, Refusal>
+// not hang together. A light past the table or without a leaf has chance 0.
+pub fn bvh_light_sampler_pmf(
+    nodes: &[u8],
+    table: &[u8],
+    query: Query,
+    handle: u32,
+) -> Result<f32, Refusal>
     ensures { answered result ≡ pmf_of nodes.now table.now query handle }
 {
-    match check_pmf(nodes, table) {
-        Ok(n) => {
-            let leaf = leaf_of(table, handle);
-            if leaf == INVALID_INDEX {
-                return Ok(0.0);
-            }
-            ascend(nodes, query, n, leaf)
-        }
-        Err(why) => Err(why),
+    let n = check_pmf(nodes, table)?;
+    let leaf = leaf_of(table, handle);
+    if leaf == INVALID_INDEX {
+        return Ok(0.0);
     }
+    ascend(nodes, query, n, leaf)
 }

@@ -5,7 +5,7 @@ ghost use Rattle.ieee.specs.Single.{onef};
 ghost use Rattle.words.specs.LittleEndian.{words_of};
 ghost use Rattle.light_sampler.specs.Sampler.{sample_check, sample, drawn};
 ghost use Rattle.light_sampler.specs.Walks.{turn as turn_of, descend as descend_of};
-ghost use Rattle.light_sampler.specs.AsCoded.Turns.{by_prepared, way_of};
+ghost use Rattle.light_sampler.specs.AsCoded.Turns.{by_prepared, turn_answer};
 
 use super::fork::{MOST, Turn, fork};
 use super::weigh::weigh_children;
@@ -21,58 +21,59 @@ pub struct SampledLight {
     pub pmf: f32,
 }
 
-// Where a walk goes from a fork, or why not.
-#[derive(Drop)]
-enum Way {
-    On(Turn),
-    Refused(Refusal),
-}
-
-fn turn(nodes: &[u8], query: Prepared, place: usize, right: u32, u: f32) -> Way
+// Where the node at a place sends u.
+fn turn(
+    nodes: &[u8],
+    query: Prepared,
+    place: usize,
+    right: u32,
+    u: f32,
+) -> Result<Option<Turn>, Refusal>
     requires { place < 2 ^ 60 }
-    ensures { way_of result ≡ turn_of (words_of nodes.now) (by_prepared query) place right u }
+    ensures { turn_answer result ≡ turn_of (words_of nodes.now) (by_prepared query) place right u }
 {
-    match weigh_children(nodes, query, place, right) {
-        Ok((x, y)) => Way::On(fork(x, y, u)),
-        Err(why) => Way::Refused(why),
-    }
+    let (x, y) = weigh_children(nodes, query, place, right)?;
+    Ok(fork(x, y, u))
 }
 
 // The walk: at most `count` nodes are entered.
-fn descend(nodes: &[u8], query: Query, count: usize, u: f32) -> Result<Option<SampledLight>, Refusal>
+fn descend(
+    nodes: &[u8],
+    query: Query,
+    count: usize,
+    u: f32,
+) -> Result<Option<SampledLight>, Refusal>
     ensures { drawn result ≡ (descend_of (words_of nodes.now) query count 0 onef u).outcome }
 {
     let held = prepare(query);
-    let mut entries = count;
     let mut place: usize = 0;
     let mut pmf: f32 = 1.0;
     let mut u = u;
-    while entries > 0 {
-        entries -= 1;
+    for _ in 0..count {
         match node_at(nodes, place)? {
-            Node::Leaf { light_handle: handle, .. } => {
-                return Ok(Some(SampledLight { light: handle, pmf }));
+            Node::Leaf { light_handle, .. } => {
+                return Ok(Some(SampledLight {
+                    light: light_handle,
+                    pmf,
+                }));
             }
-            Node::Interior { right_child: right, .. } => match turn(nodes, held, place, right, u) {
-                Way::On(to) => match to {
-                    Turn::Left(share, next) => {
-                        pmf = pmf * share;
+            Node::Interior { right_child, .. } => {
+                let Some(to) = turn(nodes, held, place, right_child, u)? else {
+                    return Ok(None);
+                };
+                match to {
+                    Turn::Left { share, u: next } => {
+                        pmf *= share;
                         u = next;
                         place += 1;
                     }
-                    Turn::Right(share, next) => {
-                        pmf = pmf * share;
+                    Turn::Right { share, u: next } => {
+                        pmf *= share;
                         u = next;
-                        place = right as usize;
+                        place = right_child as usize;
                     }
-                    Turn::Neither => {
-                        return Ok(None);
-                    }
-                },
-                Way::Refused(why) => {
-                    return Err(why);
                 }
-            },
+            }
         }
     }
     Err(Refusal::BrokenTree)
@@ -82,33 +83,27 @@ fn descend(nodes: &[u8], query: Query, count: usize, u: f32) -> Result<Option<Sa
 fn check_sample(nodes: &[u8], u: f32) -> Result<usize, Refusal>
     ensures { answered result ≡ sample_check nodes.now u }
 {
-    match node_count(nodes) {
-        Ok(n) => {
-            if 0.0 <= u {
-                if u <= 1.0 {
-                    return Ok(n);
-                }
-            }
-            Err(Refusal::BadU)
-        }
-        Err(why) => Err(why),
+    let n = node_count(nodes)?;
+    if 0.0 <= u && u <= 1.0 {
+        return Ok(n);
     }
+    Err(Refusal::BadU)
 }
 
 // Draws a light for a query by u from 0 to 1, with the product of the shares along the way as its chance. Refusals: 2
 // over 8,191 nodes, 1 of a part of a node, 11 of u; then those that the walk meets, 12 where the words do not hang
 // together. Without nodes, and where neither branch of a fork has weight, none is drawn; a lone leaf is drawn
 // unweighed.
-pub fn bvh_light_sampler_sample(nodes: &[u8], query: Query, u: f32) -> Result<Option<SampledLight>, Refusal>
+pub fn bvh_light_sampler_sample(
+    nodes: &[u8],
+    query: Query,
+    u: f32,
+) -> Result<Option<SampledLight>, Refusal>
     ensures { drawn result ≡ sample nodes.now query u }
 {
-    match check_sample(nodes, u) {
-        Ok(n) => {
-            if n == 0 {
-                return Ok(None);
-            }
-            descend(nodes, query, n, min(u, MOST))
-        }
-        Err(why) => Err(why),
+    let n = check_sample(nodes, u)?;
+    if n == 0 {
+        return Ok(None);
     }
+    descend(nodes, query, n, min(u, MOST))
 }

@@ -4,32 +4,30 @@ ghost use Rattle.words.specs.Answers.{answered};
 ghost use Rattle.std.specs.Prelude.{◌≡◌, ◌<◌, ◌^◌};
 ghost use Rattle.words.specs.LittleEndian.{words_of};
 ghost use Rattle.light_sampler.specs.Walks.{weigh_at, weights as weights_of};
-ghost use Rattle.light_sampler.specs.AsCoded.Turns.{by_prepared, both_weights};
+ghost use Rattle.light_sampler.specs.AsCoded.Turns.{by_prepared};
 
 use light_bounds::importance::{Prepared, weigh_prepared};
 use light_rows::nodes::bounds_at;
 use words::refusals::Refusal;
 
-// The answered of the node at a place: 12 past the end and of an unknown side, the record's refusals, the importance's.
+// The weight of the node at a place: 12 past the end and of an unknown side, the record's refusals, the importance's.
 pub(crate) fn weigh_at(nodes: &[u8], query: Prepared, place: usize) -> Result<f32, Refusal>
     ensures { answered result ≡ weigh_at (words_of nodes.now) (by_prepared query) place }
 {
-    match bounds_at(nodes, place) {
-        Ok(bounds) => weigh_prepared(bounds, query),
-        Err(why) => Err(Refusal::BrokenTree),
-    }
+    weigh_prepared(bounds_at(nodes, place)?, query)
 }
 
 // The weights of the node's children: the left one, behind the node, in full before the right one is looked for.
-pub(crate) fn weigh_children(nodes: &[u8], query: Prepared, place: usize, right: u32) -> Result<(f32, f32), Refusal>
+pub(crate) fn weigh_children(
+    nodes: &[u8],
+    query: Prepared,
+    place: usize,
+    right: u32,
+) -> Result<(f32, f32), Refusal>
     requires { place < 2 ^ 60 }
-    ensures { both_weights result ≡ weights_of (words_of nodes.now) (by_prepared query) place right }
+    ensures { answered result ≡ weights_of (words_of nodes.now) (by_prepared query) place right }
 {
-    match weigh_at(nodes, query, place + 1) {
-        Ok(x) => match weigh_at(nodes, query, right as usize) {
-            Ok(y) => Ok((x, y)),
-            Err(why) => Err(why),
-        },
-        Err(why) => Err(why),
-    }
+    let x = weigh_at(nodes, query, place + 1)?;
+    let y = weigh_at(nodes, query, right as usize)?;
+    Ok((x, y))
 }

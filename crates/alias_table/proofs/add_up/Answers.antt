@@ -2,28 +2,28 @@
 -- Assumes nothing.
 use mathlib.Core.Path.{refl}
 use native.Mathlib.Omega.{arith}
-use lib.Ieee.{of_bits, div}
-use Rattle.alias_table.proofs.WeightLaws.{bad-above, bad-below, sums_next, sums_stop, sums-all}
+use lib.Ieee.{of_bits}
+use Rattle.alias_table.proofs.WeightLaws.{bad_infinite, bad-below, sums_next, sums_stop, sums-all}
 use Rattle.alias_table.proofs.add_up.Goals as goal
-use Rattle.alias_table.proofs.add_up.Goals.{then-not-w-via-then-not-w, then-not-w-via-else-not-w+then-w}
+use Rattle.alias_table.proofs.add_up.Goals.{then-not-is_finite-via-then-not-is_finite, then-not-is_finite-via-else-not-is_finite+then-w}
 
-pub loop-i-init : goal.loop-i-init
+pub loop-word-init : goal.loop-word-init
 unfolding of_bits
-loop-i-init c = record { within = omega arith; then = refl }
+loop-word-init c = record { within = omega arith; then = refl }
 
-pub returns-then-not-w : goal.returns-then-not-w
-unfolding of_bits div
-returns-then-not-w c = sums_stop c.loop-i.invariant (omega arith) c.f32_of_word-w.ensures
-    (elim c.then-not-w.branch [
-      | then-not-w-via-then-not-w w ↦ bad-above _ w.if-not-w.true
-      | then-not-w-via-else-not-w+then-w w ↦ bad-below _ w.if-w.true
+pub returns-then-not-is_finite : goal.returns-then-not-is_finite
+unfolding of_bits
+returns-then-not-is_finite c = sums_stop c.loop-word.invariant (omega arith) c.of_word-w.ensures
+    (elim c.then-not-is_finite.branch [
+      | then-not-is_finite-via-then-not-is_finite w ↦ bad_infinite _ w.if-not-is_finite.ensures.value
+      | then-not-is_finite-via-else-not-is_finite+then-w w ↦ bad-below _ w.if-w.true
     ])
 
-pub loop-i-preserved : goal.loop-i-preserved
-unfolding of_bits div
-loop-i-preserved c = rw c.widen-double.ensures
-    (sums_next c.loop-i.invariant (omega arith) c.f32_of_word-w.ensures
-    c.if-not-w.false c.if-w.false)
+pub loop-word-preserved : goal.loop-word-preserved
+unfolding of_bits
+loop-word-preserved c = rw c.widen-double.ensures
+    (sums_next c.loop-word.invariant (omega arith) c.of_word-w.ensures
+    c.if-not-is_finite.ensures.value c.if-w.false)
 
 pub returns : goal.returns
-returns c = sums-all c.loop-i.invariant (omega arith)
+returns c = sums-all c.loop-word.invariant (omega arith)

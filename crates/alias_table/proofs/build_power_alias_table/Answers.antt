@@ -49,24 +49,24 @@ returns-then-bins-m c = let args = c.args in
 pub build-requires : goal.build-requires
 build-requires c = record {
   room = room (goal.at.build-requires c).Else-work-m;
-  sum_value = c.total.ensures ∙ total-is _ _ _ (sym c.in-Of.is ∙ c.add_up-s.ensures);
+  sum_value = c.total.ensures ∙ total-is _ _ (sym c.in-Some.is ∙ c.add_up.ensures);
 }
 
-pub returns-in-Of : goal.returns-in-Of
+pub returns : goal.returns
 unfolding tray
-returns-in-Of c = let built = c.build.ensures in
-    let sums = sym c.in-Of.is ∙ c.add_up-s.ensures in
-    let len = played-length c.args.weights.now _ _ sums in
-    rw (answer-given _ (room (goal.at.returns-in-Of c).Else-work-m) _ _ sums) (record {
+returns c = let built = c.build.ensures in
+    let sums = sym c.in-Some.is ∙ c.add_up.ensures in
+    let len = played-length c.args.weights.now _ sums in
+    rw (answer-given _ (room (goal.at.returns c).Else-work-m) _ sums) (record {
       result_value = rw len refl;
       bins_after = built.bins_after ∙ simp (length-bin_words, len, sub_self, append-nil);
       work_after = built.work_after ∙ simp sub-zero;
     })
 
-pub returns-in-Bad : goal.returns-in-Bad
-returns-in-Bad c = let r = room (goal.at.returns-in-Bad c).Else-work-m in
-    rw (answer-bad _ r (sym c.in-Bad.is ∙ c.add_up-s.ensures)) (record {
+pub returns-in_default : goal.returns-in_default
+returns-in_default c = let r = room (goal.at.returns-in_default c).Else-work-m in
+    rw (answer-bad _ r (sym c.in_default.is ∙ c.add_up.ensures)) (record {
       result_value = refl;
       bins_after = c.zero_words.ensures ∙ tray-zeroed _ _ _ _ 8 r.bins-room refl (omega arith);
-      work_after = c.zero_words-in-Bad.ensures ∙ tray-zeroed _ _ _ _ 8 r.work-room refl (omega arith);
+      work_after = c.zero_words-in_default.ensures ∙ tray-zeroed _ _ _ _ 8 r.work-room refl (omega arith);
     })

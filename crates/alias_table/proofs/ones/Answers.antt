@@ -6,13 +6,13 @@ use lib.Ieee.{of_bits}
 use Rattle.alias_table.specs.AliasTable.{sum_from}
 use Rattle.alias_table.proofs.ones.Goals as goal
 
-pub loop-i-preserved : goal.loop-i-preserved
+pub loop-preserved : goal.loop-preserved
 unfolding of_bits sum_from
-loop-i-preserved c = let e : c.args.m - c.loop-i.i ≡
-    suc (c.args.m - (c.loop-i.i + 1)) = omega arith in
-    rw e at c.loop-i.invariant
+loop-preserved c = let e : c.args.m - c.loop.counter ≡
+    suc (c.args.m - (c.loop.counter + 1)) = omega arith in
+    rw e at c.loop.invariant
 
 pub returns : goal.returns
 unfolding sum_from
-returns c = let e : c.args.m - c.loop-i.i ≡ 0 = omega arith in
-    rw e at c.loop-i.invariant
+returns c = let e : c.args.m - c.loop.counter ≡ 0 = omega arith in
+    rw e at c.loop.invariant

@@ -4,8 +4,9 @@ use Prim.Native.Nat.{◌+◌}
 use Rattle.alias_table.proofs.LoopLaws.{Going}
 use Rattle.alias_table.proofs.play.Given as goal
 
-abbrev pub invariant-loop-nu : goal.invariant-loop-nu
-invariant-loop-nu l = Going l.m l.initial.bins l.initial.work l.under l.over l.bins l.work l.nu l.no
+abbrev pub invariant-turns : goal.invariant-turns
+invariant-turns l =
+    Going l.m l.initial.bins l.initial.work l.fn.first.under l.fn.first.over l.bins l.work l.heights.under l.heights.over
 
-abbrev pub decreases-loop-nu : goal.decreases-loop-nu
-decreases-loop-nu l = l.nu + l.no
+abbrev pub decreases-turns : goal.decreases-turns
+decreases-turns l = l.heights.under + l.heights.over

@@ -13,5 +13,5 @@ returns-then-flat c = rw c.if-flat.true (sym (get_or-replicate _ _ _ _ c.require
 pub returns-else-flat : goal.returns-else-flat
 unfolding weighted
 returns-else-flat c = let args = c.args in
-    rw (c.if-flat.false, c.f32_of_word.ensures)
+    rw (c.if-flat.false, c.of_word.ensures)
     (sym (get_or-map single args.weights.now args.i 0))

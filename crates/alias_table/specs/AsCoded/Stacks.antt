@@ -1,5 +1,6 @@
 -- The game of AliasTable.antt in words: how the two stacks stand in the lent work, and what each step of the code does
 -- to the words. Definitions only. Assumes nothing.
+use Rattle.std.specs.Prelude.{Option, Some, None}
 use Rattle.std.specs.Prelude.{ℕ, zero, suc, ◌+◌, ◌*◌, ◌≤◌, ◌<◌, ◌≡◌, Bool, cond, List, [], ◌∷◌, ◌++◌, map, Float, length, get_or, set, drop, replicate}
 use Rattle.std.specs.Float.{binary32, binary64}
 use Rattle.std.specs.Float.Ieee.{to_bits}
@@ -8,15 +9,15 @@ use Rattle.words.specs.Limits.{max_lamps}
 use Rattle.alias_table.specs.AliasTable.{Bin, Entry, State, any_bad, sum_from}
 use Rattle.alias_table.specs.AliasTable.{start, turns, leftover, finish, bin_words}
 use Rattle.alias_table.specs.declared.Sums.{Sums}
-use Rattle.alias_table.specs.declared.Sums.TheVariants.{Of, Bad}
 
 -- ---- weights
 
--- both sums, from what has been summed so far
-unfoldable pub sums_from : Float → Float → List Float → Sums
-sums_from s d ws = cond (any_bad ws) Bad (Of (sum_from binary32 s ws) (sum_from binary64 d ws))
+-- both sums, from what has been summed so far; none where a weight is bad
+unfoldable pub sums_from : Float → Float → List Float → Option Sums
+sums_from s d ws =
+    cond (any_bad ws) None (Some (record { single = sum_from binary32 s ws; double = sum_from binary64 d ws }))
 
-abbrev pub sums_of : List Float → Sums
+abbrev pub sums_of : List Float → Option Sums
 sums_of ws = sums_from zerof zerof ws
 
 -- the weights, or as many ones

@@ -1,22 +1,19 @@
 -- The parent's kind, the two weights, the child's part. Assumes nothing.
+use Rattle.std.proofs.Common.{rules}
 use Rattle.words.specs.Answers.{◌then◌}
 use Rattle.light_sampler.specs.Walks.{rise}
 use Rattle.light_sampler.proofs.pmf.rise.Goals as goal
 
-pub returns-in-Both : goal.returns-in-Both
+pub returns-in_err-x-in-Interior : goal.returns-in_err-x-in-Interior
 unfolding rise ◌then◌
-returns-in-Both c = rw (← c.requires, c.in-Interior.is)
-    (rw (← c.weigh_children.ensures, c.in-Both.is) c.part_of.ensures)
+returns-in_err-x-in-Interior c = rw (← c.requires, c.in-Interior.is)
+    (rw (← c.in_err-x-in-Interior.ensures) (search rules))
 
-pub returns-in-Refused : goal.returns-in-Refused
+pub returns-in_ok-x-in-Interior : goal.returns-in_ok-x-in-Interior
 unfolding rise ◌then◌
-returns-in-Refused c = rw (← c.requires, c.in-Interior.is)
-    (rw (← c.weigh_children.ensures, c.in-Refused.is))
+returns-in_ok-x-in-Interior c = rw (← c.requires, c.in-Interior.is)
+    (rw (← c.in_ok-x-in-Interior.ensures) c.part_of.ensures)
 
 pub returns-in-Leaf : goal.returns-in-Leaf
 unfolding rise ◌then◌
 returns-in-Leaf c = rw (← c.requires, c.in-Leaf.is)
-
-pub returns-in-Unknown : goal.returns-in-Unknown
-unfolding rise ◌then◌
-returns-in-Unknown c = rw (← c.requires, c.in-Unknown.is)

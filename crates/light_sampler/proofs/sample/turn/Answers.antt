@@ -1,14 +1,14 @@
 -- The two weights, then the fork. Assumes nothing.
 use mathlib.Core.Path.{ap}
+use Rattle.std.proofs.Common.{rules}
 use Rattle.words.specs.Answers.{◌then◌, given}
 use Rattle.light_sampler.specs.Walks.{turn}
 use Rattle.light_sampler.proofs.sample.turn.Goals as goal
 
-pub returns-in-Both : goal.returns-in-Both
+pub returns-in_err-x : goal.returns-in_err-x
 unfolding turn ◌then◌
-returns-in-Both c = rw (← c.weigh_children.ensures, c.in-Both.is)
-    (ap given c.fork.ensures)
+returns-in_err-x c = rw (← c.in_err-x.ensures) (search rules)
 
-pub returns-in-Refused : goal.returns-in-Refused
+pub returns : goal.returns
 unfolding turn ◌then◌
-returns-in-Refused c = rw (← c.weigh_children.ensures, c.in-Refused.is)
+returns c = rw (← c.in_ok-x.ensures) (ap given c.fork.ensures)

@@ -1,13 +1,13 @@
 -- The record, where there is one, is weighed. Assumes nothing.
+use Rattle.std.proofs.Common.{rules}
 use Rattle.words.specs.Answers.{◌then◌}
 use Rattle.light_sampler.specs.Walks.{weigh_at}
 use Rattle.light_sampler.proofs.weigh.weigh_at.Goals as goal
 
-pub returns-in-Record : goal.returns-in-Record
+pub returns-in_err-bounds_at : goal.returns-in_err-bounds_at
 unfolding weigh_at ◌then◌
-returns-in-Record c = rw (← c.bounds_at.ensures, c.in-Record.is)
-    c.weigh_prepared.ensures
+returns-in_err-bounds_at c = rw (← c.in_err-bounds_at.ensures) (search rules)
 
-pub returns-in-Nothing : goal.returns-in-Nothing
+pub returns : goal.returns
 unfolding weigh_at ◌then◌
-returns-in-Nothing c = rw (← c.bounds_at.ensures, c.in-Nothing.is)
+returns c = rw (← c.in_ok-bounds_at.ensures) c.weigh_prepared.ensures

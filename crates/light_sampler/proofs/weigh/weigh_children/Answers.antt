@@ -1,18 +1,17 @@
 -- The left weight in full, then the right one. Assumes nothing.
+use Rattle.std.proofs.Common.{rules}
 use Rattle.words.specs.Answers.{◌then◌}
 use Rattle.light_sampler.specs.Walks.{weights}
 use Rattle.light_sampler.proofs.weigh.weigh_children.Goals as goal
 
-pub returns-in-Importance-weigh_at : goal.returns-in-Importance-weigh_at
+pub returns-in_err-x : goal.returns-in_err-x
 unfolding weights ◌then◌
-returns-in-Importance-weigh_at c = rw (← c.weigh_at.ensures, c.in-Importance.is)
-    (rw (← c.weigh_at-in-Importance.ensures, c.in-Importance-weigh_at.is))
+returns-in_err-x c = rw (← c.in_err-x.ensures) (search rules)
 
-pub returns-in-Refused-weigh_at : goal.returns-in-Refused-weigh_at
+pub returns-in_err-y : goal.returns-in_err-y
 unfolding weights ◌then◌
-returns-in-Refused-weigh_at c = rw (← c.weigh_at.ensures, c.in-Importance.is)
-    (rw (← c.weigh_at-in-Importance.ensures, c.in-Refused-weigh_at.is))
+returns-in_err-y c = rw (← c.in_ok-x.ensures, ← c.in_err-y.ensures) (search rules)
 
-pub returns-in-Refused : goal.returns-in-Refused
+pub returns : goal.returns
 unfolding weights ◌then◌
-returns-in-Refused c = rw (← c.weigh_at.ensures, c.in-Refused.is)
+returns c = rw (← c.in_ok-x.ensures, ← c.in_ok-y.ensures)
