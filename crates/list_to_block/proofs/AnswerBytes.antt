@@ -28,7 +28,7 @@ refusal-room : (n : ℕ) → length (answer_bytes (refused n)) ≤ 4 * block_roo
 unfolding answer_bytes
 refusal-room n = omega (arith, refusal-short n)
 
-pub block_room_lem : (list : List ℕ) (room : ℕ) → length (answer_bytes (build_light_bounds list room)) ≤ 4 * block_room
+block_room_lem : (list : List ℕ) (room : ℕ) → length (answer_bytes (build_light_bounds list room)) ≤ 4 * block_room
 unfolding answer_bytes
 block_room_lem list room = go (build_light_bounds list room) refl
   where
@@ -49,22 +49,30 @@ converted-room list stray = go (crowded list) (eqb stray 0)
 
 -- ---- the block
 
--- lent as many words as there is room for
-module _ (list : List ℕ) (room : ℕ) (sized : room ≡ block_room) where
+module _ (list : List ℕ) (stray : ℕ) where
+  answered-built : (bs : List LightBounds) → answered list stray ≡ given bs → build_light_bounds list block_room ≡ given bs
+  unfolding answered
+  answered-built bs = go (crowded list) (eqb stray 0)
+    where
+      go : (a b : Bool) → cond a (refused 2) (cond b (build_light_bounds list block_room) (refused 1)) ≡ given bs
+          → build_light_bounds list block_room ≡ given bs
+      go true b e = cc
+      go false true e = e
+      go false false e = cc
+
   -- the words at its front
-  pub block-bytes : (before after : List ℕ) (m : ℕ) → given m ≡ count (build_light_bounds list room)
-      → after ≡ tray pack_exhaustive_bounds (block_words (get_or list 0 0)) (build_light_bounds list room) before
-      → (m ≤ max_lamps) × (bytes_of (take (block_words m) after) ≡ answer_bytes (build_light_bounds list block_room))
-  unfolding answer_bytes
+  pub block-bytes : (before after : List ℕ) (m : ℕ) → given m ≡ count (answered list stray)
+      → after ≡ tray pack_exhaustive_bounds (block_words (get_or list 0 0)) (answered list stray) before
+      → (m ≤ max_lamps) × (bytes_of (take (block_words m) after) ≡ converted list stray)
+  unfolding converted answer_bytes
   block-bytes before after m counted is =
-      let (bs, accepted, long) = count-given (build_light_bounds list room) m (sym counted) in
+      let (bs, accepted, long) = count-given (answered list stray) m (sym counted) in
       let words : length (pack_exhaustive_bounds bs) ≡ block_words m = length-block bs ∙ rw long in (
-        omega (arith, built-few list room bs accepted, long),
-        rw (is, ← sized, accepted) (ap bytes_of
+        omega (arith, built-few list block_room bs (answered-built bs accepted), long),
+        rw (is, accepted) (ap bytes_of
             (tray-front pack_exhaustive_bounds (block_words (get_or list 0 0)) (block_words m) bs before words)),
       )
 
-  pub block_refused : (n : ℕ) → refused n ≡ count (build_light_bounds list room)
-      → refusal_line n ≡ answer_bytes (build_light_bounds list block_room)
-  unfolding answer_bytes
-  block_refused n e = rw (← sized, count-refused (build_light_bounds list room) n (sym e))
+  pub block_refused : (n : ℕ) → refused n ≡ count (answered list stray) → refusal_line n ≡ converted list stray
+  unfolding converted answer_bytes
+  block_refused n e = rw (count-refused (answered list stray) n (sym e))

@@ -4,49 +4,66 @@
 // this library and `lamps_to_block` only calls it.
 #![tactic(auto)]
 
-ghost use Rattle.std.specs.Prelude.{◌≡◌, ◌≤◌, length};
+ghost use Rattle.std.specs.Prelude.{◌≡◌, ◌≤◌, length, get_or};
 ghost use Rattle.std.proofs.lemmas.List.Edits.{sets};
-ghost use Rattle.lamps.specs.BuildBounds.{build_light_bounds};
-ghost use Rattle.list_to_block.specs.ListToBlock.{block_room, answer_bytes, converted};
+ghost use Rattle.words.specs.Answers.{answered, count};
+ghost use Rattle.words.specs.Tray.{tray};
+ghost use Rattle.light_rows.specs.Block.{block_words, pack_exhaustive_bounds};
+ghost use Rattle.list_to_block.specs.ListToBlock.{answered as answered_of, converted};
 
 use lamps::build_bounds::build_light_bounds;
-use light_rows::block::EXHAUSTIVE_BOUNDS_WORDS;
+use light_rows::block::{EXHAUSTIVE_BOUNDS_WORDS, block_words};
 use text::{put_refused, put_words};
-use words::limits::crowded;
+use words::limits::{MAX_LAMPS, MAX_WORDS, crowded};
 use words::little_endian::words_of_bytes;
 use words::refusals::Refusal;
 
+// The words that are read at a time.
+const CHUNK_WORDS: usize = 0x4000;
+
+const CHUNK_BYTES: usize = 4 * CHUNK_WORDS;
+
+// The words of the longest list, and a chunk more.
+const LIST_WORDS: usize = MAX_WORDS + CHUNK_WORDS;
+
+// The words of the longest block.
+const BLOCK_WORDS: usize = 1 + EXHAUSTIVE_BOUNDS_WORDS * MAX_LAMPS;
+
+const BLOCK_BYTES: usize = 4 * BLOCK_WORDS;
+
 // ---- the answer's bytes
 
-// Those of a list of whole words within the limits, at the front of `out`; how many.
-fn convert(list: &[u32], block: &mut [u32], out: &mut [u8]) -> usize
-    requires { (length block.old ≡ 57345) × (length out.old ≡ 229380) }
-    ensures out_after { out.new
-        ≡ sets out.old 0 (answer_bytes (build_light_bounds list.now block_room)) }
-    ensures value { result ≡ length (answer_bytes (build_light_bounds list.now block_room)) }
+// The block of any list, with so many stray bytes behind its last word; how many lamps.
+fn build(list: &[u32], stray: usize, block: &mut [u32; BLOCK_WORDS]) -> Result<usize, Refusal>
+    ensures result_value { answered result ≡ count (answered_of list.now stray) }
+    ensures block_after { block.new ≡ tray pack_exhaustive_bounds (block_words (get_or list.now 0 0))
+        (answered_of list.now stray) block.old }
 {
-    match build_light_bounds(list, block) {
-        Ok(m) => {
-            let end = 1 + EXHAUSTIVE_BOUNDS_WORDS * m;
-            put_words(out, &block[0..end])
-        }
-        Err(why) => put_refused(out, 0, why),
+    if crowded(list) {
+        return Err(Refusal::Crowded);
     }
+    if stray != 0 {
+        return Err(Refusal::Ragged);
+    }
+    build_light_bounds(list, block)
 }
 
-// Those of any list, with so many stray bytes behind its last word.
-fn answer(list: &[u32], stray: usize, block: &mut [u32], out: &mut [u8]) -> usize
-    requires { (length block.old ≡ 57345) × (length out.old ≡ 229380) }
+// The answer's bytes, at the front of `out`; how many.
+fn answer(
+    list: &[u32],
+    stray: usize,
+    block: &mut [u32; BLOCK_WORDS],
+    out: &mut [u8; BLOCK_BYTES],
+) -> usize
     ensures out_after { out.new ≡ sets out.old 0 (converted list.now stray) }
     ensures value { result ≡ length (converted list.now stray) }
 {
-    if crowded(list) {
-        return put_refused(out, 0, Refusal::Crowded);
-    }
-    if stray == 0 {
-        convert(list, block, out)
-    } else {
-        put_refused(out, 0, Refusal::Ragged)
+    match build(list, stray, block) {
+        Ok(m) => {
+            let end = block_words(m as u32);
+            put_words(out, &block[..end])
+        }
+        Err(why) => put_refused(out, 0, why),
     }
 }
 
@@ -59,27 +76,28 @@ struct Input {
     stray: usize,
 }
 
-// Reads standard input, a chunk at a time, until it ends or the list has no room for another chunk: then it is
-// over 2^20 words, and what was read tells as much as all of it (proofs/ListToBlockLaws.antt).
-fn read_list(list: &mut [u32], chunk: &mut [u8]) -> Input
-    requires { 4 ≤ length chunk.old }
-    ensures { result.words ≤ length list.old }
+// Reads standard input, a chunk at a time, until it ends or the list is full: then it is over 2^20 words, and what was
+// read tells as much as all of it (proofs/ListToBlockLaws.antt).
+fn read_list(list: &mut [u32; LIST_WORDS], chunk: &mut [u8; CHUNK_BYTES]) -> Input
+    ensures { result.words ≤ LIST_WORDS }
 {
-    let mut words: usize = 0;
-    let mut stray: usize = 0;
-    let each = chunk.len() / 4;
-    while words + each <= list.len() {
+    for i in 0..LIST_WORDS / CHUNK_WORDS {
+        let start = CHUNK_WORDS * i;
         let n = io::read_full(0, chunk);
-        let got = n / 4;
-        let end = 4 * got;
-        let _ = words_of_bytes(&chunk[0..end], &mut list[words..]);
-        words += got;
-        if n < chunk.len() {
-            stray = n % 4;
-            break;
+        let words = n / 4;
+        // Whole words, for which there is room, are not refused.
+        let _ = words_of_bytes(&chunk[..4 * words], &mut list[start..]);
+        if n < CHUNK_BYTES {
+            return Input {
+                words: start + words,
+                stray: n % 4,
+            };
         }
     }
-    Input { words, stray }
+    Input {
+        words: LIST_WORDS,
+        stray: 0,
+    }
 }
 
 // Hands the answer to standard output; the list and the stray bytes are there to say whose it is. A program has
@@ -96,24 +114,15 @@ fn write(list: &[u32], stray: usize, text: &[u8])
     );
 }
 
-fn run(list: &mut [u32], block: &mut [u32], chunk: &mut [u8], out: &mut [u8])
-    requires { (length block.old ≡ 57345) × (4 ≤ length chunk.old) × (length out.old ≡ 229380) }
-{
-    let input = read_list(list, chunk);
-    let words = input.words;
-    let stray = input.stray;
-    let end = answer(&list[0..words], stray, block, out);
-    write(&list[0..words], stray, &out[0..end]);
-}
-
-// Lends room for a list of 2^20 words and a chunk more, for the block of 4,096 lamps, and for its bytes.
-fn lend(
-    list: &mut [u32; 1064960],
-    block: &mut [u32; 57345],
-    chunk: &mut [u8; 65536],
-    out: &mut [u8; 229380],
+fn run(
+    list: &mut [u32; LIST_WORDS],
+    block: &mut [u32; BLOCK_WORDS],
+    chunk: &mut [u8; CHUNK_BYTES],
+    out: &mut [u8; BLOCK_BYTES],
 ) {
-    run(list, block, chunk, out);
+    let Input { words, stray } = read_list(list, chunk);
+    let end = answer(&list[..words], stray, block, out);
+    write(&list[..words], stray, &out[..end]);
 }
 
 // The program `lamps_to_block`, whole; all of its room is on the stack: 4.6 MiB. It gives nothing back: what it hands
@@ -121,9 +130,9 @@ fn lend(
 pub fn lamps_to_block()
     ensures { result ≡ tt }
 {
-    let mut list = [0u32; 1064960];
-    let mut block = [0u32; 57345];
-    let mut chunk = [0u8; 65536];
-    let mut out = [0u8; 229380];
-    lend(&mut list, &mut block, &mut chunk, &mut out);
+    let mut list = [0u32; LIST_WORDS];
+    let mut block = [0u32; BLOCK_WORDS];
+    let mut chunk = [0u8; CHUNK_BYTES];
+    let mut out = [0u8; BLOCK_BYTES];
+    run(&mut list, &mut block, &mut chunk, &mut out);
 }

@@ -6,10 +6,10 @@ use mathlib.Core.List.{List, [], ◌∷◌, ◌++◌}
 use mathlib.Core.Option.{Option, none, some}
 use native.Mathlib.Numerals.{add-one}
 use native.Mathlib.Omega.{arith}
-use borrow.Author.Tests.{lt-ltb, eq-eqb, ne_eqb, ltb-false}
+use borrow.Author.Tests.{lt-ltb, eq-eqb, ne_eqb, eqb-true, eqb-false, ltb-false}
 use lib.Dec.{ltb, leb, eqb}
-use lib.ListN.{length, get_or, drop, length-append}
-use lib.Seq.{sets, sets-eq, length-sets}
+use lib.ListN.{length, get_or, take, drop, length-append}
+use lib.Seq.{sets, sets-eq, length-sets, length-take-le, take-suc, take_all}
 use Rattle.words.specs.Answers.{Answer, given, refused, ◌then◌}
 use Rattle.words.specs.AsCoded.Fill.{filled}
 use Rattle.words.specs.Heads.{kind_of}
@@ -20,7 +20,6 @@ use Rattle.words.specs.Laws.TrayLaws.{tray-full, tray-early}
 use Rattle.words.proofs.AnswerLaws.{Early, Late, then-given, only-given, only-refused, only-cond, only_then}
 use Rattle.words.proofs.AnswerLaws.{only-number, not-both, given_injective}
 use Rattle.words.proofs.LittleEndianLaws.{length-bytes_of, bytes_of-append}
-use Rattle.words.proofs.FillLaws.{filled_within}
 use Rattle.words.proofs.Reserves.{tray-zeroed}
 use Rattle.words.proofs.Stores.{sets-append, drop-sets}
 use Rattle.light_bounds.specs.Bounds.{box_check}
@@ -39,7 +38,7 @@ use Rattle.packed_bvh.specs.Packed.{left_check, pack_node, pack_nodes, header}
 use Rattle.packed_bvh.specs.Packed.{header_words, packed_node_words, packed_place, packed_reserve}
 use Rattle.packed_bvh.specs.Packed.{pack_check, agreed, packed_tree, pack_light_bvh, packed_bytes, bytes_reserve}
 use Rattle.packed_bvh.specs.Packed.{words_packed}
-use Rattle.packed_bvh.specs.AsCoded.PackedParts.{placing, pack_bounds, pack_placed}
+use Rattle.packed_bvh.specs.AsCoded.PackedParts.{placing}
 
 -- ---- words behind words
 
@@ -51,23 +50,31 @@ pub words-none : (d : List ℕ) (p : ℕ) → Words d p [] d
 unfolding bytes_of
 words-none d p = record { is = refl }
 
--- one word more, v, of which it is known that it is w
-pub words-one : {d : List ℕ} {p : ℕ} {ws l m : List ℕ} {v w q : ℕ} → Words d p ws l → m ≡ set_word l q v → v ≡ w
-    → q ≡ p + length ws
-    → 4 * (q + 1) ≤ length d → Words d p (ws ++ w ∷ []) m
+-- the next one
+pub words-next : {d : List ℕ} (ws : List ℕ) {l m : List ℕ} {p i : ℕ} → 4 * (p + length ws) ≤ length d → i < length ws
+    → Words d p (take i ws) l → m ≡ set_word l (p + i) (get_or ws i 0) → Words d p (take (i + 1) ws) m
 unfolding set_word bytes_of
-words-one {d} {p} {ws} {l} {m} {v} {w} {q} h e is place room =
-    let same : length l ≡ length d = ap length h.is ∙ length-sets d (4 * p) (bytes_of ws) in
-    let at : 4 * p + length (bytes_of ws) ≡ 4 * q = omega (arith, length-bytes_of ws) in
-    let put : set_word l q w ≡ sets l (4 * q) (bytes_of_word w) = rw (lt-ltb q (length l / 4) (omega (arith, same))) in
-    let all : sets d (4 * p) (bytes_of (ws ++ w ∷ [])) ≡ sets (sets d (4 * p) (bytes_of ws)) (4 * q) (bytes_of_word w) =
-    ap (sets d (4 * p)) (bytes_of-append ws (w ∷ []))
-    ∙ sets-append d (4 * p) (bytes_of ws) (bytes_of (w ∷ []))
-    ∙ ap (λ (k : ℕ). sets (sets d (4 * p) (bytes_of ws)) k (bytes_of_word w)) at in
+words-next {d} ws {l} {m} {p} {i} room h w e =
+    let old = take i ws in
+    let v = get_or ws i 0 in
+    let long : length old ≡ i = length-take-le i ws (omega arith) in
+    let same : length l ≡ length d = ap length w.is ∙ length-sets d (4 * p) (bytes_of old) in
+    let at : 4 * p + length (bytes_of old) ≡ 4 * (p + i) = omega (arith, length-bytes_of old, long) in
+    let put : set_word l (p + i) v ≡ sets l (4 * (p + i)) (bytes_of_word v) =
+    rw (lt-ltb (p + i) (length l / 4) (omega (arith, same))) in
+    let all : sets d (4 * p) (bytes_of (old ++ v ∷ []))
+    ≡ sets (sets d (4 * p) (bytes_of old)) (4 * (p + i)) (bytes_of_word v) =
+    ap (sets d (4 * p)) (bytes_of-append old (v ∷ []))
+    ∙ sets-append d (4 * p) (bytes_of old) (bytes_of (v ∷ []))
+    ∙ ap (λ (k : ℕ). sets (sets d (4 * p) (bytes_of old)) k (bytes_of_word v)) at in
     record {
-      is = e ∙ ap (set_word l q) is ∙ put ∙ ap (λ (z : List ℕ). sets z (4 * q) (bytes_of_word w)) h.is ∙
-          sym all;
+      is = rw (add-one i, take-suc ws i 0 h) (e ∙ put ∙ ap (λ (z : List ℕ). sets z (4 * (p + i)) (bytes_of_word v)) w.is
+          ∙ sym all);
     }
+
+pub words-all : {d : List ℕ} (ws : List ℕ) {l : List ℕ} {p i : ℕ} → length ws ≤ i → Words d p (take i ws) l
+    → l ≡ sets d (4 * p) (bytes_of ws)
+words-all {d} ws {l} {p} {i} h w = w.is ∙ rw (take_all i ws h)
 
 -- ---- a node
 
@@ -81,40 +88,17 @@ own_checks (given u) (refused n) z w p f = refl
 own_checks (given u) (given v) (refused n) w p f = refl
 own_checks (given u) (given v) (given t) w p f = refl
 
-pub node-placed : (count : ℕ) (all : Bounds3) (ws : List ℕ) (i : ℕ) (n : LightBVHNode) → node_at ws i ≡ given n
-    → pack_node count all ws i ≡ pack_placed all ws i (placing count i n)
-unfolding pack_node pack_placed pack_bounds placing ◌then◌
-node-placed count all ws i n e = rw e (record_of_lem (bounds_at ws i))
-  where
-    unit : (b : LightBounds) (x : Answer Vec3)
-        → (x then λ (d : Vec3). payload_check n then λ _. parent_check count n then λ _. left_check i n then λ _.
-        given (compact_words all b d (payload_word n) (parent n)))
-        ≡ (x then λ (d : Vec3). placing count i n then λ (w : ℕ × ℕ). given (compact_words all b d w.0 w.1))
-    unit b (given d) =
-        own_checks (payload_check n) (parent_check count n) (left_check i n) (payload_word n) (parent n)
-        (λ (w p : ℕ). compact_words all b d w p)
-    unit b (refused k) = refl
-
-    valid : (b : LightBounds) (x : Answer (Unit {0}))
-        → (x then λ _. normalize_by_division b.direction then λ (d : Vec3). payload_check n then λ _. parent_check count
-        n then λ _. left_check i n then λ _.
-        given (compact_words all b d (payload_word n) (parent n)))
-        ≡ (x then λ _. pack_bounds all b (placing count i n))
-    valid b (given u) = unit b (normalize_by_division b.direction)
-    valid b (refused k) = refl
-
-    record_of_lem : (x : Answer LightBounds)
-        → (x then λ (b : LightBounds). validate b then λ _. normalize_by_division b.direction then λ (d : Vec3).
-        payload_check n then λ _. parent_check count n then λ _. left_check i n then λ _. given
-        (compact_words all b d (payload_word n) (parent n)))
-        ≡ (x then λ (b : LightBounds). validate b then λ _. pack_bounds all b (placing count i n))
-    record_of_lem (given b) = valid b (validate b)
-    record_of_lem (refused k) = refl
-
-pub node-refused : (count : ℕ) (all : Bounds3) (ws : List ℕ) (i k : ℕ) → node_at ws i ≡ refused k
-    → pack_node count all ws i ≡ refused k
-unfolding pack_node ◌then◌
-node-refused count all ws i k e = rw e
+-- a node whose record is read, valid and has a direction: its own checks are left
+pub node-placed : (count : ℕ) (all : Bounds3) (ws : List ℕ) (i : ℕ) {n : LightBVHNode} {b : LightBounds} {t : Unit {0}}
+    {d : Vec3}
+    → given n ≡ node_at ws i → given b ≡ bounds_at ws i → given t ≡ validate b
+    → given d ≡ normalize_by_division b.direction
+    → pack_node count all ws i ≡ (placing count i n then λ (w : ℕ × ℕ). given (compact_words all b d w.0 w.1))
+unfolding pack_node placing ◌then◌
+node-placed count all ws i {n} {b} {t} {d} is read valid directed =
+    rw (← is, ← read, ← valid, ← directed)
+    (own_checks (payload_check n) (parent_check count n) (left_check i n) (payload_word n) (parent n)
+    (λ (w p : ℕ). compact_words all b d w p))
 
 -- ---- refusals are late
 
@@ -160,7 +144,8 @@ late_pack count all ws i =
 
 -- ---- how many nodes
 
-pub count-known : (bytes : List ℕ) (n : ℕ) → node_count bytes ≡ given n → (n ≤ max_nodes) × (length bytes / node_bytes ≡ n)
+pub count-known : (bytes : List ℕ) (n : ℕ) → node_count bytes ≡ given n
+    → (n ≤ max_nodes) × (length bytes / node_bytes ≡ n)
 unfolding node_count
 count-known bytes n e = go (ltb max_nodes (length bytes / node_bytes)) refl (eqb (length bytes % node_bytes) 0) e
   where
@@ -324,14 +309,10 @@ module _ (n k : ℕ) where
   unfolding agreed
   agreed-dark all h e = rw (ne_eqb n 0 h, eq-eqb k 0 e)
 
-  module _ (all : Bounds3) (some-node : n ≡ 0 → ⊥) (some-lamp : k ≡ 0 → ⊥) where
-    pub agreed-valid : box_check all ≡ given tt → agreed n k (some all) ≡ given (some all)
-    unfolding agreed ◌then◌
-    agreed-valid e = rw (ne_eqb n 0 some-node, ne_eqb k 0 some-lamp, e)
-
-    pub agreed-refused : (j : ℕ) → box_check all ≡ refused j → agreed n k (some all) ≡ refused j
-    unfolding agreed ◌then◌
-    agreed-refused j e = rw (ne_eqb n 0 some-node, ne_eqb k 0 some-lamp, e)
+  pub agreed-checked : (all : Bounds3) → (n ≡ 0 → ⊥) → (k ≡ 0 → ⊥)
+      → agreed n k (some all) ≡ (box_check all then λ _. given (some all))
+  unfolding agreed
+  agreed-checked all some-node some-lamp = rw (ne_eqb n 0 some-node, ne_eqb k 0 some-lamp)
 
   pub agreed-nothing : n ≡ 0 → k ≡ 0 → agreed n k none ≡ given none
   unfolding agreed
@@ -365,9 +346,38 @@ check-known nodes before n h =
         let same : m ≡ n = given_injective g in
         rw (← same) (few, ltb-false (length before) (4 * packed_reserve m) e, ap (λ (z : ℕ). 4 * packed_reserve z) is)
 
--- nothing is zeroed where there are no nodes
-pub filled_none : (l : List ℕ) (n : ℕ) → n ≡ 0 → l ≡ filled l 0 (4 * packed_reserve n) 0
-filled_none l n e = rw e (sym (filled_within l 0 0 0 zero-le zero-le))
+-- what agrees has nodes where there is a box, and none without
+module _ (n k : ℕ) where
+  pub agreed-some : (all : Option Bounds3) {box : Bounds3} → agreed n k all ≡ given (some box) → 0 < n
+  unfolding agreed ◌then◌
+  agreed-some none {box} e = go (eqb n 0 && eqb k 0) e
+    where
+      go : (b : Bool) → cond b (given none) (refused 12) ≡ given (some box) → 0 < n
+      go true e = cc
+      go false e = cc
+  agreed-some (some all) {box} e = go (eqb n 0) refl (eqb k 0) e
+    where
+      go : (a : Bool) → eqb n 0 ≡ a → (b : Bool)
+          → cond (a || b) (refused 12) (box_check all then λ _. given (some all)) ≡ given (some box)
+          → 0 < n
+      go true is b e = cc
+      go false is b e = omega (arith, eqb-false n 0 is)
+
+  pub agreed-none : (all : Option Bounds3) → agreed n k all ≡ given none → n ≡ 0
+  unfolding agreed ◌then◌
+  agreed-none none e = go (eqb n 0) refl (eqb k 0) none e
+    where
+      go : (a : Bool) → eqb n 0 ≡ a → (b : Bool) (v : Option Bounds3) → cond (a && b) (given v) (refused 12) ≡ given v
+          → n ≡ 0
+      go true is b v e = eqb-true n 0 is
+      go false is b v e = cc
+  agreed-none (some all) e = go (eqb n 0 || eqb k 0) (box_check all) e
+    where
+      go : (b : Bool) (x : Answer (Unit {0})) → cond b (refused 12) (x then λ _. given (some all)) ≡ given none
+          → n ≡ 0
+      go true x e = cc
+      go false (given u) e = cc
+      go false (refused j) e = cc
 
 module _ (nodes : List ℕ) (k : ℕ) (all : Option Bounds3) (before : List ℕ) where
   -- what is answered, and what is left in the lent bytes

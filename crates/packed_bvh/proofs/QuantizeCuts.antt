@@ -11,7 +11,7 @@ use lib.Ieee.Fits.{mul-fits}
 use Rattle.ieee.specs.Single.{◌⊕◌, ◌⊗◌, ◌⊘◌, half, onef, twof}
 use Rattle.ieee.specs.Whole.{round_away, to_u16, to_u32}
 use Rattle.packed_bvh.specs.Quantize.{last_step, last_cos_step, steps_of, quantize_bounds, quantize_cos, quantize_axis}
-use Rattle.packed_bvh.specs.Laws.QuantizeLaws.{steps-fit, quantize-small}
+use Rattle.packed_bvh.specs.Laws.QuantizeLaws.{steps-fit, quantize-small, quantize-axis-small}
 use Rattle.ieee.specs.Laws.CutLaws.{cut-floor, cut-ceil, cut-round, cut-least}
 
 -- ---- coordinates, on an axis with extent
@@ -33,9 +33,9 @@ module _ (value lo hi : Float) (extent : eq lo hi ≡ false) where
 
 -- ---- cosines
 
-pub cos-cut : (c : Float) → to_u16 (last_cos_step ⊗ ((c ⊕ onef) ⊘ twof)) ≡ quantize_cos c
+pub cut_cos : (c : Float) → to_u16 (last_cos_step ⊗ ((c ⊕ onef) ⊘ twof)) ≡ quantize_cos c
 unfolding quantize_cos to_u16
-cos-cut c =
+cut_cos c =
     let s = last_cos_step ⊗ ((c ⊕ onef) ⊘ twof) in
     sym (cut-floor binary32 16 s (mul-fits binary32 last_cos_step ((c ⊕ onef) ⊘ twof)))
 
@@ -64,3 +64,6 @@ module _ (c : Float) (n : ℕ) (is : n ≡ to_u32 ((c ⊕ onef) ⊗ half ⊗ las
       go : (b : Bool) → cond b (n + 1) n ≡ cond (ltb 65535 (cond b (n + 1) n)) 65535 (cond b (n + 1) n)
       go true = rw (le-ltb 65535 (n + 1) (omega arith))
       go false = rw (le-ltb 65535 n (omega arith))
+
+-- a step takes sixteen bits
+pub ruleset small_steps = (quantize-small, quantize-axis-small)

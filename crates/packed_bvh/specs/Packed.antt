@@ -1,6 +1,7 @@
 -- `pack_light_bvh` of `webgpu/light_bvh.rs`, in R9's order: 2, 1, 3, then the Rust's. A header, the overall
 -- box's corners, and so many words a node. Definitions only. Assumes nothing.
-use Rattle.std.specs.Prelude.{ℕ, zero, suc, ◌+◌, ◌*◌, ◌/◌, true, false, cond, ◌&&◌, ◌||◌, List, [], ◌∷◌, ◌++◌, eqb, ltb, length}
+use Rattle.std.specs.Prelude.{ℕ, zero, suc, ◌+◌, ◌*◌, ◌/◌, true, false, cond, ◌&&◌, ◌||◌}
+use Rattle.std.specs.Prelude.{List, [], ◌∷◌, ◌++◌, eqb, ltb, length}
 use Rattle.std.proofs.Math.Option.{Option, none, some}
 use Rattle.std.specs.Float.{binary32}
 use Rattle.std.specs.Float.Ieee.{to_bits}
@@ -132,7 +133,8 @@ packed_tree ws n (some all) = pack_nodes n all ws n then λ (nodes : List ℕ). 
 -- node words as bytes, k, the overall box or its absence
 unfoldable pub pack_light_bvh : List ℕ → ℕ → Option Bounds3 → ℕ → Answer (Option (List ℕ))
 pack_light_bvh nodes k all room =
-    pack_check nodes room then λ (n : ℕ). agreed n k all then λ (box : Option Bounds3). packed_tree (words_of nodes) n box
+    pack_check nodes room then λ (n : ℕ). agreed n k all then λ (box : Option Bounds3).
+    packed_tree (words_of nodes) n box
 
 -- ---- what is written and answered
 

@@ -9,36 +9,40 @@ use light_bounds::vecmath::{Vec3, divide_vector};
 
 // ---- coordinates within an axis, in 65535 steps; 0 on an axis without extent
 
+#[tactic(auto, unfolding(crate::specs::Quantize::steps_of))]
 fn steps(value: f32, min: f32, max: f32) -> f32
     ensures { result ≡ steps_of value min max }
 {
     clamp((value - min) / (max - min), 0.0, 1.0) * 65535.0
 }
 
-// Down to a whole step.
-pub fn quantize_down(value: f32, min: f32, max: f32) -> u32
-    ensures { result ≡ quantize_bounds false value min max }
-{
-    if min == max {
-        return 0;
-    }
-    to_u32(steps(value, min, max))
-}
-
-// Up to a whole step.
-pub fn quantize_up(value: f32, min: f32, max: f32) -> u32
-    ensures { result ≡ quantize_bounds true value min max }
+// Up or down to a whole step.
+fn quantize_bounds(up: bool, value: f32, min: f32, max: f32) -> u32
+    ensures { result ≡ quantize_bounds up value min max }
 {
     if min == max {
         return 0;
     }
     let step = steps(value, min, max);
     let n = to_u32(step);
-    if (n as f32) < step { n + 1 } else { n }
+    if up && (n as f32) < step { n + 1 } else { n }
+}
+
+pub fn quantize_down(value: f32, min: f32, max: f32) -> u32
+    ensures { result ≡ quantize_bounds false value min max }
+{
+    quantize_bounds(false, value, min, max)
+}
+
+pub fn quantize_up(value: f32, min: f32, max: f32) -> u32
+    ensures { result ≡ quantize_bounds true value min max }
+{
+    quantize_bounds(true, value, min, max)
 }
 
 // ---- cosines, in 32767 steps from -1 to 1
 
+#[tactic(auto, using(crate::proofs::QuantizeCuts::cut_cos))]
 pub fn quantize_cos(value: f32) -> u16
     ensures { result ≡ quantize_cos value }
 {
@@ -53,6 +57,7 @@ fn sign(value: f32) -> f32
     if is_sign_negative(value) { -1.0 } else { 1.0 }
 }
 
+#[tactic(auto, unfolding(crate::specs::Quantize::folded))]
 fn fold(d: Vec3) -> Vec3
     ensures { result ≡ folded d }
 {
@@ -67,6 +72,7 @@ fn fold(d: Vec3) -> Vec3
 }
 
 // The direction on the octahedron, folded out.
+#[tactic(auto, unfolding(crate::specs::Quantize::octahedral))]
 pub fn octahedral(v: Vec3) -> Vec3
     ensures { result ≡ octahedral_of v }
 {

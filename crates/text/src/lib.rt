@@ -3,79 +3,21 @@
 // where the slice has no room for all, it writes none and answers 0.
 #![tactic(auto)]
 
-ghost use Rattle.std.specs.Prelude.{◌≡◌, ◌+◌, ◌≤◌, ◌<◌, length};
+ghost use Rattle.std.specs.Prelude.{◌≡◌, length};
 ghost use Rattle.std.proofs.lemmas.List.Edits.{sets};
-ghost use Rattle.io.specs.Digits.{last_digits, hex_digit_ascii as glyph_of};
 ghost use Rattle.words.specs.LittleEndian.{bytes_of};
 ghost use Rattle.words.specs.Refusals.{number};
-ghost use Rattle.text.specs.Text.{places as places_of, decimal_bytes, hex_bytes, refusal_line};
+ghost use Rattle.text.specs.Text.{decimal_bytes, hex_bytes, refusal_line};
 ghost use Rattle.text.specs.AsCoded.Puts.{fitting};
 
 use words::limits::fits;
 use words::little_endian::bytes_of_words;
 use words::refusals::Refusal;
 
-// ---- where there is room
-
-fn glyph(d: u32) -> u8
-    requires { d < 16 }
-    ensures { result ≡ glyph_of d }
-{
-    if d < 10 { 48 + d as u8 } else { 87 + d as u8 }
-}
-
-// Writes the last k digits of n, the most significant first.
-fn lay_digits(out: &mut [u8], at: usize, base: u32, k: usize, n: u32)
-    requires { (0 < base) × (base ≤ 16) × (at + k ≤ length out.old) }
-    ensures { out.new ≡ sets out.old at (last_digits base k n) }
-{
-    let mut i = k;
-    let mut rest = n;
-    while i > 0 {
-        i -= 1;
-        out[at + i] = glyph(rest % base);
-        rest /= base;
-    }
-}
-
-fn lay_text(out: &mut [u8], at: usize, text: &[u8])
-    requires { at + length text.now ≤ length out.old }
-    ensures { out.new ≡ sets out.old at text.now }
-{
-    let mut i = 0;
-    while i < text.len() {
-        out[at + i] = text[i];
-        i += 1;
-    }
-}
-
-// How many decimal digits a word has.
-fn places(n: u32) -> usize
-    ensures value { result ≡ places_of n }
-    ensures upper_bound { result ≤ 10 }
-{
-    let mut k = 1;
-    let mut rest = n;
-    while k < 10 && rest >= 10 {
-        rest /= 10;
-        k += 1;
-    }
-    k
-}
-
-// The line of refusal n, which has k digits.
-fn lay_refused(out: &mut [u8], at: usize, k: usize, n: u32)
-    requires { (k ≡ places_of n) × (k ≤ 10) × (at + (9 + k) ≤ length out.old) }
-    ensures { out.new ≡ sets out.old at (refusal_line n) }
-{
-    lay_text(out, at, b"refused ");
-    let number_at = at + 8;
-    lay_digits(out, number_at, 10, k, n);
-    let end = number_at + k;
-    out[end] = b'\n';
-}
-
 // ---- at a place
+
+// The places are numbers, and no writer keeps them beside the lent slice: its methods' contracts would say of each call
+// that it kept that slice, besides what these say.
 
 pub fn put_text(out: &mut [u8], at: usize, text: &[u8]) -> usize
     ensures out_after { out.new
@@ -84,7 +26,7 @@ pub fn put_text(out: &mut [u8], at: usize, text: &[u8]) -> usize
 {
     let count = text.len();
     if fits(out.len(), at, count) {
-        lay_text(out, at, text);
+        out[at..at + count].copy_from_slice(text);
         return count;
     }
     0
@@ -96,12 +38,9 @@ pub fn put_decimal(out: &mut [u8], at: usize, n: u32) -> usize
         ≡ sets out.old at (fitting out.old at (decimal_bytes n)) }
     ensures value { result ≡ length (fitting out.old at (decimal_bytes n)) }
 {
-    let count = places(n);
-    if fits(out.len(), at, count) {
-        lay_digits(out, at, 10, count, n);
-        return count;
-    }
-    0
+    let mut digits = [0u8; 20];
+    let count = io::decimal(n as u64, &mut digits);
+    put_text(out, at, &digits[..count])
 }
 
 // A word's eight hexadecimal digits.
@@ -110,11 +49,9 @@ pub fn put_hex(out: &mut [u8], at: usize, n: u32) -> usize
         ≡ sets out.old at (fitting out.old at (hex_bytes n)) }
     ensures value { result ≡ length (fitting out.old at (hex_bytes n)) }
 {
-    if fits(out.len(), at, 8) {
-        lay_digits(out, at, 16, 8, n);
-        return 8;
-    }
-    0
+    let mut digits = [0u8; 16];
+    let count = io::hex(n as u64, 8, &mut digits);
+    put_text(out, at, &digits[..count])
 }
 
 // A refusal's line.
@@ -123,14 +60,11 @@ pub fn put_refused(out: &mut [u8], at: usize, why: Refusal) -> usize
         ≡ sets out.old at (fitting out.old at (refusal_line (number why))) }
     ensures value { result ≡ length (fitting out.old at (refusal_line (number why))) }
 {
-    let n = why.number();
-    let k = places(n);
-    let count = 9 + k;
-    if fits(out.len(), at, count) {
-        lay_refused(out, at, k, n);
-        return count;
-    }
-    0
+    let mut line = [0u8; 19];
+    let number_at = put_text(&mut line, 0, b"refused ");
+    let end = number_at + put_decimal(&mut line, number_at, why.number());
+    let count = end + put_text(&mut line, end, b"\n");
+    put_text(out, at, &line[..count])
 }
 
 // ---- at the front

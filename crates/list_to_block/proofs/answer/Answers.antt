@@ -1,30 +1,41 @@
--- The definition's two tests in its order, and a line or the list's own answer behind each. Assumes nothing.
+-- The block's words stand at its front, and there is room for the bytes of any answer. Assumes nothing.
 use Prim.Native.Nat.{◌+◌, ◌≤◌}
-use mathlib.Core.Path.{sym, ◌∙◌}
+use mathlib.Core.Path.{◌≡◌}
 use native.Mathlib.Omega.{arith}
-use borrow.Author.Tests.{eq-eqb, ne_eqb}
-use lib.ListN.{length}
-use Rattle.text.specs.Text.{refusal_line}
-use Rattle.text.proofs.PutLaws.{fitting-all, refusal-short}
-use Rattle.list_to_block.specs.ListToBlock.{answered, answer_bytes, converted}
+use lib.ListN.{length, take}
+use Rattle.words.specs.LittleEndian.{bytes_of}
+use Rattle.words.specs.Limits.{max_lamps}
+use Rattle.light_rows.specs.Block.{block_words}
+use Rattle.text.proofs.PutLaws.{fitting-all}
+use Rattle.list_to_block.specs.ListToBlock.{converted}
+use Rattle.list_to_block.proofs.AnswerBytes.{converted-room, block-bytes, block_refused}
 use Rattle.list_to_block.proofs.answer.Goals as goal
+use Rattle.list_to_block.proofs.answer.Goals.{After-build, In-Ok}
 
-pub returns-then-crowded : goal.returns-then-crowded
-unfolding converted answered answer_bytes
-returns-then-crowded c = let room : 0 + length (refusal_line 2) ≤ length c.args.out.now = omega
-    (arith, refusal-short 2, c.requires.1) in
-    rw (sym c.crowded.ensures ∙ c.if-crowded.true)
-    (rw (fitting-all _ 0 (refusal_line 2) room) at c.put_refused.ensures)
+room : (c : After-build) → 0 + length (converted c.args.list.now c.args.stray) ≤ length c.args.out.now
+room c = omega (arith, converted-room c.args.list.now c.args.stray, c.told-out)
 
-pub returns-then-stray-eq0 : goal.returns-then-stray-eq0
-unfolding converted answered answer_bytes
-returns-then-stray-eq0 c = rw (sym c.crowded.ensures ∙ c.if-crowded.false)
-    (rw (eq-eqb _ 0 c.if-stray-eq0.true) c.convert.ensures)
+block : (c : In-Ok)
+    → (c.in-Ok.m ≤ max_lamps)
+    × (bytes_of (take (block_words c.in-Ok.m) c.build.new.block) ≡ converted c.args.list.now c.args.stray)
+block c = block-bytes c.args.list.now c.args.stray _ _ c.in-Ok.m c.in-Ok.ensures.result_value c.build.ensures.block_after
 
-pub returns-else-stray-eq0 : goal.returns-else-stray-eq0
-unfolding converted answered answer_bytes
-returns-else-stray-eq0 c = let room : 0 + length (refusal_line 1) ≤ length c.args.out.now = omega
-    (arith, refusal-short 1, c.requires.1) in
-    rw (sym c.crowded.ensures ∙ c.if-crowded.false)
-    (rw (ne_eqb _ 0 c.if-stray-eq0.false)
-    (rw (fitting-all _ 0 (refusal_line 1) room) at c.put_refused-else-stray-eq0.ensures))
+pub overflow_cast-m : goal.overflow_cast-m
+overflow_cast-m c = record { fits = omega (arith, (block (goal.at.overflow_cast-m c).In-Ok).0) }
+
+pub shared_ref_as_front-put_words : goal.shared_ref_as_front-put_words
+shared_ref_as_front-put_words c =
+    omega (arith, (block (goal.at.shared_ref_as_front-put_words c).In-Ok).0, c.block_words-end.ensures)
+
+pub returns-in-Ok : goal.returns-in-Ok
+returns-in-Ok c =
+    let at = goal.at.returns-in-Ok c in
+    rw (c.block_words-end.ensures, (block at.In-Ok).1, fitting-all _ 0 _ (room at.After-build)) at c.put_words.ensures
+
+pub returns-in-Err : goal.returns-in-Err
+returns-in-Err c =
+    rw (
+      block_refused c.args.list.now c.args.stray _ c.in-Err.ensures.result_value,
+      fitting-all _ 0 _ (room (goal.at.returns-in-Err c).After-build),
+    ) at
+    c.put_refused.ensures

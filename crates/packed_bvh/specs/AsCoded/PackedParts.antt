@@ -1,42 +1,24 @@
 -- What the parts of the packing answer. Definitions only. Assumes nothing.
-use Rattle.std.specs.Prelude.{ℕ, List, [], ◌∷◌}
-use Rattle.words.specs.Answers.{Answer, given, refused, ◌then◌}
+use Rattle.std.specs.Prelude.{ℕ, Result, Ok, Err, Option as Option-of-std}
+use Rattle.std.proofs.Math.Option.{Option}
+use Rattle.words.specs.Answers.{Answer, given, refused, optional, ◌then◌}
 use Rattle.words.specs.Refusals.{number}
-use Rattle.light_bounds.specs.LightBounds.{validate}
-use Rattle.light_bounds.specs.Vecmath.{normalize_by_division}
+use Rattle.words.specs.declared.refusals.Refusal.{Refusal}
 use Rattle.light_bounds.specs.declared.bounds.Bounds3.{Bounds3}
-use Rattle.light_bounds.specs.declared.light_bounds.LightBounds.{LightBounds}
-use Rattle.light_bounds.specs.declared.vecmath.Vec3.{Vec3}
-use Rattle.light_rows.specs.Nodes.{LightBVHNode, parent, bounds_at}
-use Rattle.packed_bvh.specs.Packed.{payload_word, compact_words, payload_check, parent_check, left_check}
-use Rattle.packed_bvh.specs.declared.pack.Compact.{Compact}
+use Rattle.light_rows.specs.Nodes.{LightBVHNode, parent}
+use Rattle.packed_bvh.specs.Packed.{payload_word, payload_check, parent_check, left_check}
 use Rattle.packed_bvh.specs.declared.pack.Placed.{Placed}
-use Rattle.packed_bvh.specs.declared.pack.Placed.TheVariants.{Words as Placed-as-Words, Refused as Placed-as-Refused}
-use Rattle.packed_bvh.specs.declared.pack.PackedNode.{PackedNode}
-use Rattle.packed_bvh.specs.declared.pack.PackedNode.TheVariants.{Words, Refused}
-
-abbrev pub compact_list : Compact → List ℕ
-compact_list c =
-    c.min_xy ∷ c.min_z_max_x ∷ c.max_yz ∷ c.direction ∷ c.phi ∷ c.cone ∷ c.payload ∷ c.parent ∷ []
 
 -- the payload's word and the parent of a node that passes its own checks
 unfoldable pub placing : ℕ → ℕ → LightBVHNode → Answer (ℕ × ℕ)
 placing count i n =
     payload_check n then λ _. parent_check count n then λ _. left_check i n then λ _. given (payload_word n, parent n)
 
-abbrev pub placed : Placed → Answer (ℕ × ℕ)
-placed (Placed-as-Words w p) = given (w, p)
-placed (Placed-as-Refused r) = refused (number r)
+abbrev pub placed : Result Placed Refusal → Answer (ℕ × ℕ)
+placed (Ok p) = given (p.payload, p.parent)
+placed (Err why) = refused (number why)
 
--- the words of the node at a place, its own checks behind its record's
-unfoldable pub pack_bounds : Bounds3 → LightBounds → Answer (ℕ × ℕ) → Answer (List ℕ)
-pack_bounds all b place =
-    normalize_by_division b.direction then λ (d : Vec3). place then λ (w : ℕ × ℕ). given
-    (compact_words all b d w.0 w.1)
-
-unfoldable pub pack_placed : Bounds3 → List ℕ → ℕ → Answer (ℕ × ℕ) → Answer (List ℕ)
-pack_placed all ws i place = bounds_at ws i then λ (b : LightBounds). validate b then λ _. pack_bounds all b place
-
-abbrev pub node_packed : PackedNode → Answer (List ℕ)
-node_packed (Words c) = given (compact_list c)
-node_packed (Refused r) = refused (number r)
+-- the box that nodes and lamps agree with, where there is one
+abbrev pub agreement : Result (Option-of-std Bounds3) Refusal → Answer (Option Bounds3)
+agreement (Ok box) = given (optional box)
+agreement (Err why) = refused (number why)

@@ -39,7 +39,8 @@ read_box u v w =
 
 -- of the node at a place of packed words
 abbrev pub box_at : List ℕ → ℕ → StepBox
-box_at ws i = read_box (get_or ws (packed_place i) 0) (get_or ws (packed_place i + 1) 0) (get_or ws (packed_place i + 2) 0)
+box_at ws i =
+    read_box (get_or ws (packed_place i) 0) (get_or ws (packed_place i + 1) 0) (get_or ws (packed_place i + 2) 0)
 
 -- a box's steps within the overall box: its minimum down, its maximum up
 unfoldable pub box_steps : Bounds3 → Bounds3 → StepBox

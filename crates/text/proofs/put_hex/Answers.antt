@@ -1,20 +1,7 @@
--- The test of the room decides between all eight digits and none. Assumes nothing.
-use mathlib.Core.Path.{sym, ◌∙◌}
-use borrow.Author.Rules.{rules}
-use Rattle.text.specs.Text.{hex_bytes}
-use Rattle.text.proofs.PutLaws.{room-told, put_all, put-none, length_hex}
+-- What the library lays into the array are the word's eight digits. Assumes nothing.
+use native.Mathlib.Omega.{arith}
+use Rattle.text.proofs.PutLaws.{hex-laid}
 use Rattle.text.proofs.put_hex.Goals as goal
 
-pub lay_digits-requires : goal.lay_digits-requires
-lay_digits-requires c = (search rules, search rules, room-told c.fits.ensures c.if-fits.true)
-
-pub returns-then-fits : goal.returns-then-fits
-unfolding hex_bytes
-returns-then-fits c =
-    let h = put_all _ _ _ 8 (length_hex c.args.n) (sym c.fits.ensures ∙ c.if-fits.true) c.lay_digits.ensures in
-    record { out_after = h.0; value = h.1 }
-
 pub returns : goal.returns
-returns c =
-    let h = put-none _ _ _ 8 (length_hex c.args.n) (sym c.fits.ensures ∙ c.if-fits.false) in
-    record { out_after = h.0; value = h.1 }
+returns c = rw (hex-laid (omega arith) c.hex-count.ensures.len c.hex-count.ensures.digits) at c.put_text.ensures

@@ -1,25 +1,48 @@
--- `packed_bvh::pack::pack_node`: by the node's kind, with its own checks taken before its record's, which are judged
--- first. Assumes nothing.
-use mathlib.Core.Path.{sym, ◌∙◌}
-use Rattle.words.specs.LittleEndian.{words_of}
-use Rattle.light_rows.specs.Nodes.{leaf, interior}
-use Rattle.packed_bvh.proofs.PackLaws.{node-placed, node-refused}
+-- `packed_bvh::pack::pack_node`: its steps are the definition's, whose last three `place` takes together. Assumes
+-- nothing.
+use borrow.Author.Rules.{rules}
+use Rattle.words.specs.Answers.{◌then◌}
+use Rattle.packed_bvh.specs.Packed.{pack_node}
+use Rattle.packed_bvh.proofs.PackLaws.{node-placed}
 use Rattle.packed_bvh.proofs.pack.pack_node.Goals as goal
 
-pub returns-in-Leaf : goal.returns-in-Leaf
-returns-in-Leaf c = let args = c.args in
-    let n = leaf c.in-Leaf.handle c.in-Leaf.parent in
-    c.pack_placed.ensures
-    ∙ rw c.place_leaf.ensures
-    (sym (node-placed args.count args.all (words_of args.nodes.now) args.index n (sym c.in-Leaf.ensures)))
+pub returns-in_err-node : goal.returns-in_err-node
+unfolding pack_node ◌then◌
+returns-in_err-node c = rw (← c.in_err-node.ensures) (search rules)
 
-pub returns-in-Interior : goal.returns-in-Interior
-returns-in-Interior c = let args = c.args in
-    let n = interior c.in-Interior.left c.in-Interior.right c.in-Interior.parent in
-    c.pack_placed-in-Interior.ensures
-    ∙ rw c.place_interior.ensures
-    (sym (node-placed args.count args.all (words_of args.nodes.now) args.index n (sym c.in-Interior.ensures)))
+pub returns-in_err-bounds : goal.returns-in_err-bounds
+unfolding pack_node ◌then◌
+returns-in_err-bounds c = rw (← c.in_ok-node.ensures, ← c.in_err-bounds.ensures) (search rules)
 
-pub returns-in-Unknown : goal.returns-in-Unknown
-returns-in-Unknown c = let args = c.args in
-    sym (node-refused args.count args.all (words_of args.nodes.now) args.index 12 (sym c.in-Unknown.ensures))
+pub returns-in_err-validate : goal.returns-in_err-validate
+unfolding pack_node ◌then◌
+returns-in_err-validate c =
+    rw (← c.in_ok-node.ensures, ← c.in_ok-bounds.ensures, ← c.in_err-validate.ensures) (search rules)
+
+pub returns-in_err-d : goal.returns-in_err-d
+unfolding pack_node ◌then◌
+returns-in_err-d c = rw (
+  ← c.in_ok-node.ensures,
+  ← c.in_ok-bounds.ensures,
+  ← c.in_ok-validate.ensures,
+  ← c.in_err-d.ensures,
+) (search rules)
+
+pub returns-in_err-placed : goal.returns-in_err-placed
+unfolding ◌then◌
+returns-in_err-placed c =
+    rw (
+      node-placed c.args.count c.args.all _ c.args.index c.in_ok-node.ensures c.in_ok-bounds.ensures
+          c.in_ok-validate.ensures c.in_ok-d.ensures,
+      ← c.in_err-placed.ensures,
+    ) (search rules)
+
+pub returns : goal.returns
+unfolding ◌then◌
+returns c =
+    rw (
+      node-placed c.args.count c.args.all _ c.args.index c.in_ok-node.ensures c.in_ok-bounds.ensures
+          c.in_ok-validate.ensures c.in_ok-d.ensures,
+      ← c.in_ok-placed.ensures,
+      c.compact_words.ensures,
+    )

@@ -1,36 +1,31 @@
 -- `packed_bvh::pack::pack_nodes`: after i turns the words of i nodes stand behind the header (Packing); the first node
 -- that is refused zeroes them all. Assumes nothing.
-use mathlib.Core.Path.{refl, sym}
+use mathlib.Core.Path.{sym}
 use native.Mathlib.Omega.{arith}
 use Rattle.words.specs.LittleEndian.{words_of}
 use Rattle.words.specs.Refusals.{number}
-use Rattle.packed_bvh.specs.AsCoded.PackedParts.{compact_list}
 use Rattle.packed_bvh.proofs.PackLaws.{packing-none, packing-one, outcome-refused, outcome-given}
 use Rattle.packed_bvh.proofs.pack.pack_nodes.Goals as goal
 
 pub loop-i-init : goal.loop-i-init
-loop-i-init c = (omega arith, packing-none c.args.all (words_of c.args.nodes.now) c.args.n _)
+loop-i-init c = packing-none c.args.all (words_of c.args.nodes.now) c.args.n _
 
 pub loop-i-preserved : goal.loop-i-preserved
-loop-i-preserved c = let args = c.args in
-    let told = sym c.in-Words.ensures in (
-      omega arith,
-      packing-one args.all (words_of args.nodes.now) args.n (compact_list c.in-Words.c) c.loop-i.invariant.1 told refl
-          c.write_compact.ensures,
-    )
+loop-i-preserved c =
+    packing-one c.args.all (words_of c.args.nodes.now) c.args.n c.in-Ok.words c.loop-i.invariant (sym c.in-Ok.ensures)
+    (omega arith) c.write_words-in-Ok.ensures
 
-pub returns-in-Refused : goal.returns-in-Refused
-returns-in-Refused c = let args = c.args in
-    let told = sym c.in-Refused.ensures in
+pub returns-in-Err : goal.returns-in-Err
+returns-in-Err c =
     let h =
-    outcome-refused args.all (words_of args.nodes.now) args.n args.out.now c.requires.n_nonzero c.requires.n_in_bounds
-    c.write_header.ensures c.loop-i.invariant.1 (number c.in-Refused.why) c.loop-i-test.true told
-    (rw (← c.reserve.ensures) c.zero_bytes.ensures) in
+    outcome-refused c.args.all (words_of c.args.nodes.now) c.args.n c.args.out.now c.requires.n_nonzero
+    c.requires.n_in_bounds (rw c.header.ensures at c.write_words.ensures) c.loop-i.invariant (number c.in-Err.why)
+    c.loop-i-test.true (sym c.in-Err.ensures) c.zero_reserve.ensures in
     record { result_value = h.0; out_after = h.1 }
 
 pub returns : goal.returns
-returns c = let args = c.args in
+returns c =
     let h =
-    outcome-given args.all (words_of args.nodes.now) args.n args.out.now c.requires.n_nonzero c.requires.n_in_bounds
-    c.write_header.ensures c.loop-i.invariant.1 (omega arith) in
-    rw c.reserve-2.ensures (record { result_value = h.0; out_after = h.1 })
+    outcome-given c.args.all (words_of c.args.nodes.now) c.args.n c.args.out.now c.requires.n_nonzero
+    c.requires.n_in_bounds (rw c.header.ensures at c.write_words.ensures) c.loop-i.invariant (omega arith) in
+    rw c.reserve.ensures (record { result_value = h.0; out_after = h.1 })

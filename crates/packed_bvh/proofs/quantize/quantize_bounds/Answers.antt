@@ -1,5 +1,5 @@
--- `packed_bvh::quantize::quantize_up`: nothing on an axis without extent, else the steps are cut, and one more where
--- they are past that. Assumes nothing.
+-- `packed_bvh::quantize::quantize_bounds`: nothing on an axis without extent, else the steps are cut, and, upwards, one
+-- more where they are past that. Assumes nothing.
 use Prim.Native.Nat.{◌^◌, ◌≤◌}
 use mathlib.Core.Path.{◌≡◌, ◌∙◌, ap}
 use native.Mathlib.Omega.{arith}
@@ -7,9 +7,10 @@ use borrow.Author.Tests.{le-leb}
 use lib.Ieee.{in_float}
 use Rattle.ieee.specs.Whole.{to_u32}
 use Rattle.packed_bvh.specs.Quantize.{steps_of, quantize_bounds}
-use Rattle.packed_bvh.proofs.QuantizeCuts.{cut_small, up-cut}
-use Rattle.packed_bvh.proofs.quantize.quantize_up.Goals as goal
-use Rattle.packed_bvh.proofs.quantize.quantize_up.Goals.{After-to_u32-n}
+use Rattle.packed_bvh.proofs.QuantizeCuts.{cut_small, down-cut, up-cut}
+use Rattle.packed_bvh.proofs.quantize.quantize_bounds.Goals as goal
+use Rattle.packed_bvh.proofs.quantize.quantize_bounds.Goals.{After-to_u32-n}
+use Rattle.packed_bvh.proofs.quantize.quantize_bounds.Goals.{else-up-via-then-up+else-n-step, else-up-via-else-up}
 
 module _ (c : After-to_u32-n) where
   cut : c.to_u32-n.result ≡ to_u32 (steps_of c.args.value c.args.min c.args.max)
@@ -32,16 +33,22 @@ overflow_add-result c = omega (arith, small (goal.at.overflow_add-result c).Afte
 
 pub returns-then-n-step : goal.returns-then-n-step
 returns-then-n-step c = rw (
+  c.if-up.true,
   ← up-cut _ _ _ c.if-min-max.false c.to_u32-n.result
       (cut (goal.at.returns-then-n-step c).After-to_u32-n),
   ← c.steps-step.ensures,
   c.if-n-step.true,
 )
 
-pub returns-else-n-step : goal.returns-else-n-step
-returns-else-n-step c = rw (
-  ← up-cut _ _ _ c.if-min-max.false c.to_u32-n.result
-      (cut (goal.at.returns-else-n-step c).After-to_u32-n),
-  ← c.steps-step.ensures,
-  c.if-n-step.false,
-)
+pub returns-else-up : goal.returns-else-up
+returns-else-up c =
+    let at = cut (goal.at.returns-else-up c).After-to_u32-n in
+    elim c.else-up.branch [
+      | else-up-via-then-up+else-n-step w ↦ rw (
+        w.if-up.true,
+        ← up-cut _ _ _ c.if-min-max.false c.to_u32-n.result at,
+        ← c.steps-step.ensures,
+        w.if-n-step.false,
+      )
+      | else-up-via-else-up w ↦ rw (w.if-up.false, ← down-cut _ _ _ c.if-min-max.false) at
+    ]
