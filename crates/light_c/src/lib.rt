@@ -1,7 +1,8 @@
-// The light tree for C and Rust, as `include/light_tree.h` tells it: a block from a lamp list, build, draw, answered by
+// The light tree for C and Rust, as `include/light_tree.h` tells it: a block from a lamp list, build, draw, chance by
 // name, packing, the power alias table, and the library's version. Each but the last is its function with numbers and
-// slices for arguments and a number for its answer, and promises what that promises. Draw, answered and packing read and
+// slices for arguments and a number for its answer, and promises what that promises. Draw, chance and packing read and
 // write a tree as bytes, little-endian; the others take words. `light_exports` exports them.
+// Parameters are flat, numbers and slices beside each other: they are those of the C interface.
 #![tactic(auto)]
 
 ghost use Rattle.std.specs.Prelude.{◌≡◌, List, [], ◌∷◌, ℕ, ◌*◌, ◌^◌, ◌≤◌, ◌<◌, get_or, length};
@@ -52,18 +53,21 @@ pub fn light_bounds_block(list: &[u32], block: &mut [u32]) -> u32
 // The words of build's answer: k and the box's two corners.
 pub const ANSWER_WORDS: usize = 7;
 
-fn write_summary(answer: &mut [u32], k: usize, bounds: Bounds3)
-    requires k_bound { k < 2 ^ 32 }
+fn write_summary(answer: &mut [u32], built: Built)
+    requires k_bound { built.powered < 2 ^ 32 }
     requires answer_reserve_in_bounds { answer_reserve ≤ length answer.old }
-    ensures { answer.new ≡ sets answer.old 0 (k ∷ box_words (some bounds)) }
+    ensures { answer.new ≡ sets answer.old 0 (built.powered ∷ box_words (some built.bounds)) }
 {
-    answer[0] = k as u32;
-    answer[1] = bounds.min.x.word();
-    answer[2] = bounds.min.y.word();
-    answer[3] = bounds.min.z.word();
-    answer[4] = bounds.max.x.word();
-    answer[5] = bounds.max.y.word();
-    answer[6] = bounds.max.z.word();
+    let Bounds3 { min, max } = built.bounds;
+    answer[..ANSWER_WORDS].copy_from_slice(&[
+        built.powered as u32,
+        min.x.word(),
+        min.y.word(),
+        min.z.word(),
+        max.x.word(),
+        max.y.word(),
+        max.z.word(),
+    ]);
 }
 
 // The refusal's number; one after 4 zeroes the answer.
@@ -118,8 +122,8 @@ pub fn light_build(
         return refuse_short(lights, block, nodes.len(), table.len(), work.len());
     }
     match build_light_bvh(lights, block, nodes, table, work) {
-        Ok(Some(Built { powered: k, bounds })) => {
-            write_summary(answer, k, bounds);
+        Ok(Some(built)) => {
+            write_summary(answer, built);
             0
         }
         Ok(None) => {
@@ -157,7 +161,7 @@ fn draw_code(answer: Result<Option<SampledLight>, Refusal>) -> u64
     }
 }
 
-// The light above its answered's bits; 2^62 where none is drawn, 2^63 and the refusal's number.
+// The light above its chance's bits; 2^62 where none is drawn, 2^63 and the refusal's number.
 pub fn light_sample(
     nodes: &[u8],
     px: f32,
@@ -173,16 +177,17 @@ pub fn light_sample(
     draw_code(bvh_light_sampler_sample(nodes, query_at(px, py, pz, nx, ny, nz), u))
 }
 
-fn chance_code(answer: Result<f32, Refusal>) -> u64
+// A value's bits, or 2^32 and the refusal's number.
+pub fn value_code(answer: Result<f32, Refusal>) -> u64
     ensures { result ≡ value_code (answered answer) }
 {
     match answer {
-        Ok(p) => p.word() as u64,
+        Ok(x) => x.word() as u64,
         Err(why) => 0x1_0000_0000 + why.number() as u64,
     }
 }
 
-// The answered's bits, or 2^32 and the refusal's number.
+// The chance's bits, or 2^32 and the refusal's number.
 pub fn light_pmf(
     nodes: &[u8],
     table: &[u8],
@@ -196,7 +201,7 @@ pub fn light_pmf(
 ) -> u64
     ensures { result ≡ value_code (pmf nodes.now table.now (query_at px py pz nx ny nz) handle) }
 {
-    chance_code(bvh_light_sampler_pmf(nodes, table, query_at(px, py, pz, nx, ny, nz), handle))
+    value_code(bvh_light_sampler_pmf(nodes, table, query_at(px, py, pz, nx, ny, nz), handle))
 }
 
 // ---- the packed tree

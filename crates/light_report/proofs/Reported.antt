@@ -1,12 +1,13 @@
 -- The lines of groups, one behind the other. Assumes nothing.
 use Prim.Native.Nat.{ℕ, suc, ◌+◌, ◌*◌, ◌/◌, ◌%◌, ◌≤◌, ◌<◌}
-use mathlib.Core.Path.{◌≡◌, refl, ◌∙◌}
-use mathlib.Core.List.{List, append-nil}
+use mathlib.Core.Path.{◌≡◌, refl, sym, ap, subst, ◌∙◌}
+use mathlib.Core.List.{List, ◌++◌, append-nil}
 use native.Mathlib.Nat.{zero-add}
 use native.Mathlib.Omega.{arith}
 use borrow.Author.Tests.{eq-eqb, ne_eqb}
-use lib.ListN.{length, take, drop}
-use lib.Seq.{sets, length-sets}
+use lib.ListN.{length, take, drop, length-append}
+use lib.Seq.{sets, length-sets, drop-drop, take-append_seam, drop-append_seam}
+use Rattle.std.proofs.Common.{length-drop}
 use Rattle.words.specs.Answers.{refused}
 use Rattle.text.specs.AsCoded.Puts.{Put}
 use Rattle.light_report.specs.Lines.{line_bytes, group_line, group_lines, part_line, report_lines}
@@ -49,6 +50,24 @@ reported-next {nodes} {table} {bytes} {before} {out} {out'} {count} {at} {end} {
       short = omega (arith, r.short, few);
       lines = rw up (put_then r.lines w);
     }
+
+-- a group that is cut off the front of what is left
+pub group-cut : (bytes : List ℕ) {group rest rest' : List ℕ} (i : ℕ) → rest ≡ drop (28 * i) bytes → rest ≡ group ++ rest'
+    → length group ≡ 28
+    → (i < length bytes / 28) × (take 28 (drop (28 * i) bytes) ≡ group) × (rest' ≡ drop (28 * (i + 1)) bytes)
+group-cut bytes {group} {rest} {rest'} i left cut whole =
+    let e : drop (28 * i) bytes ≡ group ++ rest' = sym left ∙ cut in
+    let step : 28 * i + 28 ≡ 28 * (i + 1) = omega arith in (
+      omega (arith, ap length e, length-drop (28 * i) bytes, length-append group rest', whole),
+      rw (e, ← whole) (take-append_seam group rest'),
+      rw (← step) (sym (ap (drop 28) e
+      ∙ subst (λ (n : ℕ). drop n (group ++ rest') ≡ rest') whole (drop-append_seam group rest'))
+      ∙ drop-drop 28 (28 * i) bytes),
+    )
+
+-- what is left at the end is no whole group
+pub groups-end : (bytes : List ℕ) {rest : List ℕ} (i : ℕ) → rest ≡ drop (28 * i) bytes → length rest < 28 → length bytes / 28 ≤ i
+groups-end bytes {rest} i left few = omega (arith, ap length left, length-drop (28 * i) bytes, few)
 
 -- at the end all lines are there, but for a part group's
 pub reported-all : {nodes table bytes before out : List ℕ} {count at i : ℕ} → count ≤ i → length bytes % 28 ≡ 0

@@ -3,12 +3,13 @@
 use Prim.Native.Nat.{ℕ, ◌+◌, ◌-◌, ◌*◌, ◌/◌, ◌%◌, ◌≤◌}
 use mathlib.Core.Path.{◌≡◌, refl, sym, ap, ◌∙◌}
 use mathlib.Core.List.{List, []}
-use native.Mathlib.Nat.{zero-add}
+use native.Mathlib.Nat.{zero-add, sub-zero}
 use native.Mathlib.Omega.{arith}
 use borrow.Author.Tests.{eq-eqb, le-leb}
 use lib.Dec.{ltb}
 use lib.ListN.{length, get_or, take, length-append}
 use lib.Seq.{sets, length-sets, length-take-le}
+use Rattle.std.specs.Prelude.{Some, None}
 use Rattle.words.specs.Answers.{Answer, given, refused, ◌then◌}
 use Rattle.words.specs.LittleEndian.{words_of, bytes_of}
 use Rattle.words.specs.AsCoded.WordSlices.{word_count, read_words}
@@ -28,7 +29,7 @@ use Rattle.light_report.specs.AsCoded.Written.{powered, sizes}
 use Rattle.light_report.specs.AsCoded.Written.{first_lines, node_bytes, table_bytes, chunk_lines, opened_of}
 use Rattle.light_report.specs.Laws.TreeLaws.{rows_are, tree-of}
 use Rattle.light_report.specs.declared.Opened.{Opened}
-use Rattle.light_report.specs.declared.Opened.TheVariants.{Groups, Ended}
+use Rattle.light_report.specs.declared.TreeEnds.{TreeEnds}
 
 -- ---- the block's words
 
@@ -92,6 +93,25 @@ unfolding sizes
 sizes-none (given b) n e = absurd (not-both refl (sym e))
 sizes-none (refused m) n e = ap refused (sym (refused_injective {A = ℕ × ℕ} e))
 
+-- ---- what `Opened` says
+
+abbrev pub groups : ℕ → ℕ → ℕ → Opened
+groups lines nodes table = record { lines = lines; tree = Some (record { nodes = nodes; table = table }) }
+
+abbrev pub ended : ℕ → Opened
+ended lines = record { lines = lines; tree = None }
+
+pub opened-lines : (t : Answer LightBVH) → (opened_of t).lines ≡ length (first_lines t)
+unfolding opened_of
+opened-lines (given b) = refl
+opened-lines (refused n) = refl
+
+pub opened-tree : (t : Answer LightBVH) (ends : TreeEnds) → (opened_of t).tree ≡ Some ends
+    → (ends.nodes ≡ length (node_bytes t)) × (ends.table ≡ length (table_bytes t))
+unfolding opened_of
+opened-tree (given b) ends e = grind arith
+opened-tree (refused n) ends e = grind arith
+
 -- ---- the tree's bytes
 
 -- of a tree that was taken, with so many lamps and so many of them powered
@@ -128,7 +148,7 @@ module _ (front : List ℕ) (m k : ℕ) (sized : given (m, k) ≡ sizes (report_
 
   pub opened-groups : (lines nodes table : ℕ) → lines ≡ length header_bytes
       → nodes ≡ length (node_bytes (report_tree front))
-      → table ≡ length (table_bytes (report_tree front)) → Groups lines nodes table ≡ opened_of (report_tree front)
+      → table ≡ length (table_bytes (report_tree front)) → groups lines nodes table ≡ opened_of (report_tree front)
   unfolding opened_of first_lines
   opened-groups lines nodes table e f g =
       let (b, is, rows, count) = sizes-tree (report_tree front) m k sized in
@@ -140,7 +160,7 @@ module _ (front : List ℕ) (m k : ℕ) (sized : given (m, k) ≡ sizes (report_
 
 -- there are no bytes of a tree, and the first lines end with the refusal
 pub record Ends (t : Answer LightBVH) (before : List ℕ) (end : ℕ) (after : List ℕ) : Type 0 where
-  pub opened : Ended end ≡ opened_of t
+  pub opened : ended end ≡ opened_of t
   pub no-nodes : [] ≡ node_bytes t
   pub no_table : [] ≡ table_bytes t
   pub lines : after ≡ sets before 0 (first_lines t)
@@ -163,7 +183,7 @@ ended-first t n none before header count {said} {after} room (first, long) (seco
     let end = length-append header_bytes (refusal_line n) in
     rw (sizes-none t n none)
     (record {
-      opened = ap Ended (both.past ∙ zero-add _);
+      opened = ap ended (both.past ∙ zero-add _);
       no-nodes = refl;
       no_table = refl;
       lines = both.is;
@@ -188,41 +208,20 @@ unfolding first_lines line_bytes
 first-room (given b) = omega arith
 first-room (refused n) = rw (length-append header_bytes (line_bytes (refused n))) (omega (arith, refusal-short n))
 
--- ---- what `Opened` says
+-- ---- what is handed on
 
-tag : Opened → ℕ
-tag (Groups l n s) = 0
-tag (Ended l) = 1
+-- the front part of a slice at whose front text was put, as long as the text
+pub handed-front : (before text : List ℕ) {after : List ℕ} (n : ℕ) → length text ≤ length before
+    → after ≡ sets before 0 text → n ≡ length text
+    → take n after ≡ text
+handed-front before text n room is long = rw (sub-zero n) at (handed before text n room is long)
 
-lines_of : Opened → ℕ
-lines_of (Groups l n s) = l
-lines_of (Ended l) = l
-
-nodes-of : Opened → ℕ
-nodes-of (Groups l n s) = n
-nodes-of (Ended l) = 0
-
-table_of : Opened → ℕ
-table_of (Groups l n s) = s
-table_of (Ended l) = 0
-
-pub groups-are : (t : Answer LightBVH) (lines nodes table : ℕ) → Groups lines nodes table ≡ opened_of t
-    → (lines ≡ length (first_lines t)) × (nodes ≡ length (node_bytes t)) × (table ≡ length (table_bytes t))
-unfolding opened_of tag lines_of nodes-of table_of
-groups-are (given b) lines nodes table e = (ap lines_of e, ap nodes-of e, ap table_of e)
-groups-are (refused n) lines nodes table e = absurd (omega (arith, ap tag e))
-
-pub ended_is : (t : Answer LightBVH) (lines : ℕ) → Ended lines ≡ opened_of t → lines ≡ length (first_lines t)
-unfolding opened_of tag lines_of
-ended_is (given b) lines e = absurd (omega (arith, ap tag e))
-ended_is (refused n) lines e = ap lines_of e
-
--- ---- a chunk's lines
-
+-- a chunk's lines
 pub lines-handed : (t : Answer LightBVH) (nodes table groups before : List ℕ) {after : List ℕ} (n : ℕ)
     → (nodes ≡ node_bytes t) × (table ≡ table_bytes t)
     → (after ≡ sets before 0 (report_lines nodes table groups)) ×
     ((n ≡ length (report_lines nodes table groups)) × (n ≤ length before))
-    → take (n - 0) after ≡ chunk_lines t groups
+    → take n after ≡ chunk_lines t groups
 lines-handed t nodes table groups before n (walked, tabled) (is, (long, room)) =
-    rw (← walked, ← tabled) (handed before (report_lines nodes table groups) n (omega (arith, long, room)) is long)
+    rw (← walked, ← tabled)
+    (handed-front before (report_lines nodes table groups) n (omega (arith, long, room)) is long)

@@ -2,6 +2,8 @@
 -- words draws, and how it is written. Chances are written as their words' eight hexadecimal digits, handles and
 -- refusals in decimal. Definitions only. Assumes nothing.
 use Rattle.std.specs.Prelude.{ℕ, zero, suc, ◌+◌, ◌*◌, ◌/◌, ◌%◌, cond, List, [], ◌∷◌, ◌++◌, eqb, Float, length, get_or, take, drop}
+use Rattle.std.specs.Prelude.{Result, Ok, Err, Some, None}
+use Rattle.std.specs.Prelude.{Option as Option-of-std}
 use Rattle.std.proofs.Math.Option.{Option, none, some}
 use Rattle.std.specs.Float.{binary32}
 use Rattle.std.specs.Float.Ieee.{to_bits}
@@ -14,8 +16,8 @@ use Rattle.light_bounds.specs.declared.importance.Query.{Query}
 use Rattle.light_sampler.specs.Sampler.{sample, pmf}
 use Rattle.light_sampler.specs.Walks.{Draw}
 use Rattle.text.specs.Text.{decimal_bytes, hex_bytes, newline, refusal_line}
+use Rattle.words.specs.declared.refusals.Refusal.{Refusal}
 use Rattle.light_report.specs.declared.lines.Line.{Line}
-use Rattle.light_report.specs.declared.lines.Line.TheVariants.{Lamp, Nothing, Refused}
 
 -- ---- what a group draws
 
@@ -75,9 +77,9 @@ part_line bytes = cond (eqb (length bytes % 28) 0) [] (line_bytes (refused 1))
 unfoldable pub report_lines : List ℕ → List ℕ → List ℕ → List ℕ
 report_lines nodes table bytes = group_lines nodes table bytes (length bytes / 28) ++ part_line bytes
 
--- ---- what the enum `Line` answers
+-- ---- what a group's draw answers
 
-abbrev pub line : Line → Answer Shown
-line (Lamp handle drawn chance) = given (some (handle, (drawn, chance)))
-line Nothing = given none
-line (Refused r) = refused (number r)
+abbrev pub line : Result (Option-of-std Line) Refusal → Answer Shown
+line (Ok (Some l)) = given (some (l.handle, (l.drawn, l.named)))
+line (Ok None) = given none
+line (Err why) = refused (number why)

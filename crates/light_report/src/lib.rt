@@ -10,31 +10,62 @@ ghost use Rattle.words.specs.Answers.{answered};
 ghost use Rattle.std.specs.Prelude.{◌≡◌, ◌+◌, ◌*◌, ◌/◌, ◌%◌, ◌≤◌, length, get_or, take};
 ghost use Rattle.words.specs.LittleEndian.{words_of};
 ghost use Rattle.words.specs.Tray.{tray};
+ghost use Rattle.light_rows.specs.Block.{block_words};
 ghost use Rattle.light_bvh.specs.Build.{summary, nodes_reserve, nodes_written, table_written};
 ghost use Rattle.light_report.specs.Report.{block_bytes, block_lamps, tree_of, report_tree};
 ghost use Rattle.light_report.specs.AsCoded.Written.{powered, sizes, taken};
 ghost use Rattle.light_report.specs.AsCoded.Written.{front_bytes, first_lines, node_bytes};
 ghost use Rattle.light_report.specs.AsCoded.Written.{table_bytes, chunk_lines, Opens};
 
-use light_bvh::build::{Built, build_light_bvh};
+use light_bvh::build::build_light_bvh;
 use light_rows::block::EXHAUSTIVE_BOUNDS_WORDS;
 use light_rows::nodes::NODE_WORDS;
-use lines::put_lines;
+use lines::{GROUP_BYTES, LINE_BYTES, put_lines};
 use text::{put_refused, put_text, put_words};
 use words::little_endian::{word_at, words_of_bytes};
 use words::places::wide;
 use words::refusals::Refusal;
 
+// ---- room
+
 // Lamps of a report's block.
 const REPORT_LAMPS: usize = 512;
 
+// The words that they take of a block and of a tree's nodes.
+const BLOCK_WORDS: usize = 1 + EXHAUSTIVE_BOUNDS_WORDS * REPORT_LAMPS;
+
+const NODES_WORDS: usize = NODE_WORDS * (2 * REPORT_LAMPS - 1);
+
+// A chunk of groups, and its lines with a part group's.
+const CHUNK_GROUPS: usize = 2048;
+
+const CHUNK_BYTES: usize = GROUP_BYTES * CHUNK_GROUPS;
+
+const LINES_BYTES: usize = LINE_BYTES * (CHUNK_GROUPS + 1);
+
+// The words of a block, and what build takes for them: its trays and what it works on.
+#[derive(Drop)]
+struct Room {
+    block: [u32; BLOCK_WORDS],
+    nodes: [u32; NODES_WORDS],
+    table: [u32; REPORT_LAMPS],
+    work: [u32; 2 * REPORT_LAMPS],
+}
+
+// A tree's bytes, which draws walk, each at the front of its room.
+#[derive(Drop)]
+struct WalkedTree {
+    nodes: [u8; 4 * NODES_WORDS],
+    table: [u8; 4 * REPORT_LAMPS],
+}
+
 // ---- the block
 
-// How many lamps a tree has, and how many of them have power; or why there is none.
-#[derive(Drop)]
-enum Taken {
-    Tree(usize, usize),
-    Refused(Refusal),
+// How many lamps a tree has, and how many of them have power.
+#[derive(Clone, Copy)]
+struct Taken {
+    lamps: usize,
+    powered: usize,
 }
 
 // How many bytes the block takes of an input that begins with these four.
@@ -74,77 +105,55 @@ fn read_words(bytes: &[u8], words: &mut [u32])
     let _ = words_of_bytes(bytes, words);
 }
 
-// Builds the tree; how many lamps have power.
-fn build_tree(
-    lamps: usize,
-    block: &[u32],
-    nodes: &mut [u32],
-    table: &mut [u32],
-    work: &mut [u32],
-) -> Result<usize, Refusal>
-    requires { (length nodes.old ≡ 16368) × (length table.old ≡ 512) × (length work.old ≡ 1024) }
-    ensures result_value { answered result ≡ powered (summary (tree_of lamps block.now)) }
-    ensures nodes_after { nodes.new ≡ tray nodes_written (nodes_reserve (get_or block.now 0 0))
-        (tree_of lamps block.now) nodes.old }
-    ensures table_after { table.new ≡ tray table_written (get_or block.now 0 0)
-        (tree_of lamps block.now) table.old }
+// Builds the tree of the block's words; how many lamps have power.
+fn build_tree(lamps: usize, room: &mut Room) -> Result<usize, Refusal>
+    requires { lamps ≤ 512 }
+    ensures result_value { answered result
+        ≡ powered (summary (tree_of lamps (take (block_words lamps) room.old.block))) }
+    ensures nodes_after { room.new.nodes
+        ≡ tray nodes_written (nodes_reserve (get_or (take (block_words lamps) room.old.block) 0 0))
+        (tree_of lamps (take (block_words lamps) room.old.block)) room.old.nodes }
+    ensures table_after { room.new.table
+        ≡ tray table_written (get_or (take (block_words lamps) room.old.block) 0 0)
+        (tree_of lamps (take (block_words lamps) room.old.block)) room.old.table }
 {
-    match build_light_bvh(lamps, block, nodes, table, work) {
-        Ok(Some(Built { powered, .. })) => Ok(powered),
+    let words = 1 + EXHAUSTIVE_BOUNDS_WORDS * lamps;
+    let Room { block, nodes, table, work } = room;
+    match build_light_bvh(lamps, &block[..words], nodes, table, work) {
+        Ok(Some(built)) => Ok(built.powered),
         Ok(None) => Ok(0),
         Err(why) => Err(why),
     }
 }
 
 // The same from the block's bytes.
-fn make_tree(
-    lamps: usize,
-    input: &[u8],
-    block: &mut [u32],
-    nodes: &mut [u32],
-    table: &mut [u32],
-    work: &mut [u32],
-) -> Result<usize, Refusal>
-    requires lamps_bound { (lamps ≤ 512) × (block_bytes lamps ≤ length input.now) × (7169 ≤ length block.old) }
-    requires nodes_len { (length nodes.old ≡ 16368) × (length table.old ≡ 512) × (length work.old ≡ 1024) }
+fn make_tree(lamps: usize, input: &[u8], room: &mut Room) -> Result<usize, Refusal>
+    requires { (lamps ≤ 512) × (block_bytes lamps ≤ length input.now) }
     ensures result_value { answered result
         ≡ powered (summary (tree_of lamps (words_of (take (block_bytes lamps) input.now)))) }
-    ensures nodes_after { nodes.new
+    ensures nodes_after { room.new.nodes
         ≡ tray nodes_written (nodes_reserve (get_or (words_of (take (block_bytes lamps) input.now)) 0 0))
-        (tree_of lamps (words_of (take (block_bytes lamps) input.now))) nodes.old }
-    ensures table_after { table.new
+        (tree_of lamps (words_of (take (block_bytes lamps) input.now))) room.old.nodes }
+    ensures table_after { room.new.table
         ≡ tray table_written (get_or (words_of (take (block_bytes lamps) input.now)) 0 0)
-        (tree_of lamps (words_of (take (block_bytes lamps) input.now))) table.old }
+        (tree_of lamps (words_of (take (block_bytes lamps) input.now))) room.old.table }
 {
-    let words = 1 + EXHAUSTIVE_BOUNDS_WORDS * lamps;
-    let end = 4 * words;
-    read_words(&input[0..end], block);
-    build_tree(lamps, &block[0..words], nodes, table, work)
+    let end = 4 * (1 + EXHAUSTIVE_BOUNDS_WORDS * lamps);
+    read_words(&input[..end], &mut room.block);
+    build_tree(lamps, room)
 }
 
 // The tree of the block at the front of the input. Its nodes and its handle table stand at the front of the two trays.
-fn take_tree(
-    input: &[u8],
-    block: &mut [u32],
-    nodes: &mut [u32],
-    table: &mut [u32],
-    work: &mut [u32],
-) -> Taken
-    requires { (7169 ≤ length block.old) × (length nodes.old ≡ 16368) × (length table.old ≡ 512)
-        × (length work.old ≡ 1024) }
+fn take_tree(input: &[u8], room: &mut Room) -> Result<Taken, Refusal>
     ensures result_value { taken result ≡ sizes (report_tree input.now) }
-    ensures nodes_after { nodes.new ≡ tray nodes_written (nodes_reserve (get_or (words_of input.now) 0 0))
-        (report_tree input.now) nodes.old }
-    ensures table_after { table.new ≡ tray table_written (get_or (words_of input.now) 0 0)
-        (report_tree input.now) table.old }
+    ensures nodes_after { room.new.nodes ≡ tray nodes_written (nodes_reserve (get_or (words_of input.now) 0 0))
+        (report_tree input.now) room.old.nodes }
+    ensures table_after { room.new.table ≡ tray table_written (get_or (words_of input.now) 0 0)
+        (report_tree input.now) room.old.table }
 {
-    match block_lamps(input) {
-        Ok(lamps) => match make_tree(lamps, input, block, nodes, table, work) {
-            Ok(k) => Taken::Tree(lamps, k),
-            Err(why) => Taken::Refused(why),
-        },
-        Err(why) => Taken::Refused(why),
-    }
+    let lamps = block_lamps(input)?;
+    let powered = make_tree(lamps, input, room)?;
+    Ok(Taken { lamps, powered })
 }
 
 // How many words the nodes of k powered lamps have.
@@ -157,103 +166,63 @@ fn node_words(k: usize) -> usize
 
 // ---- the first lines
 
-// What stands ready when the block is read: how many bytes the first lines, the nodes and the table have; or, of
-// a bad block, the first lines alone, and that is all of the report.
-#[derive(Drop)]
-enum Opened {
-    Groups(usize, usize, usize),
-    Ended(usize),
+// How many bytes a tree's nodes and its table have.
+#[derive(Clone, Copy)]
+struct TreeEnds {
+    nodes: usize,
+    table: usize,
+}
+
+// What stands ready when the block is read: how many bytes the first lines have, and the tree's; or, of a bad block,
+// the first lines alone, and that is all of the report.
+#[derive(Clone, Copy)]
+struct Opened {
+    lines: usize,
+    tree: Option<TreeEnds>,
 }
 
 // Draws walk the tree's words as bytes.
-fn open_report(
-    front: &[u8],
-    block: &mut [u32],
-    nodes: &mut [u32],
-    table: &mut [u32],
-    work: &mut [u32],
-    node_bytes: &mut [u8],
-    table_bytes: &mut [u8],
-    out: &mut [u8],
-) -> Opened
-    requires in_bounds { (7169 ≤ length block.old) × (length nodes.old ≡ 16368) × (length table.old ≡ 512)
-        × (length work.old ≡ 1024) }
-    requires node_bytes_len { (length node_bytes.old ≡ 65472) × (length table_bytes.old ≡ 2048) × (36 ≤ length out.old) }
-    ensures { Opens (report_tree front.now) result node_bytes.old table_bytes.old
-        out.old node_bytes.new table_bytes.new out.new }
+fn open_report(front: &[u8], room: &mut Room, tree: &mut WalkedTree, out: &mut [u8; LINES_BYTES]) -> Opened
+    ensures { Opens (report_tree front.now) result tree.old.nodes tree.old.table
+        out.old tree.new.nodes tree.new.table out.new }
 {
     let header = put_text(out, 0, b"lamp drawn named\n");
-    match take_tree(front, block, nodes, table, work) {
-        Taken::Tree(lamps, k) => {
-            let words = node_words(k);
-            let nodes_end = put_words(node_bytes, &nodes[0..words]);
-            let table_end = put_words(table_bytes, &table[0..lamps]);
-            Opened::Groups(header, nodes_end, table_end)
+    match take_tree(front, room) {
+        Ok(taken) => {
+            let words = node_words(taken.powered);
+            let nodes = put_words(&mut tree.nodes, &room.nodes[..words]);
+            let table = put_words(&mut tree.table, &room.table[..taken.lamps]);
+            Opened { lines: header, tree: Some(TreeEnds { nodes, table }) }
         }
-        Taken::Refused(why) => Opened::Ended(header + put_refused(out, header, why)),
+        Err(why) => Opened { lines: header + put_refused(out, header, why), tree: None },
     }
 }
 
-fn lend_words(
-    front: &[u8],
-    block: &mut [u32; 7169],
-    nodes: &mut [u32; 16368],
-    table: &mut [u32; 512],
-    work: &mut [u32; 1024],
-    node_bytes: &mut [u8],
-    table_bytes: &mut [u8],
-    out: &mut [u8],
-) -> Opened
-    requires { (length node_bytes.old ≡ 65472) × (length table_bytes.old ≡ 2048) × (36 ≤ length out.old) }
-    ensures { Opens (report_tree front.now) result node_bytes.old table_bytes.old
-        out.old node_bytes.new table_bytes.new out.new }
+// The same with room of its own for the block and the tree's words.
+fn open_front(front: &[u8], tree: &mut WalkedTree, out: &mut [u8; LINES_BYTES]) -> Opened
+    ensures { Opens (report_tree front.now) result tree.old.nodes tree.old.table
+        out.old tree.new.nodes tree.new.table out.new }
 {
-    open_report(
-        front,
-        block,
-        nodes,
-        table,
-        work,
-        node_bytes,
-        table_bytes,
-        out,
-    )
-}
-
-// The same with words of its own, for the block, the tree and what build works on.
-fn open_front(front: &[u8], node_bytes: &mut [u8], table_bytes: &mut [u8], out: &mut [u8]) -> Opened
-    requires { (length node_bytes.old ≡ 65472) × (length table_bytes.old ≡ 2048) × (36 ≤ length out.old) }
-    ensures { Opens (report_tree front.now) result node_bytes.old table_bytes.old
-        out.old node_bytes.new table_bytes.new out.new }
-{
-    let mut block = [0u32; 7169];
-    let mut nodes = [0u32; 16368];
-    let mut table = [0u32; 512];
-    let mut work = [0u32; 1024];
-    lend_words(
-        front,
-        &mut block,
-        &mut nodes,
-        &mut table,
-        &mut work,
-        node_bytes,
-        table_bytes,
-        out,
-    )
+    let mut room = Room {
+        block: [0; BLOCK_WORDS],
+        nodes: [0; NODES_WORDS],
+        table: [0; REPORT_LAMPS],
+        work: [0; 2 * REPORT_LAMPS],
+    };
+    open_report(front, &mut room, tree, out)
 }
 
 // ---- reading and writing
 
 // Reads the block's bytes, as many as there are; how many.
-fn read_front(front: &mut [u8]) -> usize
-    requires { 28676 ≤ length front.old }
+fn read_front(front: &mut [u8; 4 * BLOCK_WORDS]) -> usize
     ensures { result ≤ 28676 }
 {
-    let head = io::read_full(0, &mut front[0..4]);
+    let head = io::read_full(0, &mut front[..4]);
     if head < 4 {
         return head;
     }
-    let end = front_bytes(&front[0..4]);
+    let end = front_bytes(&front[..4]);
     4 + io::read_full(0, &mut front[4..end])
 }
 
@@ -281,25 +250,36 @@ fn write_lines(front: &[u8], groups: &[u8], text: &[u8]) -> bool
 }
 
 // Reads a chunk of groups and writes its lines; whether there may be more.
-fn write_chunk(front: &[u8], nodes: &[u8], table: &[u8], chunk: &mut [u8], out: &mut [u8]) -> bool
-    requires nodes_value { (nodes.now ≡ node_bytes (report_tree front.now))
+fn write_chunk(
+    front: &[u8],
+    nodes: &[u8],
+    table: &[u8],
+    chunk: &mut [u8; CHUNK_BYTES],
+    out: &mut [u8; LINES_BYTES],
+) -> bool
+    requires { (nodes.now ≡ node_bytes (report_tree front.now))
         × (table.now ≡ table_bytes (report_tree front.now)) }
-    requires chunk_in_bounds { 29 * (length chunk.old / 28) + 29 ≤ length out.old }
 {
     let n = io::read_full(0, chunk);
-    let end = put_lines(nodes, table, &chunk[0..n], out);
-    write_lines(front, &chunk[0..n], &out[0..end]) && n == chunk.len()
+    let end = put_lines(nodes, table, &chunk[..n], out);
+    write_lines(front, &chunk[..n], &out[..end]) && n == chunk.len()
 }
 
-// A proved loop has to end, and nothing says that the input does: it counts down from a number that no run uses up.
-fn write_groups(front: &[u8], nodes: &[u8], table: &[u8], chunk: &mut [u8], out: &mut [u8])
-    requires nodes_value { (nodes.now ≡ node_bytes (report_tree front.now))
+// A proved loop has to end, and nothing says that the input does: no run comes to the last turn.
+fn write_groups(
+    front: &[u8],
+    nodes: &[u8],
+    table: &[u8],
+    chunk: &mut [u8; CHUNK_BYTES],
+    out: &mut [u8; LINES_BYTES],
+)
+    requires { (nodes.now ≡ node_bytes (report_tree front.now))
         × (table.now ≡ table_bytes (report_tree front.now)) }
-    requires chunk_in_bounds { 29 * (length chunk.old / 28) + 29 ≤ length out.old }
 {
-    let mut turns = u64::MAX;
-    while turns > 0 && write_chunk(front, nodes, table, chunk, out) {
-        turns -= 1;
+    for _ in 0..u64::MAX {
+        if !write_chunk(front, nodes, table, chunk, out) {
+            break;
+        }
     }
 }
 
@@ -308,56 +288,23 @@ fn write_groups(front: &[u8], nodes: &[u8], table: &[u8], chunk: &mut [u8], out:
 // Behind a front that was read.
 fn write_report(
     front: &[u8],
-    node_bytes: &mut [u8],
-    table_bytes: &mut [u8],
-    chunk: &mut [u8],
-    out: &mut [u8],
-)
-    requires node_bytes_len { (length node_bytes.old ≡ 65472) × (length table_bytes.old ≡ 2048) }
-    requires in_bounds { (36 ≤ length out.old) × (29 * (length chunk.old / 28) + 29 ≤ length out.old) }
-{
-    match open_front(front, node_bytes, table_bytes, out) {
-        Opened::Groups(lines, nodes_end, table_end) => {
-            if write_first(front, &out[0..lines]) {
-                write_groups(
-                    front,
-                    &node_bytes[0..nodes_end],
-                    &table_bytes[0..table_end],
-                    chunk,
-                    out,
-                );
-            }
-        }
-        Opened::Ended(lines) => {
-            write_first(front, &out[0..lines]);
-        }
-    }
-}
-
-fn report(
-    front: &mut [u8],
-    node_bytes: &mut [u8],
-    table_bytes: &mut [u8],
-    chunk: &mut [u8],
-    out: &mut [u8],
-)
-    requires in_bounds { 28676 ≤ length front.old }
-    requires node_bytes_len { (length node_bytes.old ≡ 65472) × (length table_bytes.old ≡ 2048) }
-    requires in_bounds_2 { (36 ≤ length out.old) × (29 * (length chunk.old / 28) + 29 ≤ length out.old) }
-{
-    let n = read_front(front);
-    write_report(&front[0..n], node_bytes, table_bytes, chunk, out);
-}
-
-// Room for the block, the tree and a chunk, as bytes.
-fn lend(
-    front: &mut [u8; 28676],
-    node_bytes: &mut [u8; 65472],
-    table_bytes: &mut [u8; 2048],
-    chunk: &mut [u8; 57344],
-    out: &mut [u8; 59421],
+    tree: &mut WalkedTree,
+    chunk: &mut [u8; CHUNK_BYTES],
+    out: &mut [u8; LINES_BYTES],
 ) {
-    report(front, node_bytes, table_bytes, chunk, out);
+    let opened = open_front(front, tree, out);
+    if !write_first(front, &out[..opened.lines]) {
+        return;
+    }
+    if let Some(ends) = opened.tree {
+        write_groups(
+            front,
+            &tree.nodes[..ends.nodes],
+            &tree.table[..ends.table],
+            chunk,
+            out,
+        );
+    }
 }
 
 // The program `columns`, whole; all of its room is on the stack: 306 KiB. It gives nothing back: what it hands to
@@ -365,16 +312,10 @@ fn lend(
 pub fn columns()
     ensures { result ≡ tt }
 {
-    let mut front = [0u8; 28676];
-    let mut node_bytes = [0u8; 65472];
-    let mut table_bytes = [0u8; 2048];
-    let mut chunk = [0u8; 57344];
-    let mut out = [0u8; 59421];
-    lend(
-        &mut front,
-        &mut node_bytes,
-        &mut table_bytes,
-        &mut chunk,
-        &mut out,
-    );
+    let mut front = [0; 4 * BLOCK_WORDS];
+    let mut tree = WalkedTree { nodes: [0; 4 * NODES_WORDS], table: [0; 4 * REPORT_LAMPS] };
+    let mut chunk = [0; CHUNK_BYTES];
+    let mut out = [0; LINES_BYTES];
+    let n = read_front(&mut front);
+    write_report(&front[..n], &mut tree, &mut chunk, &mut out);
 }

@@ -15,31 +15,33 @@ use text::{put_decimal, put_hex, put_refused, put_text};
 use words::floats::Float;
 use words::refusals::Refusal;
 
-// What a line shows: a lamp with its chance as drawn and its chance by name, that there is none, or why not.
-#[derive(Drop)]
-pub enum Line {
-    Lamp(u32, f32, f32),
-    Nothing,
-    Refused(Refusal),
+// What a line shows of a lamp: its chance as drawn and its chance by name.
+#[derive(Clone, Copy)]
+pub struct Line {
+    pub handle: u32,
+    pub drawn: f32,
+    pub named: f32,
 }
 
-// The bytes of a group. A line has at most 29: ten digits, a space, eight digits, a space, eight digits, the end.
+// The bytes of a group.
 pub const GROUP_BYTES: usize = 4 * (QUERY_WORDS + 1);
+
+// What a line has at the most: ten digits, a space, eight digits, a space, eight digits, the end.
+pub const LINE_BYTES: usize = 29;
 
 // ---- what a group draws
 
 // Words past a group's end are read as 0.
-fn draw_group(nodes: &[u8], table: &[u8], group: &[u8]) -> Line
+fn draw_group(nodes: &[u8], table: &[u8], group: &[u8]) -> Result<Option<Line>, Refusal>
     ensures { line result ≡ group_shown nodes.now table.now (words_of group.now) }
 {
     let query = query_of_bytes(group);
-    match bvh_light_sampler_sample(nodes, query, float_at(group, QUERY_WORDS)) {
-        Ok(Some(SampledLight { light: handle, pmf: drawn })) => match bvh_light_sampler_pmf(nodes, table, query, handle) {
-            Ok(named) => Line::Lamp(handle, drawn, named),
-            Err(why) => Line::Refused(why),
-        },
-        Ok(None) => Line::Nothing,
-        Err(why) => Line::Refused(why),
+    match bvh_light_sampler_sample(nodes, query, float_at(group, QUERY_WORDS))? {
+        Some(SampledLight { light, pmf }) => {
+            let named = bvh_light_sampler_pmf(nodes, table, query, light)?;
+            Ok(Some(Line { handle: light, drawn: pmf, named }))
+        }
+        None => Ok(None),
     }
 }
 
@@ -56,30 +58,30 @@ fn put_chance(out: &mut [u8], at: usize, x: f32) -> usize
     digits_at + put_hex(out, digits_at, x.word())
 }
 
-fn put_lamp(out: &mut [u8], at: usize, handle: u32, drawn: f32, named: f32) -> usize
+fn put_lamp(out: &mut [u8], at: usize, lamp: Line) -> usize
     requires { at + 29 ≤ length out.old }
-    ensures put { Put out.old at (line_bytes (given (some (handle, (drawn, named)))))
+    ensures put { Put out.old at (line_bytes (given (some (lamp.handle, (lamp.drawn, lamp.named)))))
         out.new result }
     ensures upper_bound { result ≤ at + 29 }
 {
-    let drawn_at = at + put_decimal(out, at, handle);
-    let named_at = put_chance(out, drawn_at, drawn);
-    let end = put_chance(out, named_at, named);
+    let drawn_at = at + put_decimal(out, at, lamp.handle);
+    let named_at = put_chance(out, drawn_at, lamp.drawn);
+    let end = put_chance(out, named_at, lamp.named);
     out[end] = b'\n';
     end + 1
 }
 
 // Writes a line; the place behind it.
-pub(crate) fn put_line(out: &mut [u8], at: usize, shown: Line) -> usize
+pub(crate) fn put_line(out: &mut [u8], at: usize, shown: Result<Option<Line>, Refusal>) -> usize
     requires { at + 29 ≤ length out.old }
     ensures out_after { out.new ≡ sets out.old at (line_bytes (line shown)) }
     ensures value { result ≡ at + length (line_bytes (line shown)) }
     ensures upper_bound { result ≤ at + 29 }
 {
     match shown {
-        Line::Lamp(handle, drawn, named) => put_lamp(out, at, handle, drawn, named),
-        Line::Nothing => at + put_text(out, at, b"none\n"),
-        Line::Refused(why) => at + put_refused(out, at, why),
+        Ok(Some(lamp)) => put_lamp(out, at, lamp),
+        Ok(None) => at + put_text(out, at, b"none\n"),
+        Err(why) => at + put_refused(out, at, why),
     }
 }
 
@@ -103,17 +105,12 @@ pub(crate) fn put_lines(nodes: &[u8], table: &[u8], groups: &[u8], out: &mut [u8
     ensures value { result ≡ length (report_lines nodes.now table.now groups.now) }
     ensures upper_bound { result ≤ length out.old }
 {
-    let count = groups.len() / GROUP_BYTES;
-    let mut at: usize = 0;
-    let mut i: usize = 0;
-    while i < count {
-        let from = GROUP_BYTES * i;
-        let to = from + GROUP_BYTES;
-        at = put_group(nodes, table, &groups[from..to], out, at);
-        i += 1;
+    let mut at = 0;
+    for group in groups.chunks_exact(GROUP_BYTES) {
+        at = put_group(nodes, table, group, out, at);
     }
     if groups.len() % GROUP_BYTES == 0 {
         return at;
     }
-    put_line(out, at, Line::Refused(Refusal::Ragged))
+    put_line(out, at, Err(Refusal::Ragged))
 }

@@ -1,5 +1,6 @@
 // What only the differential runs and the benchmarks call, for C and Rust: plain numbers, slices as a pointer and a
 // length, answers as words. What a renderer calls is in light_c.
+// Functions told by a number, and flat parameters, are those of the C interface.
 #![tactic(auto)]
 
 ghost use Rattle.std.specs.Prelude.{◌≡◌, ℕ, ◌*◌, ◌/◌, ◌≤◌, get_or, length};
@@ -22,6 +23,7 @@ ghost use Rattle.parts_c.specs.PartCodes.{count_code, validate_words, importance
 
 use light_bounds::importance::importance;
 use light_bounds::light_bounds::{LightBounds, union, validate};
+use light_c::value_code;
 use light_rows::block::{check_handles, check_layout};
 use light_rows::query_words::{QUERY_WORDS, query_of};
 use light_rows::record_words::{RECORD_WORDS, read_record, write_record};
@@ -164,21 +166,12 @@ pub extern "C" fn words_fill(s: &mut [u32], from: usize, to: usize, v: u32)
     words::fill::fill(s, from, to, v);
 }
 
-fn count_of(answer: Result<usize, Refusal>) -> usize
-    ensures { result ≡ count_code (answered answer) }
-{
-    match answer {
-        Ok(n) => n,
-        Err(_) => 0xffff_ffff_ffff_ffff,
-    }
-}
-
 // The largest usize where the length is no multiple of four.
 #[unsafe(no_mangle)]
 pub extern "C" fn words_word_count(bytes: &[u8]) -> usize
     ensures { result ≡ count_code (word_count bytes.now) }
 {
-    count_of(words::little_endian::word_count(bytes))
+    words::little_endian::word_count(bytes).unwrap_or(usize::MAX)
 }
 
 // 0 where it is done, else the refusal's number.
@@ -204,24 +197,27 @@ pub extern "C" fn words_bytes_of_words(words: &[u32], bytes: &mut [u8]) -> u32
 
 // ---- bounds of lamps, records and queries as slices of words
 
+fn validate_words(record: &[u32]) -> Result<(), Refusal>
+    ensures { answered result ≡ validate_words «record».now }
+{
+    validate(read_record(record, 0)?)
+}
+
 // 0, or the refusal's number.
 #[unsafe(no_mangle)]
 pub extern "C" fn bounds_validate(record: &[u32]) -> u32
     ensures { result ≡ code (validate_words «record».now) }
 {
-    match read_record(record, 0) {
-        Ok(whole) => validity_code(validate(whole)),
-        Err(why) => 1,
-    }
+    code(validate_words(record))
 }
 
-fn validity_code(answer: Result<(), Refusal>) -> u32
-    ensures { result ≡ code (answered answer) }
+fn importance_words(record: &[u32], query: &[u32]) -> Result<f32, Refusal>
+    ensures { answered result ≡ importance_words «record».now query.now }
 {
-    match answer {
-        Ok(()) => 0,
-        Err(why) => why.number(),
+    if query.len() < QUERY_WORDS {
+        return Err(Refusal::Ragged);
     }
+    importance(read_record(record, 0)?, query_of(query))
 }
 
 // The importance's bits, or 2^32 and the refusal's number.
@@ -229,40 +225,35 @@ fn validity_code(answer: Result<(), Refusal>) -> u32
 pub extern "C" fn bounds_importance(record: &[u32], query: &[u32]) -> u64
     ensures { result ≡ value_code (importance_words «record».now query.now) }
 {
-    if query.len() < QUERY_WORDS {
-        return 0x1_0000_0001;
-    }
-    match read_record(record, 0) {
-        Ok(whole) => weight_code(importance(whole, query_of(query))),
-        Err(why) => 0x1_0000_0001,
-    }
-}
-
-fn weight_code(answer: Result<f32, Refusal>) -> u64
-    ensures { result ≡ value_code (answered answer) }
-{
-    match answer {
-        Ok(x) => x.word() as u64,
-        Err(why) => 0x1_0000_0000 + why.number() as u64,
-    }
+    value_code(importance_words(record, query))
 }
 
 // The union of two records, its words written, or zeros where it is refused.
-fn write_union(a: LightBounds, b: LightBounds, out: &mut [u32]) -> u32
+fn write_union(a: LightBounds, b: LightBounds, out: &mut [u32]) -> Result<LightBounds, Refusal>
     requires { record_words ≤ length out.old }
-    ensures value { result ≡ code (union_of a b) }
+    ensures result_value { answered result ≡ union_of a b }
     ensures out_after { out.new ≡ tray record_list record_words (union_of a b) out.old }
 {
-    match union(a, b) {
-        Ok(record) => {
-            write_record(out, 0, record);
-            0
-        }
-        Err(why) => {
-            zero_words(out, 0, RECORD_WORDS);
-            why.number()
-        }
+    let answer = union(a, b);
+    match answer {
+        Ok(record) => write_record(out, 0, record),
+        Err(_) => zero_words(out, 0, RECORD_WORDS),
     }
+    answer
+}
+
+fn union_words(a: &[u32], b: &[u32], out: &mut [u32]) -> Result<LightBounds, Refusal>
+    ensures result_value { answered result ≡ union_words a.now b.now (length out.old) }
+    ensures out_after { out.new ≡
+        tray record_list record_words (union_words a.now b.now (length out.old))
+        out.old }
+{
+    let first = read_record(a, 0)?;
+    let second = read_record(b, 0)?;
+    if out.len() < RECORD_WORDS {
+        return Err(Refusal::ShortTray);
+    }
+    write_union(first, second, out)
 }
 
 // 0, or the refusal's number.
@@ -273,30 +264,23 @@ pub extern "C" fn bounds_union(a: &[u32], b: &[u32], out: &mut [u32]) -> u32
         tray record_list record_words (union_words a.now b.now (length out.old))
         out.old }
 {
-    match read_record(a, 0) {
-        Ok(first) => match read_record(b, 0) {
-            Ok(second) => {
-                if out.len() < RECORD_WORDS {
-                    3
-                } else {
-                    write_union(first, second, out)
-                }
-            }
-            Err(why) => 1,
-        },
-        Err(why) => 1,
-    }
+    code(union_words(a, b, out))
 }
 
 // ---- the bounds block's check
+
+// The layout before the handles.
+fn check_block(block: &[u32]) -> Result<usize, Refusal>
+    ensures { answered result ≡ block_check block.now }
+{
+    check_layout(block)?;
+    check_handles(block)
+}
 
 // 0, or the refusal's number.
 #[unsafe(no_mangle)]
 pub extern "C" fn lamps_check_block(block: &[u32]) -> u32
     ensures { result ≡ code (block_check block.now) }
 {
-    match check_layout(block) {
-        Ok(_) => code(check_handles(block)),
-        Err(why) => why.number(),
-    }
+    code(check_block(block))
 }

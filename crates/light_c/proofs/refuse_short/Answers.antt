@@ -4,12 +4,12 @@ use Rattle.words.specs.Answers.{refused, ◌then◌}
 use Rattle.light_c.specs.AsCoded.ShortAnswer.{short_answer}
 use Rattle.light_c.proofs.refuse_short.Goals as goal
 
-pub returns-in-Count : goal.returns-in-Count
+pub returns-in-Ok : goal.returns-in-Ok
 unfolding short_answer ◌then◌
-returns-in-Count c = rw (← c.check_build.ensures, c.in-Count.is)
-    (ap refused c.refusal_number.ensures)
+returns-in-Ok c = rw (← c.check_build.ensures, c.in-Ok.is)
+    (ap refused c.number.ensures)
 
-pub returns-in-Refused : goal.returns-in-Refused
+pub returns-in-Err : goal.returns-in-Err
 unfolding short_answer ◌then◌
-returns-in-Refused c = rw (← c.check_build.ensures, c.in-Refused.is)
-    (ap refused c.refusal_number-in-Refused.ensures)
+returns-in-Err c = rw (← c.check_build.ensures, c.in-Err.is)
+    (ap refused c.number-in-Err.ensures)

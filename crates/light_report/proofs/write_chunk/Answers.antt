@@ -5,5 +5,5 @@ use Rattle.light_report.proofs.write_chunk.Goals as goal
 pub write_lines-requires : goal.write_lines-requires
 write_lines-requires c =
     let put = c.put_lines-end.ensures in
-    lines-handed _ _ _ _ c.args.out.now c.put_lines-end.result c.requires.nodes_value
+    lines-handed _ _ _ _ c.args.out.now c.put_lines-end.result c.requires
     (put.out_after, (put.value, put.upper_bound))

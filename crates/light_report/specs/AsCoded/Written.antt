@@ -2,17 +2,17 @@
 -- nothing.
 use Rattle.std.specs.Prelude.{ℕ, cond, ◌≡◌, ltb, length, get_or}
 use mathlib.Core.List.{List, [], ◌++◌, map, flatten}
+use Rattle.std.specs.Prelude.{Result, Ok, Err, Some, None}
 use Rattle.std.proofs.Math.Option.{Option}
 use Rattle.std.proofs.lemmas.List.Edits.{sets}
 use Rattle.words.specs.Answers.{Answer, given, refused}
 use Rattle.words.specs.LittleEndian.{words_of, bytes_of}
 use Rattle.words.specs.Refusals.{number}
+use Rattle.words.specs.declared.refusals.Refusal.{Refusal}
 use Rattle.light_bvh.specs.Build.{LightBVH, nodes_written, table_written}
 use Rattle.light_bounds.specs.declared.bounds.Bounds3.{Bounds3}
 use Rattle.light_report.specs.declared.Opened.{Opened}
-use Rattle.light_report.specs.declared.Opened.TheVariants.{Groups, Ended}
 use Rattle.light_report.specs.declared.Taken.{Taken}
-use Rattle.light_report.specs.declared.Taken.TheVariants.{Tree, Refused}
 use Rattle.light_report.specs.Lines.{line_bytes, report_lines}
 use Rattle.light_report.specs.Report.{report_tree, header_bytes, block_bytes, report_lamps}
 
@@ -49,11 +49,13 @@ behind_first (refused n) chunks = []
 unfoldable pub written : List ℕ → List (List ℕ) → List ℕ
 written front chunks = first_lines (report_tree front) ++ behind_first (report_tree front) chunks
 
--- what the enum `Opened` says: how many bytes the first lines have, and the tree's where groups follow
+-- what `Opened` says: how many bytes the first lines have, and the tree's where groups follow
 unfoldable pub opened_of : Answer LightBVH → Opened
-opened_of (given b) = Groups (length (first_lines (given b))) (length (node_bytes (given b)))
-    (length (table_bytes (given b)))
-opened_of (refused n) = Ended (length (first_lines (refused n)))
+opened_of (given b) = record {
+  lines = length (first_lines (given b));
+  tree = Some (record { nodes = length (node_bytes (given b)); table = length (table_bytes (given b)) });
+}
+opened_of (refused n) = record { lines = length (first_lines (refused n)); tree = None }
 
 -- what opening a report leaves: its answer, and in place of what three slices held the tree's bytes and the first lines
 pub record Opens (t : Answer LightBVH) (answer : Opened) (nodes table out nodes-left table-left out-left : List ℕ)
@@ -73,7 +75,7 @@ unfoldable pub sizes : Answer LightBVH → Answer (ℕ × ℕ)
 sizes (given b) = given (b.rows, b.k)
 sizes (refused n) = refused n
 
--- what the enum `Taken` answers
-abbrev pub taken : Taken → Answer (ℕ × ℕ)
-taken (Tree lamps k) = given (lamps, k)
-taken (Refused r) = refused (number r)
+-- what taking a tree answers
+abbrev pub taken : Result Taken Refusal → Answer (ℕ × ℕ)
+taken (Ok t) = given (t.lamps, t.powered)
+taken (Err why) = refused (number why)

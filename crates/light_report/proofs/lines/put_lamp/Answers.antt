@@ -10,14 +10,14 @@ use Rattle.light_report.proofs.lines.put_lamp.Goals as goal
 use Rattle.light_report.proofs.lines.put_lamp.Goals.{After-put_decimal, After-put_chance-end}
 
 module _ (c : After-put_decimal) where
-  handle : Put c.args.out.now c.args.at (decimal_bytes c.args.handle) c.put_decimal.new.out
+  handle : Put c.args.out.now c.args.at (decimal_bytes c.args.lamp.handle) c.put_decimal.new.out
       (c.args.at + c.put_decimal.result)
   handle =
-      put-fits (omega (arith, decimal-short c.args.handle, c.requires)) c.put_decimal.ensures.out_after
+      put-fits (omega (arith, decimal-short c.args.lamp.handle, c.requires)) c.put_decimal.ensures.out_after
       c.put_decimal.ensures.value
 
   few : c.put_decimal.result ≤ 10
-  few = omega (arith, handle.past, decimal-short c.args.handle)
+  few = omega (arith, handle.past, decimal-short c.args.lamp.handle)
 
 module _ (c : After-put_chance-end) (few : c.put_decimal.result ≤ 10) where
   short : c.put_chance-end.result + 1 ≤ c.args.at + 29
