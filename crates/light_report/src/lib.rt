@@ -118,7 +118,12 @@ fn build_tree(lamps: usize, room: &mut Room) -> Result<usize, Refusal>
         (tree_of lamps (take (block_words lamps) room.old.block)) room.old.table }
 {
     let words = 1 + EXHAUSTIVE_BOUNDS_WORDS * lamps;
-    let Room { block, nodes, table, work } = room;
+    let Room {
+        block,
+        nodes,
+        table,
+        work,
+    } = room;
     match build_light_bvh(lamps, &block[..words], nodes, table, work) {
         Ok(Some(built)) => Ok(built.powered),
         Ok(None) => Ok(0),
@@ -182,7 +187,12 @@ struct Opened {
 }
 
 // Draws walk the tree's words as bytes.
-fn open_report(front: &[u8], room: &mut Room, tree: &mut WalkedTree, out: &mut [u8; LINES_BYTES]) -> Opened
+fn open_report(
+    front: &[u8],
+    room: &mut Room,
+    tree: &mut WalkedTree,
+    out: &mut [u8; LINES_BYTES],
+) -> Opened
     ensures { Opens (report_tree front.now) result tree.old.nodes tree.old.table
         out.old tree.new.nodes tree.new.table out.new }
 {
@@ -192,9 +202,15 @@ fn open_report(front: &[u8], room: &mut Room, tree: &mut WalkedTree, out: &mut [
             let words = node_words(taken.powered);
             let nodes = put_words(&mut tree.nodes, &room.nodes[..words]);
             let table = put_words(&mut tree.table, &room.table[..taken.lamps]);
-            Opened { lines: header, tree: Some(TreeEnds { nodes, table }) }
+            Opened {
+                lines: header,
+                tree: Some(TreeEnds { nodes, table }),
+            }
         }
-        Err(why) => Opened { lines: header + put_refused(out, header, why), tree: None },
+        Err(why) => Opened {
+            lines: header + put_refused(out, header, why),
+            tree: None,
+        },
     }
 }
 
@@ -313,7 +329,10 @@ pub fn columns()
     ensures { result ≡ tt }
 {
     let mut front = [0; 4 * BLOCK_WORDS];
-    let mut tree = WalkedTree { nodes: [0; 4 * NODES_WORDS], table: [0; 4 * REPORT_LAMPS] };
+    let mut tree = WalkedTree {
+        nodes: [0; 4 * NODES_WORDS],
+        table: [0; 4 * REPORT_LAMPS],
+    };
     let mut chunk = [0; CHUNK_BYTES];
     let mut out = [0; LINES_BYTES];
     let n = read_front(&mut front);

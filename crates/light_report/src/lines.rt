@@ -39,7 +39,11 @@ fn draw_group(nodes: &[u8], table: &[u8], group: &[u8]) -> Result<Option<Line>, 
     match bvh_light_sampler_sample(nodes, query, float_at(group, QUERY_WORDS))? {
         Some(SampledLight { light, pmf }) => {
             let named = bvh_light_sampler_pmf(nodes, table, query, light)?;
-            Ok(Some(Line { handle: light, drawn: pmf, named }))
+            Ok(Some(Line {
+                handle: light,
+                drawn: pmf,
+                named,
+            }))
         }
         None => Ok(None),
     }

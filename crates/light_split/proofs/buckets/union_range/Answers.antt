@@ -31,16 +31,16 @@ loop-bucket-preserved c =
     let loop = c.loop-bucket in
     elim c.match-bucket.branch [
       | in-Some+in_ok-join_to w ↦ rw (
-          w.result-is,
-          ← loop.invariant,
-          union_some loop.result c.args.buckets.now loop.bucket-index w.in-Some.bounds (omega arith) w.in-Some.is,
-          ← w.in_ok-join_to.ensures,
-        )
+        w.result-is,
+        ← loop.invariant,
+        union_some loop.result c.args.buckets.now loop.bucket-index w.in-Some.bounds (omega arith) w.in-Some.is,
+        ← w.in_ok-join_to.ensures,
+      )
       | in_default w ↦ rw (
-          w.result-is,
-          ← loop.invariant,
-          union_none loop.result c.args.buckets.now loop.bucket-index (omega arith) w.in_default.is,
-        )
+        w.result-is,
+        ← loop.invariant,
+        union_none loop.result c.args.buckets.now loop.bucket-index (omega arith) w.in_default.is,
+      )
     ]
 
 pub returns : goal.returns
