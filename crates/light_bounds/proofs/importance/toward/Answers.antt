@@ -1,8 +1,7 @@
 -- Where nothing but the direction counts, the box is not looked at; else the box, the smallest angle, then the cone's
 -- edge. Assumes nothing.
-use mathlib.Core.Path.{sym, ◌∙◌, ap}
+use mathlib.Core.Path.{sym, ◌∙◌}
 use Rattle.light_bounds.specs.Importance.{toward}
-use Rattle.light_bounds.specs.Vecmath.{vec_length}
 use Rattle.light_bounds.proofs.PlainView.{plain}
 use Rattle.light_bounds.proofs.importance.toward.Goals as goal
 
