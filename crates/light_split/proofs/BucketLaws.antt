@@ -1,10 +1,9 @@
 -- Laws of the twelve buckets: one more record, the refusal of a union, and a float of its word. Assumes nothing.
-use Prim.Native.Nat.{ℕ, suc, ◌+◌, ◌≤◌, ◌<◌}
+use Prim.Native.Nat.{ℕ, ◌+◌, ◌≤◌, ◌<◌}
 use mathlib.Core.Path.{◌≡◌, refl, ap, subst, sym, ◌∙◌}
 use mathlib.Core.Bool.{true}
-use mathlib.Core.List.{List, [], ◌∷◌}
+use mathlib.Core.List.{List}
 use native.Mathlib.Numerals.{add-one}
-use native.Mathlib.Omega.{arith}
 use lib.Dec.{T}
 use lib.Ieee.{Float, binary32, fits, of_bits, to_bits}
 use lib.Ieee.Bits.{of_bits-to_bits}
@@ -12,12 +11,15 @@ use lib.ListN.{length, get_or, set, drop, drop_of_length-le}
 use lib.Seq.{drop-cons}
 use Rattle.std.specs.Prelude.{None, Some}
 use Rattle.words.specs.Answers.{Answer, given, refused, ◌then◌}
-use Rattle.words.proofs.AnswerLaws.{Only, only-given, only-refused, only_then, only-number}
+use Rattle.words.proofs.AnswerLaws.{Only, only-given, only-refused, only_then, only-number, then_is, then-refused}
 use Rattle.light_bounds.specs.LightBounds.{union, operand, validate}
 use Rattle.light_bounds.specs.declared.bounds.Bounds3.{Bounds3}
 use Rattle.light_bounds.specs.declared.light_bounds.LightBounds.{LightBounds}
 use Rattle.light_split.specs.Buckets.{Bucket, join_to, fill_buckets, union_range}
 use Rattle.light_split.specs.Lights.{light_of, bucket_of}
+
+-- a step, by what was answered before it
+pub ruleset steps = (then_is, then-refused)
 
 -- ---- a union refuses by 10 alone
 

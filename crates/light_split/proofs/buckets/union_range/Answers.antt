@@ -1,13 +1,8 @@
 -- `light_split::buckets::union_range`: what is left to join gives the same answer at each turn. Assumes nothing.
-use Prim.Native.Nat.{◌+◌}
-use mathlib.Core.Path.{◌≡◌, sym, ◌∙◌}
+use mathlib.Core.Path.{sym, ◌∙◌}
 use native.Mathlib.Omega.{arith}
-use lib.ListN.{drop}
-use Rattle.std.specs.Prelude.{Some, None}
 use Rattle.std.proofs.lemmas.Result.{err_from_is_err_and}
-use Rattle.words.specs.Answers.{◌then◌, answered, given}
-use Rattle.light_bounds.specs.declared.light_bounds.LightBounds.{LightBounds}
-use Rattle.light_split.specs.Buckets.{Bucket, union_range}
+use Rattle.words.specs.Answers.{◌then◌}
 use Rattle.light_split.proofs.BucketLaws.{union_some, union_none, union_end}
 use Rattle.light_split.proofs.buckets.union_range.Goals as goal
 use Rattle.light_split.proofs.buckets.union_range.Goals.{in-Some+in_ok-join_to, in_default}
@@ -31,16 +26,16 @@ loop-bucket-preserved c =
     let loop = c.loop-bucket in
     elim c.match-bucket.branch [
       | in-Some+in_ok-join_to w ↦ rw (
-          w.result-is,
-          ← loop.invariant,
-          union_some loop.result c.args.buckets.now loop.bucket-index w.in-Some.bounds (omega arith) w.in-Some.is,
-          ← w.in_ok-join_to.ensures,
-        )
+        w.result-is,
+        ← loop.invariant,
+        union_some loop.result c.args.buckets.now loop.bucket-index w.in-Some.bounds (omega arith) w.in-Some.is,
+        ← w.in_ok-join_to.ensures,
+      )
       | in_default w ↦ rw (
-          w.result-is,
-          ← loop.invariant,
-          union_none loop.result c.args.buckets.now loop.bucket-index (omega arith) w.in_default.is,
-        )
+        w.result-is,
+        ← loop.invariant,
+        union_none loop.result c.args.buckets.now loop.bucket-index (omega arith) w.in_default.is,
+      )
     ]
 
 pub returns : goal.returns
