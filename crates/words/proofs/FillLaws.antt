@@ -9,7 +9,8 @@ use Rattle.words.specs.AsCoded.Fill.{filled}
 
 module _ {A : Type 0} (s : List A) (from to : ℕ) (v : A) where
   -- one that lies within the slice
-  pub filled_within : from ≤ to → to ≤ length s → filled s from to v ≡ take from s ++ (replicate (to - from) v ++ drop to s)
+  pub filled_within : from ≤ to → to ≤ length s
+      → filled s from to v ≡ take from s ++ (replicate (to - from) v ++ drop to s)
   unfolding filled
   filled_within h k =
       let e : min to (length s) ≡ to = omega arith in

@@ -37,7 +37,8 @@ words_of-at (a ∷ b ∷ c ∷ d ∷ rest) (suc i) h =
     simp unary_clauses (simp unary_clauses at (words_of-at rest i (omega arith)))
 
 -- the bytes of the word at a place
-pub bytes_of-at : (ws : List ℕ) (i : ℕ) → i < length ws → take 4 (drop (4 * i) (bytes_of ws)) ≡ bytes_of_word (get_or ws i 0)
+pub bytes_of-at : (ws : List ℕ) (i : ℕ) → i < length ws
+    → take 4 (drop (4 * i) (bytes_of ws)) ≡ bytes_of_word (get_or ws i 0)
 unfolding bytes_of
 bytes_of-at [] i h = absurd (omega arith)
 bytes_of-at (w ∷ rest) zero h = refl
@@ -58,7 +59,8 @@ words_of-bytes_of (w ∷ rest) h =
     (words_of-bytes_of rest (λ i. h (suc i)))
 
 -- and bytes from the words that they make up
-pub bytes_of-words_of : (bs : List ℕ) → ((i : ℕ) → get_or bs i 0 < 256) → length bs % 4 ≡ 0 → bytes_of (words_of bs) ≡ bs
+pub bytes_of-words_of : (bs : List ℕ) → ((i : ℕ) → get_or bs i 0 < 256) → length bs % 4 ≡ 0
+    → bytes_of (words_of bs) ≡ bs
 unfolding words_of bytes_of
 bytes_of-words_of [] h e = refl
 bytes_of-words_of (a ∷ []) h e = absurd (omega arith)

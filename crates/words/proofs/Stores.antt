@@ -1,10 +1,10 @@
 -- A loop that writes a slice from the front, one store or a run of stores a turn. Assumes nothing.
-use Prim.Native.Nat.{ℕ, suc, ◌+◌, ◌≤◌, ◌<◌, zero-le}
+use Prim.Native.Nat.{ℕ, suc, ◌+◌, ◌≤◌, zero-le}
 use mathlib.Core.Path.{◌≡◌, refl, ◌∙◌}
 use mathlib.Core.List.{List, [], ◌∷◌, ◌++◌}
 use native.Mathlib.Omega.{arith}
-use lib.ListN.{length, get_or, take, drop, set, length-append, length-drop}
-use lib.Seq.{sets, sets-eq, length-sets, take_at, drop_at, drop-drop, drop-cons, drop-set-lt, take-add, length-take-le}
+use lib.ListN.{length, take, drop, set, length-append, length-drop}
+use lib.Seq.{sets, sets-eq, length-sets, take_at, drop_at, drop-drop, drop-set-lt, take-add, length-take-le}
 
 -- stores behind a front p that has been written
 pub stored : (p d vs : List ℕ) (n : ℕ) → length p ≡ n → n + length vs ≤ length d

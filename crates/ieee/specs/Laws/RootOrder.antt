@@ -9,7 +9,7 @@ use mathlib.Core.Bool.{Bool, true, false, not}
 use Rattle.std.proofs.Math.Logic.{inl, inr}
 use Rattle.std.proofs.Math.Dec.{T, not_T}
 use Rattle.std.specs.Float.{Format, nan, inf, fin}
-use Rattle.std.specs.Float.Ieee.{binary32, low, up, down, round, add, sub, mul, div, lt, le, fits, is_nan, of_bits, eq, neg, sum}
+use Rattle.std.specs.Float.Ieee.{binary32, low, up, down, round, add, sub, mul, div, lt, le, fits, is_nan, of_bits, eq, neg}
 use Rattle.std.specs.Float.Ieee.Bits.{is_false, of_bits-fits}
 use Rattle.std.specs.Float.Ieee.Exact.{HasValue}
 use Rattle.std.specs.Float.Ieee.Fits.{up_pos, down_pos}

@@ -1,5 +1,5 @@
 -- A list over the front of another, and the last item. Definitions only. Assumes nothing.
-use Rattle.std.specs.Prelude.{ℕ, ◌+◌, List, [], ◌∷◌, ◌++◌, length, drop}
+use Rattle.std.specs.Prelude.{ℕ, List, [], ◌∷◌, ◌++◌, length, drop}
 
 -- a list written over the front of another
 abbrev pub laid : {A : Type 0} → List A → List A → List A

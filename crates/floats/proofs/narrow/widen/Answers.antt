@@ -9,7 +9,8 @@ use Rattle.floats.proofs.narrow.widen.Goals as goal
 pub float_to_float-result : goal.float_to_float-result
 float_to_float-result c =
     let x = c.args.x in
-    and_i (fits binary64 x) (not (is_nan x)) (fits_widens x (subst T (sym c.well_formed.0.1) tt)) c.if-is_nan.ensures.not_nan
+    and_i (fits binary64 x) (not (is_nan x)) (fits_widens x (subst T (sym c.well_formed.0.1) tt))
+    c.if-is_nan.ensures.not_nan
 
 pub returns-then-is_nan : goal.returns-then-is_nan
 unfolding of_bits

@@ -36,7 +36,8 @@ kept-le c =
 pub shifted_to_even-kept-requires : goal.shifted_to_even-kept-requires
 shifted_to_even-kept-requires c =
     let n = c.normalised-s.result.digits.n in
-    let l : sticky (n * 2 ^ 54) < 2 ^ 55 = sticky-lt (n * 2 ^ 54) (2 ^ 54) (to n c.normalised-s.result.digits.n_bound) in
+    let l : sticky (n * 2 ^ 54) < 2 ^ 55 =
+    sticky-lt (n * 2 ^ 54) (2 ^ 54) (to n c.normalised-s.result.digits.n_bound) in
     record { a_bound = omega (arith, c.wide_sticky_root.ensures); le_gone = lit≤ tt; gone_bound = lit≤ tt }
 
 pub overflow_add-result : goal.overflow_add-result

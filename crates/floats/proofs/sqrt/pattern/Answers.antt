@@ -20,5 +20,8 @@ pub overflow_cast-result : goal.overflow_cast-result
 overflow_cast-result c = omega (arith, kept-le (goal.at.overflow_cast-result c).Start)
 
 pub returns : goal.returns
-returns c = ap (λ (z : ℕ). (2 + c.args.s.half) * 2 ^ 23 + z) c.requires.kept_value
-    ∙ root-pattern binary32 2 c.args.s.half c.args.s.digits.n c.args.s.digits.n_from c.args.s.digits.n_bound (omega arith)
+returns c =
+    let s = c.args.s in
+    let n = s.digits in
+    ap (λ (z : ℕ). (2 + s.half) * 2 ^ 23 + z) c.requires.kept_value
+    ∙ root-pattern binary32 2 s.half n.n n.n_from n.n_bound (omega arith)

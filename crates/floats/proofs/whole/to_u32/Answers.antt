@@ -6,4 +6,5 @@ use Rattle.floats.proofs.whole.to_u32.Goals as goal
 
 pub returns : goal.returns
 unfolding to_u32 to_usize
-returns c = c.unwrap_or.ensures ∙ saturated 32 64 (lit≤ tt) c.args.x _ c.to_usize.ensures c.try_from.result c.try_from.ensures
+returns c = c.unwrap_or.ensures
+    ∙ saturated 32 64 (lit≤ tt) c.args.x _ c.to_usize.ensures c.try_from.result c.try_from.ensures

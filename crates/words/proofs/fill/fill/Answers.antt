@@ -1,5 +1,5 @@
 -- `words::fill::fill`: the loop has passed all items of the stretch. Assumes nothing.
-use Rattle.std.proofs.Common.{◌≡◌, ◌-◌, length, take, drop, arith}
+use Rattle.std.proofs.Common.{arith}
 use borrow.Rule.Slice.PartMut.{mid_len}
 use Rattle.words.proofs.FillLaws.{filled-none, filled-part}
 use Rattle.words.proofs.fill.fill.Goals as goal

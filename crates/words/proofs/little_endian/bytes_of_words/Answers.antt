@@ -40,4 +40,7 @@ pub returns : goal.returns
 unfolding written_words
 returns c = let args = c.args in
     let h : 4 * length args.words.now ≤ length args.bytes.now = omega arith in
-    simp (le-leb _ _ h) (record { result_value = refl; bytes_after = tray_copied _ _ _ _ c.loop-i.invariant (omega arith) (length-bytes_of _) })
+    simp (le-leb _ _ h) (record {
+      result_value = refl;
+      bytes_after = tray_copied _ _ _ _ c.loop-i.invariant (omega arith) (length-bytes_of _);
+    })

@@ -1,5 +1,5 @@
 -- `words::little_endian::set_word`: the four bytes written over a stretch are the definition's stores. Assumes nothing.
-use Rattle.std.proofs.Common.{◌≡◌, ◌+◌, ◌-◌, ◌*◌, ◌∙◌, sym, append_assoc, arith}
+use Rattle.std.proofs.Common.{◌+◌, ◌*◌, ◌∙◌, sym, append_assoc, arith}
 use borrow.Author.Tests.{lt-ltb, le-ltb}
 use borrow.Rule.Slice.PartMut.{Post-is}
 use lib.Seq.{sets-eq}

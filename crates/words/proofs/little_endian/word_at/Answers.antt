@@ -6,4 +6,5 @@ use Rattle.words.proofs.LittleEndianLaws.{length-words_of}
 use Rattle.words.proofs.little_endian.word_at.Goals as goal
 
 pub returns-else-place-bytes : goal.returns-else-place-bytes
-returns-else-place-bytes c = sym (get_or-eq_default (words_of c.args.bytes.now) 0 (rw length-words_of c.if-place-bytes.false))
+returns-else-place-bytes c =
+    sym (get_or-eq_default (words_of c.args.bytes.now) 0 (rw length-words_of c.if-place-bytes.false))

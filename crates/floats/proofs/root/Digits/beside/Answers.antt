@@ -1,4 +1,4 @@
--- `floats::root::Digits::beside`: a number that passes the test is what is kept, wherever it came from. Assumes nothing.
+-- `Digits::beside`: a number that passes the test is what is kept, wherever it came from. Assumes nothing.
 use mathlib.Core.Path.{◌∙◌, sym}
 use Rattle.ieee.specs.Laws.SqrtNear.{nearest-kept}
 use Rattle.floats.proofs.root.Digits.beside.Goals as goal

@@ -1,5 +1,4 @@
--- `floats::root::Digits::halving_root`: the root lies from `low` up to `low + range`, and the range falls to 1. Assumes
--- nothing.
+-- `Digits::halving_root`: the root lies from `low` up to `low + range`, and the range falls to 1. Assumes nothing.
 use Prim.Native.Nat.{ℕ, suc, ◌+◌, ◌-◌, ◌*◌, ◌/◌, ◌^◌, ◌≤◌, ◌<◌}
 use mathlib.Core.Path.{◌≡◌, subst}
 use native.Mathlib.Nat.{mul-le-mul}

@@ -1,5 +1,5 @@
--- `floats::root::Digits::is_nearest`: the tests are those of `is_nearest`, and no step of them is too large for 64 digits.
--- Assumes nothing.
+-- `Digits::is_nearest`: the tests are those of `is_nearest`, and no step of them is too large for 64 digits. Assumes
+-- nothing.
 use Prim.Native.Nat.{◌+◌, ◌*◌, ◌^◌, ◌≤◌}
 use mathlib.Core.Path.{refl}
 use native.Mathlib.Nat.{mul-le-mul}
@@ -23,7 +23,9 @@ overflow_add-square c = omega (arith, square_le c)
 
 pub returns-then-square-self : goal.returns-then-square-self
 unfolding is_nearest
-returns-then-square-self c = let a = c.args in rw (lt-ltb (64 * (a.q * a.q) + 16) (a.self.n + 64 * a.q) c.if-square-self.true) refl
+returns-then-square-self c =
+    let a = c.args in
+    rw (lt-ltb (64 * (a.q * a.q) + 16) (a.self.n + 64 * a.q) c.if-square-self.true) refl
 
 pub returns-else-square-self : goal.returns-else-square-self
 unfolding is_nearest

@@ -1,4 +1,4 @@
--- `floats::root::Digits::kept_root`: the root's digits are few enough to round. Assumes nothing.
+-- `Digits::kept_root`: the root's digits are few enough to round. Assumes nothing.
 use Prim.Native.Nat.{ℕ, ◌^◌, ◌<◌}
 use mathlib.Core.Path.{ap, ◌∙◌}
 use native.Mathlib.Omega.{arith}

@@ -1,6 +1,5 @@
--- `floats::root::Digits::nearest_root`: a number that passes the test is what is kept, wherever it came from. Assumes nothing.
+-- `Digits::nearest_root`: a number that passes the test is what is kept, wherever it came from. Assumes nothing.
 use mathlib.Core.Path.{◌∙◌, sym}
-use Rattle.ieee.specs.Laws.Nans.{no_nan}
 use Rattle.ieee.specs.Laws.SqrtNear.{nearest-kept}
 use Rattle.floats.proofs.root.Digits.nearest_root.Goals as goal
 

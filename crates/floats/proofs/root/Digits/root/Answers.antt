@@ -1,5 +1,5 @@
--- `floats::root::Digits::root`: a number whose square is at most n, and whose next number's is above n, is the root, wherever
--- it came from. Assumes nothing.
+-- `Digits::root`: a number whose square is at most n, and whose next number's is above n, is the root, wherever it came
+-- from. Assumes nothing.
 use Prim.Native.Nat.{ℕ, zero, suc, ◌-◌, ◌*◌, ◌^◌, ◌≤◌, ◌<◌}
 use mathlib.Core.Path.{◌≡◌}
 use native.Mathlib.Nat.{mul-le-mul}

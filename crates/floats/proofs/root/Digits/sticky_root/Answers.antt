@@ -1,4 +1,4 @@
--- `floats::root::Digits::sticky_root`: the root's square is n, or the root leaves a rest; both are cases of `sticky`. Assumes
+-- `Digits::sticky_root`: the root's square is n, or the root leaves a rest; both are cases of `sticky`. Assumes
 -- nothing.
 use Prim.Native.Nat.{◌^◌, ◌<◌}
 use native.Mathlib.Omega.{arith}

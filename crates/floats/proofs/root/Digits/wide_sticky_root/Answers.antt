@@ -1,5 +1,5 @@
--- `floats::root::Digits::wide_sticky_root`: what the upper half leaves, over twice the upper half, is the lower half or one
--- more, and the rest of that division says which. Assumes nothing.
+-- `Digits::wide_sticky_root`: what the upper half leaves, over twice the upper half, is the lower half or one more, and
+-- the rest of that division says which. Assumes nothing.
 use Prim.Native.Nat.{ℕ, ◌-◌, ◌*◌, ◌/◌, ◌%◌, ◌^◌, ◌≤◌, ◌<◌}
 use native.Mathlib.Nat.{mul-le-mul}
 use native.Mathlib.Omega.{arith}
