@@ -9,7 +9,9 @@ ghost use Rattle.light_rows.specs.Block.{block_words, bounds_words, bounds_row};
 ghost use Rattle.light_rows.specs.AsCoded.BlockRow.{row_written};
 ghost use Rattle.light_rows.specs.Block.{handle_place, record_place, side_at, block_layout, block_handles};
 
-use super::record_words::{RECORD_WORDS, SIDE_PLACE, box_at, phi_at, record_or_zeros, write_record};
+use super::record_words::{
+    RECORD_WORDS, SIDE_PLACE, box_at, phi_at, record_or_zeros, write_record,
+};
 use light_bounds::bounds::Bounds3;
 use light_bounds::light_bounds::LightBounds;
 use light_bounds::side::is_side;

@@ -4,9 +4,8 @@ ghost use Rattle.ieee.specs.Single.{single};
 ghost use Rattle.words.specs.LittleEndian.{words_of};
 ghost use Rattle.light_rows.specs.QueryWords.{query_of};
 
-use super::record_words::vec_at;
+use super::record_words::{Words, vec_at};
 use light_bounds::importance::Query;
-use light_bounds::vecmath::Vec3;
 use words::floats::Float;
 use words::little_endian::word_at;
 
@@ -14,8 +13,8 @@ use words::little_endian::word_at;
 pub const QUERY_WORDS: usize = 6;
 
 // The query that words begin with.
-pub fn query_of(words: &[u32]) -> Query
-    ensures { result ≡ query_of words.now }
+pub fn query_of<W: Words>(words: W) -> Query
+    ensures { result ≡ query_of (W.words words) }
 {
     let p = vec_at(words, 0);
     let n = vec_at(words, 3);
@@ -26,17 +25,7 @@ pub fn query_of(words: &[u32]) -> Query
 pub fn query_of_bytes(bytes: &[u8]) -> Query
     ensures { result ≡ query_of (words_of bytes.now) }
 {
-    let p = Vec3 {
-        x: float_at(bytes, 0),
-        y: float_at(bytes, 1),
-        z: float_at(bytes, 2),
-    };
-    let n = Vec3 {
-        x: float_at(bytes, 3),
-        y: float_at(bytes, 4),
-        z: float_at(bytes, 5),
-    };
-    Query { p, n }
+    query_of(bytes)
 }
 
 // The float of the word at a place of little-endian bytes.

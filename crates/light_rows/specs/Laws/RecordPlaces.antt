@@ -1,6 +1,6 @@
 -- Records at a place, as the code reads and writes them: whether there are words enough is settled first, then the
 -- words. Assumes nothing.
-use Rattle.std.specs.Prelude.{ℕ, ◌+◌, ◌*◌, ◌/◌, ◌≤◌, ◌<◌, ◌≡◌, refl, true, false, List, [], ◌∷◌, ◌++◌, leb, length, get_or, take, drop}
+use Rattle.std.specs.Prelude.{ℕ, ◌+◌, ◌*◌, ◌/◌, ◌≤◌, ◌<◌, ◌≡◌, refl, true, false, List, ◌++◌, leb, length, get_or, take, drop}
 use Rattle.std.proofs.Common.{sym, ◌∙◌, arith, le-leb, length-drop, get_or-take, get_or-drop, length-take-le}
 use Rattle.std.proofs.Math.ListN.{get_or-eq_default}
 use Rattle.std.proofs.lemmas.List.Edits.{sets}

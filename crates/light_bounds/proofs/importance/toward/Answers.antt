@@ -11,9 +11,6 @@ returns-then-is_plain c = let a = c.args in
     let told = sym c.is_plain.ensures ∙ c.if-is_plain.true in
     sym (plain a.record a.query.p a.wi a.d2 a.query.normal told)
 
-pub subtended-cos_b-requires : goal.subtended-cos_b-requires
-subtended-cos_b-requires c = c.length.ensures ∙ ap vec_length c.diagonal.ensures
-
 pub returns-then-cos_p-record : goal.returns-then-cos_p-record
 unfolding toward
 returns-then-cos_p-record c = rw (← c.subtended-cos_b.ensures, ← c.smallest_angle-cos_p.ensures, c.if-cos_p-record.true)

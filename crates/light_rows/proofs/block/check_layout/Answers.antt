@@ -10,9 +10,6 @@ pub returns-then-crowded : goal.returns-then-crowded
 unfolding block_layout
 returns-then-crowded c = rw (← c.crowded.ensures, c.if-crowded.true)
 
-pub check_sides-requires : goal.check_sides-requires
-check_sides-requires c = c.if-block-block_words.true ∙ c.block_words.ensures
-
 pub returns-then-block-block_words : goal.returns-then-block-block_words
 unfolding block_layout
 returns-then-block-block_words c = let block = c.args.block.now in

@@ -18,9 +18,6 @@ module _ (c : After-fits) where
   fit : leb (handle_place c.args.row + bounds_words) (length block) ≡ c.fits.result
   fit = sym (c.fits.ensures ∙ ap (λ (k : ℕ). leb (k + bounds_words) (length block)) c.block_words.ensures)
 
-pub put_row-requires : goal.put_row-requires
-put_row-requires c = leb-true _ _ (fit (goal.at.put_row-requires c).After-fits ∙ c.if-fits.true)
-
 pub returns-then-fits : goal.returns-then-fits
 unfolding row_written
 returns-then-fits c = rw (fit (goal.at.returns-then-fits c).After-fits ∙ c.if-fits.true) c.put_row.ensures

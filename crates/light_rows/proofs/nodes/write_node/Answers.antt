@@ -14,9 +14,9 @@ unfolding node_written
 returns-then-words-place c = let args = c.args in
     let no : node_fits args.words.now args.place (node_value args.node) ≡ false =
     elim c.then-words-place.branch [
-      then-words-place-via-then-words-place w ↦ no_row _ _ _ w.if-words-place.true
+      | then-words-place-via-then-words-place w ↦ no_row _ _ _ w.if-words-place.true
       | then-words-place-via-else-words-place+then-number-ge-HEAD_ROOM w ↦
-        too_wide _ _ _ (omega (arith, w.number.ensures, w.if-number-ge-HEAD_ROOM.true))
+          too_wide _ _ _ (omega (arith, w.number.ensures, w.if-number-ge-HEAD_ROOM.true))
     ] in
     rw no (record { value = refl; words_after = refl })
 

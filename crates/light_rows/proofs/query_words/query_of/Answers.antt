@@ -4,4 +4,4 @@ use Rattle.light_rows.proofs.query_words.query_of.Goals as goal
 
 pub returns : goal.returns
 unfolding query_of
-returns c = rw (← c.vec_at-p.ensures, ← c.vec_at-n.ensures)
+returns g c = rw (← c.vec_at-p.ensures, ← c.vec_at-n.ensures)

@@ -5,4 +5,4 @@ use Rattle.light_rows.specs.AsCoded.RecordRow.{vec_of}
 use Rattle.light_rows.proofs.record_words.vec_at.Goals as goal
 
 pub returns : goal.returns
-returns c = c.vec_of.ensures ∙ ap vec_of c.triple_at.ensures ∙ sym (vec_at-is _ _)
+returns g c = c.vec_of.ensures ∙ ap vec_of c.triple_at.ensures ∙ sym (vec_at-is _ _)
