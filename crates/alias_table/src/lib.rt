@@ -159,9 +159,7 @@ fn put_bin(bins: &mut [u32], at: usize, p: f32)
     requires { at + 2 < length bins.old }
     ensures { bins.new ≡ sets bins.old at (0 ∷ to_bits binary32 p ∷ 0xffff_ffff ∷ []) }
 {
-    bins[at] = 0;
-    bins[at + 1] = p.word();
-    bins[at + 2] = 0xffff_ffff;
+    bins[at..at + 3].copy_from_slice(&[0, p.word(), 0xffff_ffff]);
 }
 
 impl Heights {
