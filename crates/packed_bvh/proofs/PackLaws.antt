@@ -314,6 +314,11 @@ module _ (n k : ℕ) where
   unfolding agreed
   agreed-checked all some-node some-lamp = rw (ne_eqb n 0 some-node, ne_eqb k 0 some-lamp)
 
+  pub agreed-valid : (all : Bounds3) → (n ≡ 0 → ⊥) → (k ≡ 0 → ⊥) → box_check all ≡ given tt
+      → agreed n k (some all) ≡ given (some all)
+  unfolding ◌then◌
+  agreed-valid all some-node some-lamp e = agreed-checked all some-node some-lamp ∙ rw e
+
   pub agreed-nothing : n ≡ 0 → k ≡ 0 → agreed n k none ≡ given none
   unfolding agreed
   agreed-nothing h e = rw (eq-eqb n 0 h, eq-eqb k 0 e)
