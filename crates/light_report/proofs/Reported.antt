@@ -61,8 +61,8 @@ group-cut bytes {group} {rest} {rest'} i left cut whole =
       omega (arith, ap length e, length-drop (28 * i) bytes, length-append group rest', whole),
       rw (e, ← whole) (take-append_seam group rest'),
       rw (← step) (sym (ap (drop 28) e
-      ∙ subst (λ (n : ℕ). drop n (group ++ rest') ≡ rest') whole (drop-append_seam group rest'))
-      ∙ drop-drop 28 (28 * i) bytes),
+          ∙ subst (λ (n : ℕ). drop n (group ++ rest') ≡ rest') whole (drop-append_seam group rest'))
+          ∙ drop-drop 28 (28 * i) bytes),
     )
 
 -- what is left at the end is no whole group

@@ -20,7 +20,7 @@ ghost use Rattle.light_report.specs.AsCoded.Written.{table_bytes, chunk_lines, O
 use light_bvh::build::build_light_bvh;
 use light_rows::block::EXHAUSTIVE_BOUNDS_WORDS;
 use light_rows::nodes::NODE_WORDS;
-use lines::{GROUP_BYTES, LINE_BYTES, put_lines};
+use lines::{GROUP_BYTES, LINE_BYTES, Tree, put_lines};
 use text::{put_refused, put_text, put_words};
 use words::little_endian::{word_at, words_of_bytes};
 use words::places::wide;
@@ -118,7 +118,12 @@ fn build_tree(lamps: usize, room: &mut Room) -> Result<usize, Refusal>
         (tree_of lamps (take (block_words lamps) room.old.block)) room.old.table }
 {
     let words = 1 + EXHAUSTIVE_BOUNDS_WORDS * lamps;
-    let Room { block, nodes, table, work } = room;
+    let Room {
+        block,
+        nodes,
+        table,
+        work,
+    } = room;
     match build_light_bvh(lamps, &block[..words], nodes, table, work) {
         Ok(Some(built)) => Ok(built.powered),
         Ok(None) => Ok(0),
@@ -182,7 +187,12 @@ struct Opened {
 }
 
 // Draws walk the tree's words as bytes.
-fn open_report(front: &[u8], room: &mut Room, tree: &mut WalkedTree, out: &mut [u8; LINES_BYTES]) -> Opened
+fn open_report(
+    front: &[u8],
+    room: &mut Room,
+    tree: &mut WalkedTree,
+    out: &mut [u8; LINES_BYTES],
+) -> Opened
     ensures { Opens (report_tree front.now) result tree.old.nodes tree.old.table
         out.old tree.new.nodes tree.new.table out.new }
 {
@@ -192,9 +202,15 @@ fn open_report(front: &[u8], room: &mut Room, tree: &mut WalkedTree, out: &mut [
             let words = node_words(taken.powered);
             let nodes = put_words(&mut tree.nodes, &room.nodes[..words]);
             let table = put_words(&mut tree.table, &room.table[..taken.lamps]);
-            Opened { lines: header, tree: Some(TreeEnds { nodes, table }) }
+            Opened {
+                lines: header,
+                tree: Some(TreeEnds { nodes, table }),
+            }
         }
-        Err(why) => Opened { lines: header + put_refused(out, header, why), tree: None },
+        Err(why) => Opened {
+            lines: header + put_refused(out, header, why),
+            tree: None,
+        },
     }
 }
 
@@ -252,32 +268,30 @@ fn write_lines(front: &[u8], groups: &[u8], text: &[u8]) -> bool
 // Reads a chunk of groups and writes its lines; whether there may be more.
 fn write_chunk(
     front: &[u8],
-    nodes: &[u8],
-    table: &[u8],
+    tree: Tree,
     chunk: &mut [u8; CHUNK_BYTES],
     out: &mut [u8; LINES_BYTES],
 ) -> bool
-    requires { (nodes.now ≡ node_bytes (report_tree front.now))
-        × (table.now ≡ table_bytes (report_tree front.now)) }
+    requires { (tree.nodes.now ≡ node_bytes (report_tree front.now))
+        × (tree.table.now ≡ table_bytes (report_tree front.now)) }
 {
     let n = io::read_full(0, chunk);
-    let end = put_lines(nodes, table, &chunk[..n], out);
+    let end = put_lines(tree, &chunk[..n], out);
     write_lines(front, &chunk[..n], &out[..end]) && n == chunk.len()
 }
 
 // A proved loop has to end, and nothing says that the input does: no run comes to the last turn.
 fn write_groups(
     front: &[u8],
-    nodes: &[u8],
-    table: &[u8],
+    tree: Tree,
     chunk: &mut [u8; CHUNK_BYTES],
     out: &mut [u8; LINES_BYTES],
 )
-    requires { (nodes.now ≡ node_bytes (report_tree front.now))
-        × (table.now ≡ table_bytes (report_tree front.now)) }
+    requires { (tree.nodes.now ≡ node_bytes (report_tree front.now))
+        × (tree.table.now ≡ table_bytes (report_tree front.now)) }
 {
     for _ in 0..u64::MAX {
-        if !write_chunk(front, nodes, table, chunk, out) {
+        if !write_chunk(front, tree, chunk, out) {
             break;
         }
     }
@@ -297,13 +311,11 @@ fn write_report(
         return;
     }
     if let Some(ends) = opened.tree {
-        write_groups(
-            front,
-            &tree.nodes[..ends.nodes],
-            &tree.table[..ends.table],
-            chunk,
-            out,
-        );
+        let walked = Tree {
+            nodes: &tree.nodes[..ends.nodes],
+            table: &tree.table[..ends.table],
+        };
+        write_groups(front, walked, chunk, out);
     }
 }
 
@@ -313,7 +325,10 @@ pub fn columns()
     ensures { result ≡ tt }
 {
     let mut front = [0; 4 * BLOCK_WORDS];
-    let mut tree = WalkedTree { nodes: [0; 4 * NODES_WORDS], table: [0; 4 * REPORT_LAMPS] };
+    let mut tree = WalkedTree {
+        nodes: [0; 4 * NODES_WORDS],
+        table: [0; 4 * REPORT_LAMPS],
+    };
     let mut chunk = [0; CHUNK_BYTES];
     let mut out = [0; LINES_BYTES];
     let n = read_front(&mut front);
