@@ -20,7 +20,7 @@ ghost use Rattle.light_report.specs.AsCoded.Written.{table_bytes, chunk_lines, O
 use light_bvh::build::build_light_bvh;
 use light_rows::block::EXHAUSTIVE_BOUNDS_WORDS;
 use light_rows::nodes::NODE_WORDS;
-use lines::{GROUP_BYTES, LINE_BYTES, put_lines};
+use lines::{GROUP_BYTES, LINE_BYTES, Tree, put_lines};
 use text::{put_refused, put_text, put_words};
 use words::little_endian::{word_at, words_of_bytes};
 use words::places::wide;
@@ -268,32 +268,30 @@ fn write_lines(front: &[u8], groups: &[u8], text: &[u8]) -> bool
 // Reads a chunk of groups and writes its lines; whether there may be more.
 fn write_chunk(
     front: &[u8],
-    nodes: &[u8],
-    table: &[u8],
+    tree: Tree,
     chunk: &mut [u8; CHUNK_BYTES],
     out: &mut [u8; LINES_BYTES],
 ) -> bool
-    requires { (nodes.now ≡ node_bytes (report_tree front.now))
-        × (table.now ≡ table_bytes (report_tree front.now)) }
+    requires { (tree.nodes.now ≡ node_bytes (report_tree front.now))
+        × (tree.table.now ≡ table_bytes (report_tree front.now)) }
 {
     let n = io::read_full(0, chunk);
-    let end = put_lines(nodes, table, &chunk[..n], out);
+    let end = put_lines(tree, &chunk[..n], out);
     write_lines(front, &chunk[..n], &out[..end]) && n == chunk.len()
 }
 
 // A proved loop has to end, and nothing says that the input does: no run comes to the last turn.
 fn write_groups(
     front: &[u8],
-    nodes: &[u8],
-    table: &[u8],
+    tree: Tree,
     chunk: &mut [u8; CHUNK_BYTES],
     out: &mut [u8; LINES_BYTES],
 )
-    requires { (nodes.now ≡ node_bytes (report_tree front.now))
-        × (table.now ≡ table_bytes (report_tree front.now)) }
+    requires { (tree.nodes.now ≡ node_bytes (report_tree front.now))
+        × (tree.table.now ≡ table_bytes (report_tree front.now)) }
 {
     for _ in 0..u64::MAX {
-        if !write_chunk(front, nodes, table, chunk, out) {
+        if !write_chunk(front, tree, chunk, out) {
             break;
         }
     }
@@ -313,13 +311,11 @@ fn write_report(
         return;
     }
     if let Some(ends) = opened.tree {
-        write_groups(
-            front,
-            &tree.nodes[..ends.nodes],
-            &tree.table[..ends.table],
-            chunk,
-            out,
-        );
+        let walked = Tree {
+            nodes: &tree.nodes[..ends.nodes],
+            table: &tree.table[..ends.table],
+        };
+        write_groups(front, walked, chunk, out);
     }
 }
 

@@ -15,6 +15,13 @@ use text::{put_decimal, put_hex, put_refused, put_text};
 use words::floats::Float;
 use words::refusals::Refusal;
 
+// A tree's bytes as draws walk them: its nodes and its handle table.
+#[derive(Clone, Copy)]
+pub struct Tree<'a> {
+    pub nodes: &'a [u8],
+    pub table: &'a [u8],
+}
+
 // What a line shows of a lamp: its chance as drawn and its chance by name.
 #[derive(Clone, Copy)]
 pub struct Line {
@@ -32,13 +39,13 @@ pub const LINE_BYTES: usize = 29;
 // ---- what a group draws
 
 // Words past a group's end are read as 0.
-fn draw_group(nodes: &[u8], table: &[u8], group: &[u8]) -> Result<Option<Line>, Refusal>
-    ensures { line result ≡ group_shown nodes.now table.now (words_of group.now) }
+fn draw_group(tree: Tree, group: &[u8]) -> Result<Option<Line>, Refusal>
+    ensures { line result ≡ group_shown tree.entry.nodes.now tree.entry.table.now (words_of group.now) }
 {
     let query = query_of_bytes(group);
-    match bvh_light_sampler_sample(nodes, query, float_at(group, QUERY_WORDS))? {
+    match bvh_light_sampler_sample(tree.nodes, query, float_at(group, QUERY_WORDS))? {
         Some(SampledLight { light, pmf }) => {
-            let named = bvh_light_sampler_pmf(nodes, table, query, light)?;
+            let named = bvh_light_sampler_pmf(tree.nodes, tree.table, query, light)?;
             Ok(Some(Line {
                 handle: light,
                 drawn: pmf,
@@ -92,26 +99,26 @@ pub(crate) fn put_line(out: &mut [u8], at: usize, shown: Result<Option<Line>, Re
 // ---- the lines of the bytes behind the block
 
 // Writes the line of a group; the place behind it.
-fn put_group(nodes: &[u8], table: &[u8], group: &[u8], out: &mut [u8], at: usize) -> usize
+fn put_group(tree: Tree, group: &[u8], out: &mut [u8], at: usize) -> usize
     requires { at + 29 ≤ length out.old }
     ensures put { Put out.old at
-        (group_line nodes.now table.now group.now) out.new result }
+        (group_line tree.entry.nodes.now tree.entry.table.now group.now) out.new result }
     ensures upper_bound { result ≤ at + 29 }
 {
-    put_line(out, at, draw_group(nodes, table, group))
+    put_line(out, at, draw_group(tree, group))
 }
 
 // Writes the lines of groups, and of a part group behind them; how many bytes these are.
-pub(crate) fn put_lines(nodes: &[u8], table: &[u8], groups: &[u8], out: &mut [u8]) -> usize
+pub(crate) fn put_lines(tree: Tree, groups: &[u8], out: &mut [u8]) -> usize
     requires { 29 * (length groups.now / 28) + 29 ≤ length out.old }
     ensures out_after { out.new
-        ≡ sets out.old 0 (report_lines nodes.now table.now groups.now) }
-    ensures value { result ≡ length (report_lines nodes.now table.now groups.now) }
+        ≡ sets out.old 0 (report_lines tree.entry.nodes.now tree.entry.table.now groups.now) }
+    ensures value { result ≡ length (report_lines tree.entry.nodes.now tree.entry.table.now groups.now) }
     ensures upper_bound { result ≤ length out.old }
 {
     let mut at = 0;
     for group in groups.chunks_exact(GROUP_BYTES) {
-        at = put_group(nodes, table, group, out, at);
+        at = put_group(tree, group, out, at);
     }
     if groups.len() % GROUP_BYTES == 0 {
         return at;

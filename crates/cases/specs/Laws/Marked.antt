@@ -37,7 +37,7 @@ use Rattle.light_split.specs.Split.{combined_bounds, better, cuts, axis, choose_
 use Rattle.light_split.specs.Partition.{goes_left, goes_right, lefts, rights, partition_handles}
 use Rattle.light_split.specs.AsCoded.Parted.{parted_count, parted_handles, parted_work}
 use Rattle.light_bvh.specs.Subtree.{forked, tree_by, build_subtree}
-use Rattle.light_bvh.specs.Build.{LightBVH, bounded_handles, grown, all_bounds, validated, tree_of, built_bvh, build_check}
+use Rattle.light_bvh.specs.Build.{LightBVH, bounded_handles, all_bounds, validated, tree_of, built_bvh, build_check}
 use Rattle.light_bvh.specs.Build.{build_light_bvh, nodes_written, tabled, table_written}
 use Rattle.light_sampler.specs.Fork.{parted, fork}
 use Rattle.light_sampler.specs.Walks.{Draw, weigh_at, weights, turn, taken, onward, descend, part_of, rise, risen, upward}
@@ -197,7 +197,7 @@ unfolding to_bits of_bits of_int span climb size odd units round neg sum add sub
     vec_at record_at record_list block_layout block_handles node_list node_count node_of node_at bounds_at leaves flatten
     component widen centroid_ends bucket_index bucket_of join_to fill_buckets union_range union_bucket_range m_omega kr
     evaluate_cost side_cost cut_cost combined_bounds better cuts axis choose_split kept goes_left goes_right lefts
-    rights partition_handles parted_count parted_handles parted_work forked tree_by build_subtree bounded_handles grown
+    rights partition_handles parted_count parted_handles parted_work forked tree_by build_subtree bounded_handles
     all_bounds validated tree_of built_bvh build_check build_light_bvh nodes_written tabled table_written parted fork weigh_at
     weights turn taken onward descend part_of rise risen upward ascend sample_check from_root sample_walk pmf_check leaf_of
     from_leaf pmf_walk steps_of quantize_bounds quantize_cos sign folded_quantize octahedral quantize_axis encode_octahedral

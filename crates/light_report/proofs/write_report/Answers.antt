@@ -54,12 +54,12 @@ shared_ref_as_front-write_first c =
     let at = (goal.at.shared_ref_as_front-write_first c).After-open_front-opened in
     omega (arith, lines at, first at)
 
-pub shared_ref_as_front-write_groups : goal.shared_ref_as_front-write_groups
-shared_ref_as_front-write_groups c =
-    let at = goal.at.shared_ref_as_front-write_groups c in
+pub shared_ref_as_front-walked : goal.shared_ref_as_front-walked
+shared_ref_as_front-walked c =
+    let at = goal.at.shared_ref_as_front-walked c in
     omega (arith, (ends at.In-Some).0, nodes at.After-open_front-opened)
 
-pub shared_ref_as_front-write_groups-in-Some : goal.shared_ref_as_front-write_groups-in-Some
-shared_ref_as_front-write_groups-in-Some c =
-    let at = goal.at.shared_ref_as_front-write_groups-in-Some c in
+pub shared_ref_as_front-walked-in-Some : goal.shared_ref_as_front-walked-in-Some
+shared_ref_as_front-walked-in-Some c =
+    let at = goal.at.shared_ref_as_front-walked-in-Some c in
     omega (arith, (ends at.In-Some).1, table at.After-open_front-opened)
