@@ -2,15 +2,12 @@
 // words stand is said here alone. They are fetched by name, from words or from little-endian bytes
 // (specs/AsCoded/RecordRow.antt), and one decoder makes the record of them.
 ghost use Rattle.words.specs.Answers.{answered};
-ghost use Rattle.std.specs.Prelude.{◌≡◌, ℕ, List, ◌+◌, ◌/◌, ◌<◌, ◌≤◌, get_or, length};
-ghost use Rattle.std.proofs.lemmas.List.Edits.{sets};
+ghost use Rattle.std.specs.Prelude.{◌≡◌, ℕ, List, ◌<◌, get_or, length};
 ghost use Rattle.ieee.specs.Single.{single};
 ghost use Rattle.words.specs.LittleEndian.{words_of};
 ghost use Rattle.words.specs.Refusals.{number};
-ghost use Rattle.light_rows.specs.AsCoded.RecordRow.{triple_at, row_at, vec_of, record_of, judged_row};
-ghost use Rattle.light_rows.specs.RecordWords.{record_words, phi_place, read_record, record_at, vec_at, box_at};
-ghost use Rattle.light_rows.specs.RecordWords.{vec_words, rest_words, record_list};
-ghost use Rattle.light_rows.specs.AsCoded.RecordRow.{written_at};
+ghost use Rattle.light_rows.specs.AsCoded.RecordRow.{triple_at, row_at, vec_of, record_of, judged_row, written_at};
+ghost use Rattle.light_rows.specs.RecordWords.{phi_place, read_record, record_at, vec_at, box_at, record_list};
 
 use light_bounds::bounds::Bounds3;
 use light_bounds::cones::Cone;
