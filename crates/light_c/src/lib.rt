@@ -84,6 +84,7 @@ fn refuse_build(answer: &mut [u32], why: Refusal) -> u32
 }
 
 // The number where the answer is short: the refusals before it come first.
+#[tactic(auto, using(crate::proofs::Steps::steps), unfolding(crate::specs::AsCoded::ShortAnswer::short_answer))]
 fn refuse_short(lights: usize, block: &[u32], nodes: usize, table: usize, work: usize) -> u32
     ensures { refused result ≡ short_answer lights block.now nodes table work }
 {
@@ -207,6 +208,7 @@ pub fn light_pmf(
 // ---- the packed tree
 
 // The box of two corners, or its absence.
+#[tactic(auto, unfolding(crate::specs::Codes::box_of))]
 fn box_of(present: u32, min: Vec3, max: Vec3) -> Option<Bounds3>
     ensures { optional result ≡ box_of present min.x min.y min.z max.x max.y max.z }
 {

@@ -1,3 +1,4 @@
 pub mod Reported
 pub mod TreeBytes
 pub mod WrittenLaws
+pub mod Steps

@@ -69,6 +69,7 @@ struct Taken {
 }
 
 // How many bytes the block takes of an input that begins with these four.
+#[tactic(auto, unfolding(crate::specs::AsCoded::Written::front_bytes))]
 fn front_bytes(head: &[u8]) -> usize
     ensures value { result ≡ front_bytes head.now }
     ensures lower_bound { (4 ≤ result) × (result ≤ 28676) }
@@ -81,6 +82,7 @@ fn front_bytes(head: &[u8]) -> usize
 }
 
 // How many lamps the block has.
+#[tactic(auto, unfolding(crate::specs::Report::block_lamps))]
 fn block_lamps(input: &[u8]) -> Result<usize, Refusal>
     ensures { answered result ≡ block_lamps input.now }
 {
