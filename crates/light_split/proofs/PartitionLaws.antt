@@ -6,7 +6,8 @@ use mathlib.Core.Bool.{Bool, true, false, cond, not, ◌||◌}
 use mathlib.Core.List.{List, [], ◌∷◌, ◌++◌, append-nil}
 use mathlib.Core.Logic.{◌⊎◌, ⊎_elim}
 use native.Mathlib.Omega.{arith}
-use lib.ListN.{length, get_or, take, drop, set, length-append, length-set, length-drop, take-append-drop, drop_of_length-le}
+use lib.ListN.{length, get_or, take, drop, set, length-append, length-set, length-drop, take-append-drop}
+use lib.ListN.{drop_of_length-le}
 use borrow.Rule.Slice.PartMut.{post_of}
 use lib.Seq.{take_all, length-take-le, take-append_seam}
 use borrow.Author.Tests.{lt-ltb, le-ltb, eq-eqb, ne_eqb}
@@ -105,7 +106,9 @@ module _ {l r : ℕ → Bool} (other : (h : ℕ) → r h ≡ not (l h)) {hs work
 -- ---- the whole
 
 -- who does not go left goes right
-pub goes-right : (ws : List ℕ) (ends : Bounds3) (s : Split) (h : ℕ) → goes_right ws ends s h ≡ not (goes_left ws ends s h)
+pub goes-right : (ws : List ℕ) (ends : Bounds3) (s : Split) (h : ℕ)
+    → goes_right ws ends s h ≡ not
+    (goes_left ws ends s h)
 unfolding goes_right
 goes-right ws ends s h = refl
 
@@ -129,7 +132,9 @@ module _ (ws hs : List ℕ) (s : Split) where
       kept_lengths (goes_left ws ends s) (goes_right ws ends s) (goes-right ws ends s) hs
 
   -- both halves one behind the other, wherever the stretch is cut
-  pub partition-joined : (partition_handles ws hs s).0 ++ (partition_handles ws hs s).1 ≡ lefts ws hs s ++ rights ws hs s
+  pub partition-joined : (partition_handles ws hs s).0 ++
+      (partition_handles ws hs s).1 ≡ lefts ws hs s ++ rights ws hs
+      s
   unfolding partition_handles
   partition-joined =
       let l = lefts ws hs s in

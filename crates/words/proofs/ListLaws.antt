@@ -1,4 +1,5 @@
--- Laws of lists: what holds of every item (`All`), the items that pass a test, a list laid over the front of another, and
+-- Laws of lists: what holds of every item (`All`), the items that pass a test, a list laid over the front of another,
+-- and
 -- lists in reverse. Assumes nothing.
 use Prim.Native.Nat.{ℕ, zero, suc, ◌+◌, ◌-◌, ◌≤◌, ◌<◌}
 use mathlib.Core.Path.{◌≡◌, refl, ap, sym, ◌∙◌}

@@ -1,5 +1,6 @@
 -- Functions of lists that definitions of several crates cite: the items that pass a test, a list over the front of
--- another, the reverse, the last, the sort of numbers, and how often a number stands in a list. Definitions only. Assumes
+-- another, the reverse, the last, the sort of numbers, and how often a number stands in a list. Definitions only.
+-- Assumes
 -- nothing.
 use Rattle.std.specs.Prelude.{ℕ, ◌+◌, Bool, cond, List, [], ◌∷◌, ◌++◌, leb, eqb}
 

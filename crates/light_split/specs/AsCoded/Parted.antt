@@ -11,7 +11,9 @@ parted_count ws hs s room = cond (ltb room (length hs)) (refused 3) (given (leng
 
 -- the stretch: the left half, then the right
 unfoldable pub parted_handles : List ℕ → List ℕ → Split → ℕ → List ℕ
-parted_handles ws hs s room = cond (ltb room (length hs)) hs ((partition_handles ws hs s).0 ++ (partition_handles ws hs s).1)
+parted_handles ws hs s room = cond (ltb room (length hs)) hs ((partition_handles ws hs s).0 ++
+    (partition_handles ws hs
+    s).1)
 
 unfoldable pub parted_work : List ℕ → List ℕ → Split → List ℕ → List ℕ
 parted_work ws hs s work = cond (ltb (length work) (length hs)) work (laid (rights ws hs s) work)
