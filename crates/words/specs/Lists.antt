@@ -1,7 +1,6 @@
 -- Functions of lists that definitions of several crates cite: the items that pass a test, a list over the front of
 -- another, the reverse, the last, the sort of numbers, and how often a number stands in a list. Definitions only.
--- Assumes
--- nothing.
+-- Assumes nothing.
 use Rattle.std.specs.Prelude.{ℕ, ◌+◌, Bool, cond, List, [], ◌∷◌, ◌++◌, leb, eqb}
 
 -- the items that pass a test
