@@ -1,5 +1,5 @@
 -- Laws of the cuts of an axis, as the loop that takes them uses them: the two sides of a cut, one cut more, a cut
--- behind an empty bucket, a side that is lost; and of the box of a stretch and its three axes. Assumes nothing.
+-- behind an empty bucket, a side that is lost; and of the axes that are left. Assumes nothing.
 use Prim.Native.Nat.{ℕ, zero, suc, ◌+◌, ◌-◌, ◌≤◌, ◌<◌}
 use mathlib.Core.Path.{◌≡◌, refl, ap, subst, sym, ◌∙◌}
 use mathlib.Core.Bool.{Bool, true, false, cond, ◌&&◌, and-false}

@@ -64,7 +64,8 @@ pub(crate) fn union_range(buckets: &[Option<LightBounds>]) -> Result<Option<Ligh
     Ok(result)
 }
 
-// ---- the cost
+// ---- the cost; the parent's box and the axis are parameters, since beside `last` in one struct every promise of a
+// method would have to say that they stay
 
 #[tactic(auto, unfolding(crate::specs::Buckets::m_omega))]
 fn m_omega(cos_theta_o: f32, cos_theta_e: f32) -> f32

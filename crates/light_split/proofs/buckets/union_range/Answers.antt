@@ -1,5 +1,4 @@
 -- `light_split::buckets::union_range`: a bucket is joined, or left out where it is empty. Assumes nothing.
-use native.Mathlib.Omega.{arith}
 use Rattle.words.specs.Answers.{◌then◌}
 use Rattle.light_split.specs.Buckets.{union_range}
 use Rattle.light_split.proofs.BucketLaws.{union_next}
