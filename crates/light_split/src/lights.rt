@@ -57,7 +57,9 @@ fn widen(block: &[u32], b: Bounds3, handle: u32) -> Bounds3
 pub fn centroid_ends(block: &[u32], handles: &[u32]) -> Bounds3
     ensures { result ≡ centroid_ends block.now handles.now }
 {
-    handles.iter().fold(no_ends(), |ends, handle| widen(block, ends, *handle))
+    handles
+        .iter()
+        .fold(no_ends(), |ends, handle| widen(block, ends, *handle))
 }
 
 #[tactic(auto, unfolding(crate::specs::Lights::bucket_index))]
@@ -71,7 +73,7 @@ fn bucket_index(value: f32, min: f32, max: f32) -> usize
     to_usize((value - min) / (max - min) * 12.0).min(N_BUCKETS - 1)
 }
 
-// The bucket of a handle's centroid between the ends of an axis.
+// The bucket of a handle's centroid between the ends of an axis; the axis alone is in a `Split`, so it stands apart.
 #[tactic(auto, unfolding(crate::specs::Lights::bucket_of))]
 pub fn bucket_of(block: &[u32], ends: Bounds3, dimension: usize, handle: u32) -> usize
     ensures value { result ≡ bucket_of block.now ends dimension handle }

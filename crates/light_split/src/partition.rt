@@ -30,6 +30,7 @@ fn part(block: &[u32], ends: Bounds3, split: Split, handles: &mut [u32], work: &
 {
     let mut left: usize = 0;
     let mut right: usize = 0;
+    // By place: handles are written into the slice that they are read from.
     for i in 0..handles.len() {
         let handle = handles[i];
         if goes_left(block, ends, split, handle) {
