@@ -1,10 +1,8 @@
 -- `light_rows::block::check_sides`: up to `i` every side is known. Assumes nothing.
 use Prim.Native.Nat.{ℕ}
-use mathlib.Core.Path.{◌≡◌, refl, subst, sym, ap, ◌∙◌}
-use mathlib.Core.Bool.{true}
+use mathlib.Core.Path.{refl, sym, ap, ◌∙◌}
 use native.Mathlib.Omega.{arith}
 use lib.ListN.{get_or}
-use Rattle.words.specs.Answers.{given}
 use Rattle.words.specs.Rows.{below}
 use Rattle.words.proofs.RowLaws.{below_false, below_next}
 use Rattle.light_bounds.specs.Side.{side_known}
