@@ -33,6 +33,7 @@ pub(crate) fn join_to(
 }
 
 // Each handle's record into the bucket of its centroid.
+#[tactic(auto, using(crate::proofs::BucketLaws::fills))]
 pub(crate) fn fill_buckets(
     block: &[u32],
     handles: &[u32],
@@ -50,6 +51,7 @@ pub(crate) fn fill_buckets(
 }
 
 // The buckets joined from left to right, None where all are empty.
+#[tactic(auto, using(crate::proofs::BucketLaws::joins))]
 pub(crate) fn union_range(buckets: &[Option<LightBounds>]) -> Result<Option<LightBounds>, Refusal>
     ensures { answered result ≡ union_range None buckets.now }
 {

@@ -79,6 +79,7 @@ fn best_cut(
 }
 
 // The cut of a stretch. An axis is left out where its centroids are equal.
+#[tactic(auto, using(crate::proofs::SplitLaws::turns))]
 pub fn choose_split(block: &[u32], handles: &[u32]) -> Result<Split, Refusal>
     ensures { answered result ≡ choose_split block.now handles.now }
 {
