@@ -7,7 +7,7 @@ use mathlib.Core.List.{List, [], ◌∷◌, ◌++◌, append-nil}
 use mathlib.Core.Option.{Option}
 use native.Mathlib.Numerals.{add-one}
 use native.Mathlib.Omega.{arith}
-use borrow.Author.Tests.{lt-ltb, le-ltb, ltb-false, eq-eqb, ne_eqb, eqb-true}
+use borrow.Author.Tests.{ltb-false, eq-eqb, ne_eqb, eqb-true}
 use lib.Dec.{T, eqb, ltb}
 use lib.ListN.{length, get_or, set, length-append, length-set}
 use lib.Seq.{set_out}
@@ -264,8 +264,8 @@ module _ (lights : ℕ) (ws nodes table work : List ℕ) where
         → work' ≡ filled work 0 (work_reserve (get_or ws 0 0)) 0 → Outcome (refused n) nodes' table' work'
     unfolding build_light_bvh ◌then◌
     outcome_late n e en et ew =
-        let (is, each, few, long, handles, short) = build-checked lights ws (length nodes) (length table) (length work) m
-        checked in
+        let (is, each, few, long, handles, short) =
+        build-checked lights ws (length nodes) (length table) (length work) m checked in
         let (a, b, c) = rows-fit lights ws (length nodes) (length table) (length work) m checked in
         let h = only-number (late-validated ws (get_or ws 0 0)) e in
         rw (checked, is, e) (
@@ -288,6 +288,6 @@ module _ (lights : ℕ) (ws nodes table work : List ℕ) where
         Outcome r nodes' table' work'
     unfolding build_light_bvh ◌then◌
     outcome-rows e er en et ew =
-        let (is, each, few, long, handles, short) = build-checked lights ws (length nodes) (length table) (length work) m
-        checked in
+        let (is, each, few, long, handles, short) =
+        build-checked lights ws (length nodes) (length table) (length work) m checked in
         rw (checked, is, e) (er, (en, (et, ew)))

@@ -6,13 +6,14 @@ use native.Mathlib.Omega.{arith}
 use lib.Ieee.{eq}
 use lib.ListN.{get_or, set, take, drop}
 use Rattle.std.specs.Prelude.{None, Some}
-use Rattle.words.specs.Answers.{Answer, given, refused}
+use Rattle.words.specs.Answers.{Answer}
 use Rattle.words.proofs.AnswerLaws.{Late, only-given, only-refused, only-cond, only_then}
 use Rattle.light_bounds.proofs.LateLaws.{late-union}
 use Rattle.light_bounds.specs.declared.bounds.Bounds3.{Bounds3}
 use Rattle.light_bounds.specs.declared.light_bounds.LightBounds.{LightBounds}
 use Rattle.light_rows.specs.Tree.{Tree, bounds}
-use Rattle.light_split.specs.Buckets.{Bucket, join_to, fill_buckets, empty_buckets, union_range, union_bucket_range, cut_cost}
+use Rattle.light_split.specs.Buckets.{Bucket, join_to, fill_buckets, empty_buckets, union_range}
+use Rattle.light_split.specs.Buckets.{union_bucket_range, cut_cost}
 use Rattle.light_split.specs.Lights.{light_of, component, centroid_ends, bucket_of}
 use Rattle.light_split.specs.Partition.{partition_handles}
 use Rattle.light_split.specs.Split.{no_best, combined_bounds, cuts, axis, choose_split}
@@ -26,7 +27,8 @@ unfolding join_to
 late-join None b = only-given
 late-join (Some a) b = only_then (late-union a b) (λ _. only-given)
 
-late_fill : (ws : List ℕ) (ends : Bounds3) (d : ℕ) (bs : List Bucket) (hs : List ℕ) → Late (fill_buckets ws ends d bs hs)
+late_fill : (ws : List ℕ) (ends : Bounds3) (d : ℕ) (bs : List Bucket) (hs : List ℕ) →
+    Late (fill_buckets ws ends d bs hs)
 unfolding fill_buckets
 late_fill ws ends d bs [] = only-given
 late_fill ws ends d bs (h ∷ hs) =
@@ -75,7 +77,8 @@ late-by ws (h ∷ []) build late = only-given
 late-by ws (h ∷ i ∷ hs) build late =
     let all = h ∷ i ∷ hs in
     only_then (late-split ws all) (λ s. only_then (late (partition_handles ws all s).0) (λ l.
-    only_then (late (partition_handles ws all s).1) (λ r. only_then (late-union (bounds l) (bounds r)) (λ b. only-given))))
+    only_then (late (partition_handles ws all s).1) (λ r. only_then (late-union (bounds l) (bounds r))
+    (λ b. only-given))))
 
 pub late-tree : (ws : List ℕ) (n : ℕ) (hs : List ℕ) → Late (build_subtree ws n hs)
 unfolding build_subtree

@@ -1,9 +1,8 @@
 -- What `build_rows` comes to and leaves, where no row is powered (`rows_none`), where there is a tree (`rows-tree`) and
 -- where a union is lost (`rows_lost`). What the code lends is the front of each slice, so what is behind the reserves
 -- stays whatever the call leaves in front (`behind`). Assumes nothing.
-use Prim.Native.Nat.{ℕ, ◌+◌, ◌*◌, ◌-◌, ◌^◌, ◌≤◌, ◌<◌}
+use Prim.Native.Nat.{ℕ, ◌+◌, ◌*◌, ◌-◌, ◌≤◌, ◌<◌}
 use mathlib.Core.Path.{◌≡◌, refl, ap, sym, ◌∙◌}
-use mathlib.Core.Bool.{false}
 use mathlib.Core.List.{List, [], ◌∷◌, ◌++◌, append_assoc}
 use mathlib.Core.Option.{Option, none, some}
 use native.Mathlib.Omega.{arith}
@@ -22,7 +21,7 @@ use Rattle.light_rows.specs.Nodes.{node_words, invalid_index}
 use Rattle.light_rows.specs.Tree.{Tree, leaves, tree_words}
 use Rattle.light_rows.specs.Laws.TreeLaws.{length-flatten}
 use Rattle.words.specs.AsCoded.ListParts.{laid}
-use Rattle.light_bvh.specs.Subtree.{label_of, build_subtree}
+use Rattle.light_bvh.specs.Subtree.{build_subtree}
 use Rattle.light_bvh.specs.AsCoded.Stretches.{done, subtree_words}
 use Rattle.light_bvh.specs.Build.{bounded_handles, all_bounds, LightBVH, tree_of, built_bvh}
 use Rattle.light_bvh.specs.Build.{nodes_reserve, work_reserve, nodes_written, table_written}
@@ -31,7 +30,7 @@ use Rattle.light_bvh.specs.AsCoded.Tables.{tabled_below}
 use Rattle.light_bvh.proofs.BuildLaws.{build-checked, rows-fit}
 use Rattle.light_bvh.proofs.LateLaws.{late-tree}
 use Rattle.light_bvh.proofs.RowsLaws.{bounds-none, bounds_some, bounded-few}
-use Rattle.light_bvh.proofs.RowsLaws.{bounded-below, labels-fit, labels-below}
+use Rattle.light_bvh.proofs.RowsLaws.{bounded-below, labels-below}
 use Rattle.light_bvh.proofs.SubtreeLaws.{build-size, given-of, refused-of, done-moved, words-moved}
 use Rattle.light_bvh.proofs.TableLaws.{Labels, labels-map, Thirty}
 use Rattle.light_bvh.proofs.TableLaws.{tabled-front-tree, tabled-front, length-tabled}
@@ -169,7 +168,9 @@ gathered ws m nodes table work table' k e count as_laid =
       room_work = w;
       count = count;
       within = omega arith;
-      same = ap length as_laid ∙ front_length (bounded_handles ws m) table (length (bounded_handles ws m)) refl (omega arith);
+      same =
+          ap length as_laid ∙
+          front_length (bounded_handles ws m) table (length (bounded_handles ws m)) refl (omega arith);
       is = as_laid;
     }
 
@@ -223,7 +224,7 @@ module _ {ws : List ℕ} {m : ℕ} {nodes table work table' : List ℕ} {k : ℕ
         let hs = bounded_handles ws m in
         ap (take (k - 0)) g.is ∙ take_at hs (drop (length hs) table) (k - 0) (omega (arith, g.count))
 
-    table-front : length (take (k - 0) table') ≡ k
+    pub table-front : length (take (k - 0) table') ≡ k
     table-front = ap length front-is ∙ sym g.count
 
     work-front : length (take (k - 0) work) ≡ k
@@ -231,26 +232,6 @@ module _ {ws : List ℕ} {m : ℕ} {nodes table work table' : List ℕ} {k : ℕ
 
     nodes-front : length (take (end_of k - 0) nodes) ≡ end_of k
     nodes-front = length-take-le (end_of k - 0) nodes (omega (arith, g.within, g.room-nodes)) ∙ omega arith
-
-    -- what the tree asks
-    pub asks : 0 < k → (1 ≤ length (take (k - 0) table')) × ((length (take (k - 0) table') ≤ length (take (k - 0) work))
-        × ((length (take (end_of k - 0) nodes) + node_words ≡ node_words * (2 * length (take (k - 0) table')))
-        × ((0 + 2 * length (take (k - 0) table') < 2 ^ 30) × ((h : ℕ) → label_of ws h < 2 ^ 30))))
-    asks powered =
-        rw (table-front, work-front, nodes-front) (
-          omega arith,
-          (
-            omega arith,
-            (
-              omega arith,
-              (
-                omega (arith, g.within, g.few),
-                labels-fit ws m g.checked g.few
-                    g.long,
-              ),
-            ),
-          ),
-        )
 
 -- ---- behind the tree
 

@@ -1,6 +1,7 @@
 -- `build_light_bvh` of `light_bvh.rs`, in the order of R5.2 to R5.4: 2, 1, 4, 3, each record's check, then the tree.
 -- Definitions only. Assumes nothing.
-use Rattle.std.specs.Prelude.{ℕ, zero, suc, ◌-◌, ◌*◌, Bool, cond, ◌||◌, List, [], ◌∷◌, ◌++◌, eqb, ltb, length, set, replicate}
+use Rattle.std.specs.Prelude.{ℕ, zero, suc, ◌-◌, ◌*◌, Bool, cond, ◌||◌, List, [], ◌∷◌, ◌++◌, eqb, ltb, length, set}
+use Rattle.std.specs.Prelude.{replicate}
 use Rattle.std.proofs.Math.Option.{Option, none, some}
 use Rattle.std.specs.Float.Ieee.{lt}
 use Rattle.ieee.specs.Single.{zerof}

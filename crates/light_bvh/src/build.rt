@@ -148,7 +148,8 @@ fn zero_reserves(rows: u32, nodes: &mut [u32], table: &mut [u32], work: &mut [u3
     zero_words(work, 0, work_reserve(rows));
 }
 
-// Writes each leaf's place at its label, by a pass over the first n nodes.
+// Writes each leaf's place at its label, by a pass over the first n nodes. A head's kind is two bits of its word, so it
+// is read as a number, as it is written.
 fn table_leaves(nodes: &[u32], n: u32, table: &mut [u32])
     ensures { table.new ≡ tabled_below nodes.now n table.old }
 {
@@ -163,7 +164,8 @@ fn table_leaves(nodes: &[u32], n: u32, table: &mut [u32])
     }
 }
 
-// The rows behind the checks: the tree, or why there is none.
+// The rows behind the checks: the tree, or why there is none. The lent slices stay apart, since each clause says what
+// is left in one of them.
 fn build_rows(
     block: &[u32],
     nodes: &mut [u32],

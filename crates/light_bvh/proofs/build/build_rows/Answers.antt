@@ -1,6 +1,6 @@
 -- The fronts of the table, the work and the nodes are lent for the tree of the powered rows, and what is left of them
 -- is the definition's at each of the three ends; where there is a tree there is a box. Assumes nothing.
-use Prim.Native.Nat.{ℕ, ◌≤◌}
+use Prim.Native.Nat.{◌≤◌}
 use mathlib.Core.Path.{◌≡◌, sym, ◌∙◌}
 use mathlib.Core.Option.{some}
 use Rattle.std.proofs.Common.{arith, Ok}
@@ -9,7 +9,8 @@ use Rattle.words.specs.Answers.{given, optional}
 use Rattle.light_bvh.specs.Build.{built}
 use lib.ListN.{length, get_or}
 use Rattle.light_bvh.proofs.BuildLaws.{rows-fit}
-use Rattle.light_bvh.proofs.RowTrays.{Gathered, gathered, end_of, asks, Lent, nodes-size}
+use Rattle.light_bvh.proofs.RowsLaws.{labels-fit}
+use Rattle.light_bvh.proofs.RowTrays.{Gathered, gathered, end_of, table-front, Lent}
 use Rattle.light_bvh.proofs.RowTrays.{rows_none, rows_lost, rows-tree, rows-boxed}
 use Rattle.light_bvh.proofs.build.build_rows.Goals as goal
 use Rattle.light_bvh.proofs.build.build_rows.Goals.{After-gather_handles-k, After-build_subtree}
@@ -67,16 +68,15 @@ slice_bounds-build_subtree-end-3 c =
     let e : end_of c.gather_handles-k.result ≤ length c.args.nodes.now = omega (arith, g.within, g.room-nodes) in
     e
 
-pub build_subtree-requires : goal.build_subtree-requires
-build_subtree-requires c =
-    let h = asks (got (goal.at.build_subtree-requires c).After-gather_handles-k) (omega (arith, c.if-k-eq0.false)) in
-    record {
-      in_bounds = h.0;
-      handles_in_bounds = h.1.0;
-      node_words_len = h.1.1.0;
-      handles_bound = h.1.1.1.0;
-      by_index = h.1.1.1.1;
-    }
+pub build_subtree-requires-clause-handles_bound : goal.build_subtree-requires-clause-handles_bound
+build_subtree-requires-clause-handles_bound c =
+    let g = got (goal.at.build_subtree-requires-clause-handles_bound c).After-gather_handles-k in
+    omega (arith, table-front g, g.within, g.few)
+
+pub build_subtree-requires-clause-by_index : goal.build_subtree-requires-clause-by_index
+build_subtree-requires-clause-by_index c =
+    let g = got (goal.at.build_subtree-requires-clause-by_index c).After-gather_handles-k in
+    labels-fit _ _ g.checked g.few g.long
 
 pub overflow_cast-k : goal.overflow_cast-k
 overflow_cast-k c =

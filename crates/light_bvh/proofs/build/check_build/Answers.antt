@@ -28,11 +28,13 @@ unfolding build_check ◌then◌
 returns-then-is_short c =
     let count = handles-count c.args.block.now _ (sym c.in_ok-m.ensures) in
     rw (← c.in_ok-rows.ensures, eq-eqb _ _ c.if-lights-rows.false) (rw (← c.in_ok-m.ensures, count)
-    (ap (λ (b : Bool). cond b (refused 3) (given (get_or c.args.block.now 0 0))) (rw c.row_count.ensures at (sym c.if-is_short.true ∙ c.is_short.ensures))))
+    (ap (λ (b : Bool). cond b (refused 3) (given (get_or c.args.block.now 0 0)))
+    (rw c.row_count.ensures at (sym c.if-is_short.true ∙ c.is_short.ensures))))
 
 pub returns : goal.returns
 unfolding build_check ◌then◌
 returns c =
     let count = handles-count c.args.block.now _ (sym c.in_ok-m.ensures) in
     rw (← c.in_ok-rows.ensures, eq-eqb _ _ c.if-lights-rows.false) (rw (← c.in_ok-m.ensures, count)
-    (ap (λ (b : Bool). cond b (refused 3) (given (get_or c.args.block.now 0 0))) (rw c.row_count.ensures at (sym c.if-is_short.false ∙ c.is_short.ensures))))
+    (ap (λ (b : Bool). cond b (refused 3) (given (get_or c.args.block.now 0 0)))
+    (rw c.row_count.ensures at (sym c.if-is_short.false ∙ c.is_short.ensures))))

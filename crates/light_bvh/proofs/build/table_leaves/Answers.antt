@@ -1,6 +1,5 @@
 -- `light_bvh::build::table_leaves`: the leaves among the nodes up to i are in the table. Assumes nothing.
-use mathlib.Core.Path.{◌≡◌, refl, sym, ap, ◌∙◌}
-use native.Mathlib.Omega.{arith}
+use mathlib.Core.Path.{◌≡◌, refl, sym, ◌∙◌}
 use Prim.Native.Nat.{◌≤◌}
 use lib.ListN.{length, get_or}
 use Rattle.words.specs.Heads.{kind_of, handle_of}
@@ -31,5 +30,6 @@ loop-i-preserved c =
           let past : length c.loop-i.table ≤ handle_of (get_or nodes (node_place i) 0) =
           rw (w.wide-handle.ensures, w.handle_of.ensures, head) at w.if-handle-table.false in
           w.table-is ∙ so ∙ sym (tabled-past nodes i table (kind ∙ w.if-kind_of-eq1.true) (rw so at past))
-      | else-kind_of-eq1 w ↦ w.table-is ∙ so ∙ sym (tabled-other nodes i table (λ e. w.if-kind_of-eq1.false (sym kind ∙ e)))
+      | else-kind_of-eq1 w ↦ w.table-is ∙ so ∙
+          sym (tabled-other nodes i table (λ e. w.if-kind_of-eq1.false (sym kind ∙ e)))
     ]

@@ -1,14 +1,13 @@
 -- The right tree's nodes lie behind the left one's 2n - 1, so neither call sees the other's; each half is shorter than
 -- the stretch. Assumes nothing.
 use Prim.Native.Nat.{ℕ, ◌+◌, ◌*◌, ◌-◌, ◌^◌, ◌≤◌, ◌<◌}
-use mathlib.Core.Path.{◌≡◌, sym, ap, ◌∙◌}
+use mathlib.Core.Path.{◌≡◌, sym, ◌∙◌}
 use native.Mathlib.Omega.{arith}
 use lib.ListN.{length, take}
 use lib.Seq.{length-take-le}
 use Rattle.std.proofs.Common.{rules}
-use Rattle.words.specs.Answers.{given, refused, answered}
+use Rattle.words.specs.Answers.{refused, answered}
 use Rattle.words.specs.Refusals.{number}
-use Rattle.light_bvh.specs.AsCoded.Stretches.{split_count}
 use Rattle.light_bvh.proofs.SubtreeLaws.{cut_of, Stand, leaf-left, lost-left, no-left}
 use Rattle.light_bvh.proofs.SubtreeLaws.{no-right, both_left, front-is, done-moved, words-moved}
 use Rattle.light_bvh.proofs.SubtreeLaws.{left-asks, right-asks, handles_left, nodes_left}
@@ -94,7 +93,8 @@ returns-in_err-build_subtree t c =
     let s = stand t (goal.at.returns-in_err-build_subtree t c).In_ok-left in
     let args = c.args in
     let why = number c.in_err-build_subtree.field-0.0 in
-    let h = no-left s.cut args.at args.parent why (nodes_left c.in_ok-left.left args.nodes.now c.build_subtree.new.nodes)
+    let nodes = nodes_left c.in_ok-left.left args.nodes.now c.build_subtree.new.nodes in
+    let h = no-left s.cut args.at args.parent why nodes
     (done-moved args.block.now _ _ _ (front-is s) c.in_err-build_subtree.ensures.result_value) in
     let answer : answered c.from_residual-in_err-build_subtree.result ≡ refused why = search rules in
     record { result_value = answer ∙ h.0; nodes_after = h.1 }
