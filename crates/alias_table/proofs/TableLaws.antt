@@ -27,7 +27,8 @@ module _ (words : List ℕ) (sums : Sums) (e : Some sums ≡ sums_of (map single
         length-map,
       )
 
-  pub total-is : narrow (cond (eq sums.single zerof) (sum_from binary64 zerof (replicate (length words) onef)) sums.double)
+  pub total-is :
+      narrow (cond (eq sums.single zerof) (sum_from binary64 zerof (replicate (length words) onef)) sums.double)
       ≡ total (weighted (eq sums.single zerof) words)
   unfolding total weighted
   total-is = go (eq sums.single zerof)

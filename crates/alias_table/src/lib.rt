@@ -108,6 +108,7 @@ fn ones(m: usize) -> f64
 
 // The weight at a place; where the weights are flat each is one. The two are no struct: of one with a slice in it each
 // clause would have to name the moment, as `weights.entry.words.now`.
+#[tactic(auto, unfolding(crate::specs::AsCoded::Stacks::weighted))]
 fn weight_at(weights: &[u32], flat: bool, i: usize) -> f32
     requires { i < length weights.now }
     ensures { result ≡ get_or (weighted flat weights.now) i zerof }
@@ -158,9 +159,7 @@ fn put_bin(bins: &mut [u32], at: usize, p: f32)
     requires { at + 2 < length bins.old }
     ensures { bins.new ≡ sets bins.old at (0 ∷ to_bits binary32 p ∷ 0xffff_ffff ∷ []) }
 {
-    bins[at] = 0;
-    bins[at + 1] = p.word();
-    bins[at + 2] = 0xffff_ffff;
+    bins[at..at + 3].copy_from_slice(&[0, p.word(), 0xffff_ffff]);
 }
 
 impl Heights {

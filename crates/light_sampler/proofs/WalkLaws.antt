@@ -9,11 +9,10 @@ use borrow.Author.Tests.{ltb-true, ltb-false, eq-eqb, ne_eqb}
 use lib.Dec.{eqb, leb, ltb}
 use lib.Ieee.{Float}
 use lib.ListN.{length, get_or}
-use Rattle.ieee.specs.Choose.{fmin}
-use Rattle.ieee.specs.Single.{◌⊗◌, zerof, onef}
+use Rattle.ieee.specs.Single.{◌⊗◌, zerof}
 use Rattle.words.specs.Answers.{Answer, ◌then◌, given, refused}
 use Rattle.words.specs.Heads.{kind_of}
-use Rattle.words.proofs.AnswerLaws.{not-both, refused_injective}
+use Rattle.words.proofs.AnswerLaws.{then_is, then-refused, not-both, refused_injective}
 use Rattle.light_bounds.specs.AsCoded.Weighing.{prepared}
 use Rattle.light_bounds.proofs.WeighingLaws.{weigh-prepared}
 use Rattle.light_bounds.specs.declared.importance.Query.{Query}
@@ -21,11 +20,13 @@ use Rattle.light_bounds.specs.declared.importance.Prepared.{Prepared}
 use Rattle.light_rows.specs.Nodes.{LightBVHNode, leaf, interior, invalid_index, parent, node_of, node_at}
 use Rattle.light_rows.specs.Nodes.{node_place, node_words}
 use Rattle.light_rows.specs.Laws.TreeLaws.{node_at-past}
-use Rattle.light_sampler.specs.Fork.{neither, left, right, most}
-use Rattle.light_sampler.specs.Sampler.{from_root}
+use Rattle.light_sampler.specs.Fork.{neither, left, right}
 use Rattle.light_sampler.specs.AsCoded.Turns.{by_prepared}
 use Rattle.light_sampler.specs.Walks.{Walked, after_check, Weighing, by_query, turn, taken}
 use Rattle.light_sampler.specs.Walks.{onward, descend, nought, part, rise, risen, upward, ascend}
+
+-- steps, by what was answered
+pub ruleset steps = (then_is, then-refused)
 
 -- a node stands within the words
 pub node-within : (ws : List ℕ) (i : ℕ) {n : LightBVHNode} → given n ≡ node_at ws i → i < length ws / node_words
@@ -56,6 +57,9 @@ module _ {A B : Type 0} (walk : A → Walked B) {check : Answer A} where
 
   pub check-refused : {n : ℕ} → refused n ≡ check → (after_check check walk).outcome ≡ refused n
   check-refused e = ap (λ (x : Answer A). (after_check x walk).outcome) (sym e)
+
+-- a walk, by what its check answered
+pub ruleset checks = (check-given, check-refused)
 
 -- ---- the query that is held
 
@@ -106,12 +110,6 @@ module _ (ws : List ℕ) (q : Query) (n i : ℕ) (pmf u : Float) where
         (descend ws q (suc n) i pmf u).outcome ≡ (descend ws q n r (pmf ⊗ s) v).outcome
     unfolding descend onward taken
     descend-right e = rw (← stands, turn-held ws h q held i r u, ← e)
-
-pub from-root : (ws : List ℕ) (q : Query) (u : Float) (n : ℕ) → (n ≡ 0 → ⊥) →
-    (from_root ws q u n).outcome ≡ (descend ws q n 0 onef (fmin u most)).outcome
-unfolding from_root
-from-root ws q u zero h = absurd (h refl)
-from-root ws q u (suc n) h = refl
 
 -- ---- up
 

@@ -1,6 +1,6 @@
 -- `bvh_light_sampler_sample` and `bvh_light_sampler_pmf` of `light_bvh.rs`, over words as little-endian bytes: the
--- checks of R6 and R7, then the walk. A draw and a chance by name are the outcomes of `sample_walk` and `pmf_walk`, which
--- also tell the places entered. Definitions only. Assumes nothing.
+-- checks of R6 and R7, then the walk. A draw and a chance by name are the outcomes of `sample_walk` and `pmf_walk`,
+-- which also tell the places entered. Definitions only. Assumes nothing.
 use Rattle.std.specs.Prelude.{ℕ, zero, suc, ◌/◌, ◌%◌, cond, ◌&&◌, List, eqb, ltb, Float, length, get_or}
 use Rattle.std.proofs.Math.Option.{none, some}
 use Rattle.std.specs.Float.Ieee.{le}

@@ -15,6 +15,7 @@ pub enum Turn {
     Right { share: f32, u: f32 },
 }
 
+#[tactic(auto, unfolding(crate::specs::Fork::parted))]
 fn part(share: f32, u: f32) -> Turn
     ensures { turned (Some result) ≡ parted_of share u }
 {
@@ -32,6 +33,7 @@ fn part(share: f32, u: f32) -> Turn
 }
 
 // None where neither branch has weight.
+#[tactic(auto, unfolding(crate::specs::Fork::fork))]
 pub fn fork(left: f32, right: f32, u: f32) -> Option<Turn>
     ensures { turned result ≡ fork_of left right u }
 {

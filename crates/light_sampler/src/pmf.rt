@@ -16,6 +16,7 @@ use words::little_endian::word_at;
 use words::refusals::Refusal;
 
 // The child's part of the two weights; None where no child has weight.
+#[tactic(auto, unfolding(crate::specs::Walks::part_of))]
 fn part_of(place: usize, left: usize, right: usize, x: f32, y: f32) -> Result<Option<f32>, Refusal>
     ensures { risen_of result ≡ part_of place left right x y }
 {
@@ -33,6 +34,7 @@ fn part_of(place: usize, left: usize, right: usize, x: f32, y: f32) -> Result<Op
 }
 
 // From a child to its parent, whose node is read already.
+#[tactic(auto, using(crate::proofs::WalkLaws::steps), unfolding(crate::specs::Walks::rise))]
 fn rise(
     nodes: &[u8],
     query: Prepared,
@@ -77,6 +79,7 @@ fn ascend(nodes: &[u8], query: Query, count: usize, leaf: u32) -> Result<f32, Re
 }
 
 // 2 of the nodes or of the table, then 1: how many nodes there are.
+#[tactic(auto, using(crate::proofs::WalkLaws::steps), unfolding(crate::specs::Sampler::pmf_check))]
 fn check_pmf(nodes: &[u8], table: &[u8]) -> Result<usize, Refusal>
     ensures { answered result ≡ pmf_check nodes.now table.now }
 {
@@ -103,6 +106,7 @@ fn leaf_of(table: &[u8], handle: u32) -> u32
 // The chance of a light for a query, as the product of its weights' parts along the way up. Refusals: 2 over 8,191
 // nodes or 4,096 table words, 1 of a part of a node or of a word; then those that the walk meets, 12 where the words do
 // not hang together. A light past the table or without a leaf has chance 0.
+#[tactic(auto, using(crate::proofs::WalkLaws::checks), unfolding(crate::specs::Sampler::pmf_walk, crate::specs::Sampler::from_leaf))]
 pub fn bvh_light_sampler_pmf(
     nodes: &[u8],
     table: &[u8],

@@ -22,6 +22,7 @@ pub struct SampledLight {
 }
 
 // Where the node at a place sends u.
+#[tactic(auto, using(crate::proofs::WalkLaws::steps), unfolding(crate::specs::Walks::turn))]
 fn turn(
     nodes: &[u8],
     query: Prepared,
@@ -80,6 +81,7 @@ fn descend(
 }
 
 // 2 and 1 of the nodes, 11 of u: how many nodes there are.
+#[tactic(auto, using(crate::proofs::WalkLaws::steps), unfolding(crate::specs::Sampler::sample_check))]
 fn check_sample(nodes: &[u8], u: f32) -> Result<usize, Refusal>
     ensures { answered result ≡ sample_check nodes.now u }
 {
@@ -94,6 +96,7 @@ fn check_sample(nodes: &[u8], u: f32) -> Result<usize, Refusal>
 // over 8,191 nodes, 1 of a part of a node, 11 of u; then those that the walk meets, 12 where the words do not hang
 // together. Without nodes, and where neither branch of a fork has weight, none is drawn; a lone leaf is drawn
 // unweighed.
+#[tactic(auto, using(crate::proofs::WalkLaws::checks), unfolding(crate::specs::Sampler::sample_walk, crate::specs::Sampler::from_root))]
 pub fn bvh_light_sampler_sample(
     nodes: &[u8],
     query: Query,

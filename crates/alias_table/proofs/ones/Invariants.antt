@@ -8,4 +8,5 @@ use Rattle.alias_table.specs.AliasTable.{sum_from}
 use Rattle.alias_table.proofs.ones.Given as goal
 
 abbrev pub invariant-loop : goal.invariant-loop
-invariant-loop l = sum_from binary64 l.s (replicate (l.m - l.counter) onef) ≡ sum_from binary64 zerof (replicate l.m onef)
+invariant-loop l =
+    sum_from binary64 l.s (replicate (l.m - l.counter) onef) ≡ sum_from binary64 zerof (replicate l.m onef)

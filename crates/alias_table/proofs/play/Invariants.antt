@@ -6,7 +6,8 @@ use Rattle.alias_table.proofs.play.Given as goal
 
 abbrev pub invariant-turns : goal.invariant-turns
 invariant-turns l =
-    Going l.m l.initial.bins l.initial.work l.fn.first.under l.fn.first.over l.bins l.work l.heights.under l.heights.over
+    Going l.m l.initial.bins l.initial.work l.fn.first.under l.fn.first.over l.bins l.work l.heights.under
+    l.heights.over
 
 abbrev pub decreases-turns : goal.decreases-turns
 decreases-turns l = l.heights.under + l.heights.over
