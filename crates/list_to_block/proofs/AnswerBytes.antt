@@ -50,7 +50,8 @@ converted-room list stray = go (crowded list) (eqb stray 0)
 -- ---- the block
 
 module _ (list : List ℕ) (stray : ℕ) where
-  answered-built : (bs : List LightBounds) → answered list stray ≡ given bs → build_light_bounds list block_room ≡ given bs
+  answered-built : (bs : List LightBounds) → answered list stray ≡ given bs
+      → build_light_bounds list block_room ≡ given bs
   unfolding answered
   answered-built bs = go (crowded list) (eqb stray 0)
     where

@@ -34,6 +34,7 @@ const BLOCK_BYTES: usize = 4 * BLOCK_WORDS;
 // ---- the answer's bytes
 
 // The block of any list, with so many stray bytes behind its last word; how many lamps.
+#[tactic(auto, unfolding(crate::specs::ListToBlock::answered, words::specs::Tray::tray))]
 fn build(list: &[u32], stray: usize, block: &mut [u32; BLOCK_WORDS]) -> Result<usize, Refusal>
     ensures result_value { answered result ≡ count (answered_of list.now stray) }
     ensures block_after { block.new ≡ tray pack_exhaustive_bounds (block_words (get_or list.now 0 0))

@@ -17,7 +17,8 @@ use Rattle.words.specs.LittleEndian.{bytes_of, bytes_of_word, words_of}
 use Rattle.words.specs.AsCoded.WordSlices.{set_word}
 use Rattle.words.specs.Tray.{tray}
 use Rattle.words.specs.Laws.TrayLaws.{tray-full, tray-early}
-use Rattle.words.proofs.AnswerLaws.{Early, Late, then-given, only-given, only-refused, only-cond, only_then}
+use Rattle.words.proofs.AnswerLaws.{Early, Late, then_is, then-refused, then-given}
+use Rattle.words.proofs.AnswerLaws.{only-given, only-refused, only-cond, only_then}
 use Rattle.words.proofs.AnswerLaws.{only-number, not-both, given_injective}
 use Rattle.words.proofs.LittleEndianLaws.{length-bytes_of, bytes_of-append}
 use Rattle.words.proofs.Reserves.{tray-zeroed}
@@ -39,6 +40,9 @@ use Rattle.packed_bvh.specs.Packed.{header_words, packed_node_words, packed_plac
 use Rattle.packed_bvh.specs.Packed.{pack_check, agreed, packed_tree, pack_light_bvh, packed_bytes, bytes_reserve}
 use Rattle.packed_bvh.specs.Packed.{words_packed}
 use Rattle.packed_bvh.specs.AsCoded.PackedParts.{placing}
+
+-- what a step that is given, or refused, comes to
+pub ruleset steps = (then_is, then-refused)
 
 -- ---- words behind words
 
@@ -301,30 +305,14 @@ late-agreed n k (some all) =
     only-cond (eqb n 0 || eqb k 0) (only-refused (omega arith)) (only_then (late-box all) (λ _. only-given))
 
 module _ (n k : ℕ) where
-  pub agreed-empty : (all : Bounds3) → n ≡ 0 → agreed n k (some all) ≡ refused 12
-  unfolding agreed
-  agreed-empty all e = rw (eq-eqb n 0 e)
-
-  pub agreed-dark : (all : Bounds3) → (n ≡ 0 → ⊥) → k ≡ 0 → agreed n k (some all) ≡ refused 12
-  unfolding agreed
-  agreed-dark all h e = rw (ne_eqb n 0 h, eq-eqb k 0 e)
-
-  pub agreed-checked : (all : Bounds3) → (n ≡ 0 → ⊥) → (k ≡ 0 → ⊥)
-      → agreed n k (some all) ≡ (box_check all then λ _. given (some all))
-  unfolding agreed
-  agreed-checked all some-node some-lamp = rw (ne_eqb n 0 some-node, ne_eqb k 0 some-lamp)
+  pub agreed-valid : (all : Bounds3) → (n ≡ 0 → ⊥) → (k ≡ 0 → ⊥) → box_check all ≡ given tt
+      → agreed n k (some all) ≡ given (some all)
+  unfolding agreed ◌then◌
+  agreed-valid all some-node some-lamp e = rw (ne_eqb n 0 some-node, ne_eqb k 0 some-lamp, e)
 
   pub agreed-nothing : n ≡ 0 → k ≡ 0 → agreed n k none ≡ given none
   unfolding agreed
   agreed-nothing h e = rw (eq-eqb n 0 h, eq-eqb k 0 e)
-
-  pub agreed-lamps : n ≡ 0 → (k ≡ 0 → ⊥) → agreed n k none ≡ refused 12
-  unfolding agreed
-  agreed-lamps h e = rw (eq-eqb n 0 h, ne_eqb k 0 e)
-
-  pub agreed-nodes : (n ≡ 0 → ⊥) → agreed n k none ≡ refused 12
-  unfolding agreed
-  agreed-nodes h = rw (ne_eqb n 0 h)
 
 -- nodes that pass the first checks: few enough, and the room is lent
 pub check-known : (nodes before : List ℕ) (n : ℕ) → pack_check nodes (length before) ≡ given n

@@ -18,7 +18,8 @@ room c = omega (arith, converted-room c.args.list.now c.args.stray, c.told-out)
 block : (c : In-Ok)
     → (c.in-Ok.m ≤ max_lamps)
     × (bytes_of (take (block_words c.in-Ok.m) c.build.new.block) ≡ converted c.args.list.now c.args.stray)
-block c = block-bytes c.args.list.now c.args.stray _ _ c.in-Ok.m c.in-Ok.ensures.result_value c.build.ensures.block_after
+block c =
+    block-bytes c.args.list.now c.args.stray _ _ c.in-Ok.m c.in-Ok.ensures.result_value c.build.ensures.block_after
 
 pub overflow_cast-m : goal.overflow_cast-m
 overflow_cast-m c = record { fits = omega (arith, (block (goal.at.overflow_cast-m c).In-Ok).0) }

@@ -231,7 +231,7 @@ Covers ws all hs = Proper all × All (Around ws all) hs
 
 rows-covered : (ws : List ℕ) (m : ℕ) → validated ws m ≡ given tt → (all : Bounds3) → all_bounds ws m ≡ some all
     → Covers ws all (bounded_handles ws m)
-unfolding validated all_bounds bounded_handles grown
+unfolding validated all_bounds bounded_handles
 rows-covered ws zero e all is = absurd (none-ne-some all is)
 rows-covered ws (suc n) e all is =
     let (_, before, last) = then-given (validated ws n) (λ _. validate (light_of ws n)) tt e in

@@ -1,7 +1,5 @@
 -- There is room for all of the bytes, or the refusal has left the slice as it was. Assumes nothing.
-use mathlib.Core.Path.{ap, ◌∙◌, sym}
 use native.Mathlib.Omega.{arith}
-use Rattle.words.specs.Answers.{answered}
 use Rattle.text.proofs.PutLaws.{words-room, words-put, words_left}
 use Rattle.text.proofs.put_words.Goals as goal
 
