@@ -47,11 +47,6 @@ loop-group-preserved c =
           c.put_group-at.ensures.upper_bound;
     })
 
-pub put_line-requires : goal.put_line-requires
-put_line-requires c =
-    let written = c.loop-group.invariant.lines in
-    omega (arith, written.short, written.room, written.same, written.within)
-
 pub returns-then-groups-eq0 : goal.returns-then-groups-eq0
 returns-then-groups-eq0 c =
     let end = all (goal.at.returns-then-groups-eq0 c).In-None in
