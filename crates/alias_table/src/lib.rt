@@ -106,8 +106,8 @@ fn ones(m: usize) -> f64
     s
 }
 
-// The weight at a place; where the weights are flat each is one. The two are no struct: of one with a slice in it each
-// clause would have to name the moment, as `weights.entry.words.now`.
+// The weight at a place; where the weights are flat each is one.
+// Weights and flat are no struct: of one with a slice in it each clause would have to say `weights.entry.words.now`.
 #[tactic(auto, unfolding(crate::specs::AsCoded::Stacks::weighted))]
 fn weight_at(weights: &[u32], flat: bool, i: usize) -> f32
     requires { i < length weights.now }
