@@ -1,4 +1,4 @@
--- The lamps are answered, then the tree is made; what is refused before build leaves the trays as they are. Assumes
+-- The lamps are counted, then the tree is made; what is refused before build leaves the trays as they are. Assumes
 -- nothing.
 use mathlib.Core.Path.{◌≡◌, sym, ap, ◌∙◌}
 use native.Mathlib.Omega.{arith}
