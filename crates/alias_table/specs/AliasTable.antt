@@ -1,6 +1,7 @@
 -- The power alias table, step by step as `build_power_alias_table` of `light_sampler.rs` has it. A weight is a word,
 -- its value an f32; a bin is three words: q, p, alias. Definitions only. Assumes nothing.
-use Rattle.std.specs.Prelude.{ℕ, zero, suc, ◌*◌, Bool, false, cond, not, ◌||◌, ◌&&◌, List, [], ◌∷◌, map, ltb, leb, pos, Float, length, replicate}
+use Rattle.std.specs.Prelude.{ℕ, zero, suc, ◌*◌, Bool, false, cond, not, ◌||◌, ◌&&◌, List, [], ◌∷◌, map, ltb, leb}
+use Rattle.std.specs.Prelude.{pos, Float, length, replicate}
 use Rattle.std.specs.Float.{Format, binary32, binary64}
 use Rattle.std.specs.Float.Ieee.{to_bits, of_int, add, lt, eq}
 use Rattle.std.specs.Float.Ieee.Scale.{finite}

@@ -3,7 +3,8 @@
 // 0 on, `over` from word 2m on.
 #![tactic(auto)]
 
-ghost use Rattle.std.specs.Prelude.{◌≡◌, cond, List, [], ◌∷◌, map, ◌++◌, ◌+◌, ◌*◌, ◌<◌, length, get_or, set, replicate, drop};
+ghost use Rattle.std.specs.Prelude.{◌≡◌, cond, List, [], ◌∷◌, map, ◌++◌, ◌+◌, ◌*◌, ◌<◌, length, get_or, set};
+ghost use Rattle.std.specs.Prelude.{replicate, drop};
 ghost use Rattle.std.specs.Float.{binary32, binary64};
 ghost use Rattle.std.specs.Float.Ieee.{to_bits, lt};
 ghost use Rattle.std.proofs.lemmas.List.Edits.{sets};

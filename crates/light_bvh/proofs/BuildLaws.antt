@@ -225,7 +225,9 @@ module _ (ws : List ℕ) (i : ℕ) (table : List ℕ) where
       → tabled_below ws (i + 1) table ≡ tabled_below ws i table
   tabled-past e h = tabled-leaf e ∙ set_out (tabled_below ws i table) (handle_of (get_or ws (node_place i) 0)) i h
 
-  pub tabled-other : (kind_of (get_or ws (node_place i) 0) ≡ 1 → ⊥) → tabled_below ws (i + 1) table ≡ tabled_below ws i table
+  pub tabled-other : (kind_of (get_or ws (node_place i) 0) ≡ 1 → ⊥)
+      → tabled_below ws (i + 1) table ≡ tabled_below ws i
+      table
   unfolding tabled_below
   tabled-other e = rw (add-one i, ne_eqb (kind_of (get_or ws (node_place i) 0)) 1 e)
 

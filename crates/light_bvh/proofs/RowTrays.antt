@@ -285,12 +285,15 @@ module _ {ws : List ℕ} {m : ℕ} {nodes table work table' : List ℕ} {k : ℕ
       refused n ≡ done (build_subtree ws (length (take (k - 0) table')) (take (k - 0) table')) →
       {nodes'' table'' work'' : List ℕ} →
       nodes'' ≡ filled (nx ++ drop (end_of k - 0) nodes) 0 (nodes_reserve m) 0
-      → table'' ≡ filled (hx ++ drop (k - 0) table') 0 m 0 → work'' ≡ filled (wx ++ drop (k - 0) work) 0 (work_reserve m) 0
+      → table'' ≡ filled (hx ++ drop (k - 0) table') 0 m 0
+      → work'' ≡ filled (wx ++ drop (k - 0) work) 0
+      (work_reserve m) 0
       → Done ws m nodes table work (refused n) nodes'' table'' work''
   rows_lost n told en et ew =
       let g = l.gathered in
       let hs = bounded_handles ws m in
-      let e = refused-of (build_subtree ws (length hs) hs) n (done-moved ws (take (k - 0) table') hs _ (front-is g) told) in
+      let e = refused-of (build_subtree ws (length hs) hs) n (done-moved ws (take (k - 0) table') hs _
+      (front-is g) told) in
       let late = only-number (late-tree ws (length hs) hs) e in
       rw (built_lost ws m any n e) (
         refl,
@@ -322,7 +325,8 @@ module _ {ws : List ℕ} {m : ℕ} {nodes table work table' : List ℕ} {k : ℕ
 
     -- the tree's words stand in front
     tree-first : {nodes'' : List ℕ} → nodes'' ≡ tray nodes_written (nodes_reserve m) (given (tree_for ws m t)) nodes
-        → nodes'' ≡ tree_words t ++ (replicate (nodes_reserve m - length (tree_words t)) 0 ++ drop (nodes_reserve m) nodes)
+        → nodes'' ≡ tree_words t ++ (replicate (nodes_reserve m - length (tree_words t)) 0 ++ drop
+        (nodes_reserve m) nodes)
     unfolding tray nodes_written
     tree-first is =
         is ∙ append_assoc (tree_words t) (replicate (nodes_reserve m - length (tree_words t)) 0)
@@ -330,7 +334,9 @@ module _ {ws : List ℕ} {m : ℕ} {nodes table work table' : List ℕ} {k : ℕ
 
     table-left : {nodes'' table'' table''' : List ℕ} →
         nodes'' ≡ tray nodes_written (nodes_reserve m) (given (tree_for ws m t)) nodes
-        → table'' ≡ filled (hx ++ drop (k - 0) table') 0 m invalid_index → table''' ≡ tabled_below nodes'' (2 * k - 1) table''
+        → table'' ≡ filled (hx ++ drop (k - 0) table') 0 m invalid_index
+        → table''' ≡ tabled_below nodes''
+        (2 * k - 1) table''
         → table''' ≡ tray table_written m (given (tree_for ws m t)) table
     table-left en et el =
         let g = l.gathered in
@@ -343,8 +349,14 @@ module _ {ws : List ℕ} {m : ℕ} {nodes table work table' : List ℕ} {k : ℕ
     tree-left : {nodes'' table'' table''' work'' : List ℕ} → nx ≡ tree_words t
         → nodes'' ≡ filled (nx ++ drop (end_of k - 0) nodes) (end_of k) (nodes_reserve m) 0 → table'' ≡
         filled (hx ++ drop (k - 0) table') 0 m invalid_index
-        → table''' ≡ tabled_below nodes'' (2 * k - 1) table'' → work'' ≡ filled (wx ++ drop (k - 0) work) 0 (work_reserve m) 0
-        → (box : Bounds3) → some box ≡ all_bounds ws m → Done ws m nodes table work (given (k, some box)) nodes'' table'''
+        → table''' ≡ tabled_below nodes'' (2 * k - 1) table''
+        → work'' ≡ filled (wx ++ drop (k - 0) work) 0
+        (work_reserve m) 0
+        → (box : Bounds3) → some box ≡ all_bounds ws m
+        → Done ws m nodes table work (given (
+          k,
+          some box,
+        )) nodes'' table'''
         work''
     tree-left whole en et el ew box is =
         let g = l.gathered in
@@ -358,7 +370,9 @@ module _ {ws : List ℕ} {m : ℕ} {nodes table work table' : List ℕ} {k : ℕ
       nx → {nodes'' table'' table''' work'' : List ℕ}
       → nodes'' ≡ filled (nx ++ drop (end_of k - 0) nodes) (end_of k) (nodes_reserve m) 0 → table'' ≡
       filled (hx ++ drop (k - 0) table') 0 m invalid_index
-      → table''' ≡ tabled_below nodes'' (2 * k - 1) table'' → work'' ≡ filled (wx ++ drop (k - 0) work) 0 (work_reserve m) 0
+      → table''' ≡ tabled_below nodes'' (2 * k - 1) table''
+      → work'' ≡ filled (wx ++ drop (k - 0) work) 0
+      (work_reserve m) 0
       → (box : Bounds3) → some box ≡ all_bounds ws m → Done ws m nodes table work (given (k, some box)) nodes'' table'''
       work''
   rows-tree told words en et el ew box is =

@@ -76,7 +76,10 @@ module _ (ws : List ℕ) (m : ℕ) (checked : block_handles ws ≡ given m) wher
   unfolding block_handles
   label_is h l = go (below (handle_at ws) (get_or ws 0 0)) refl checked
     where
-      go : (b : Bool) → below (handle_at ws) (get_or ws 0 0) ≡ b → cond b (given (get_or ws 0 0)) (refused 4) ≡ given m →
+      go : (b : Bool) → below (handle_at ws) (get_or ws 0 0) ≡ b
+          → cond b (given (get_or ws 0 0))
+          (refused 4) ≡ given m
+          →
           label_of ws h ≡ h
       go true e is =
           eqb-true (label_of ws h) h (below_at (handle_at ws) (get_or ws 0 0) h e (omega (arith, given_injective is)))

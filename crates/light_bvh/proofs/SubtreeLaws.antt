@@ -189,15 +189,19 @@ build-sized ws (suc n) hs = tree_by-sized ws hs _ (λ l. build-sized ws n l)
 pub build-size : (ws : List ℕ) (n : ℕ) (hs : List ℕ) (t : Tree) → build_subtree ws n hs ≡ given t → leaves t ≡ length hs
 build-size ws n hs t e = (gives-value (build-sized ws n hs) e).size
 
-pub build-fits : (ws : List ℕ) (n : ℕ) (hs : List ℕ) (t : Tree) → build_subtree ws n hs ≡ given t → RecordFits (bounds t)
+pub build-fits : (ws : List ℕ) (n : ℕ) (hs : List ℕ) (t : Tree) → build_subtree ws n hs ≡ given t
+    → RecordFits (bounds t)
 build-fits ws n hs t e = (gives-value (build-sized ws n hs) e).fits
 
 -- ---- read back from the words
 
-bounds-read-back : (ws : List ℕ) (i : ℕ) (b : LightBounds) → bounds_at ws i ≡ given b → read_record ws (bounds_place i) ≡ b
+bounds-read-back : (ws : List ℕ) (i : ℕ) (b : LightBounds) → bounds_at ws i ≡ given b
+    → read_record ws (bounds_place i) ≡
+    b
 unfolding bounds_at record_at
 bounds-read-back ws i b e =
-    (cond-given (leb (bounds_place i + record_words) (length ws) && side_known (get_or ws (side_place (bounds_place i)) 0))
+    (cond-given (leb (bounds_place i + record_words) (length ws) && side_known (get_or ws (side_place
+    (bounds_place i)) 0))
     (read_record ws (bounds_place i)) 12 b e).1
 
 -- any words of a node, then two trees
@@ -245,7 +249,10 @@ module _ (root : List ℕ) (at : ℕ) (l r : Tree) (room : length root ≡ node_
 
 pub parted-is : (ws hs : List ℕ) (s : Split) (room : ℕ) → choose_split ws hs ≡ given s → length hs ≤ room →
     (x : Answer ℕ) (l : List ℕ)
-    → x ≡ parted_count ws hs s room → l ≡ parted_handles ws hs s room → (x ≡ split_count ws hs) × (l ≡ split_handles ws hs)
+    → x ≡ parted_count ws hs s room → l ≡ parted_handles ws hs s room
+    → (x ≡ split_count ws hs) ×
+    (l ≡ split_handles ws
+    hs)
 unfolding parted_count parted_handles split_count split_handles ◌then◌
 parted-is ws hs s room e h x l count is =
     let t = le-ltb room (length hs) h in

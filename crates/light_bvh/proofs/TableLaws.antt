@@ -74,7 +74,10 @@ tabled-tree ws table (fork b l r) ps ss at p is place small =
     let at-root : ws ≡ ps ++ node_list n b ++ (left ++ right ++ ss) = is ∙ simp append_assoc in
     let head : get_or ws (node_place at) 0 ≡ 0x8000_0000 + handle_of (at + 1) =
     ap (λ (w : List ℕ). get_or w (node_place at) 0) at-root ∙ head_at ps (left ++ right ++ ss) at n b place in
-    let e : at + (2 * (leaves l + leaves r) - 1) ≡ right_place at l + (2 * leaves r - 1) = omega (arith, leaves-pos r) in
+    let e : at + (2 * (leaves l + leaves r) - 1) ≡ right_place at l + (2 * leaves r - 1) = omega (
+      arith,
+      leaves-pos r,
+    ) in
     let e' : right_place at l ≡ at + 1 + (2 * leaves l - 1) = omega (arith, leaves-pos l) in
     let first : tabled_below ws (at + 1) table ≡ tabled_below ws at table = past-interior ws table at (at + 1) head in
     let second = tabled-tree ws table l (ps ++ node_list n b) (right ++ ss) (at + 1) at at_left

@@ -53,7 +53,9 @@ pub record Demand3 (ws : List ℕ) (b : LightBVH) : Type 0 where
   pub table-words : length (table_written b) ≡ b.rows
   pub other-lamps : (h : ℕ) → (T (is_powered ws h) → ⊥) → place_of b h ≡ invalid_index
   -- each fork's box holds its children's
-  pub boxes : (i l r p : ℕ) → node_at (nodes_written b) i ≡ given (interior l r p) → HoldsChildren (nodes_written b) i l r
+  pub boxes : (i l r p : ℕ) → node_at (nodes_written b) i ≡ given (interior l r p)
+      → HoldsChildren (nodes_written b) i l
+      r
 
 -- of every light record count and block that build accepts, whatever was lent for nodes, table and work
 module _ (lights : ℕ) (ws : List ℕ) (nodes_lent table_lent work_lent : ℕ) (b : LightBVH)

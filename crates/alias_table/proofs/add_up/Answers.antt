@@ -5,7 +5,8 @@ use native.Mathlib.Omega.{arith}
 use lib.Ieee.{of_bits}
 use Rattle.alias_table.proofs.WeightLaws.{bad_infinite, bad-below, sums_next, sums_stop, sums-all}
 use Rattle.alias_table.proofs.add_up.Goals as goal
-use Rattle.alias_table.proofs.add_up.Goals.{then-not-is_finite-via-then-not-is_finite, then-not-is_finite-via-else-not-is_finite+then-w}
+use Rattle.alias_table.proofs.add_up.Goals.{then-not-is_finite-via-then-not-is_finite}
+use Rattle.alias_table.proofs.add_up.Goals.{then-not-is_finite-via-else-not-is_finite+then-w}
 
 pub loop-word-init : goal.loop-word-init
 unfolding of_bits

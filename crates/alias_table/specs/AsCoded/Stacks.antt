@@ -1,7 +1,8 @@
 -- The game of AliasTable.antt in words: how the two stacks stand in the lent work, and what each step of the code does
 -- to the words. Definitions only. Assumes nothing.
 use Rattle.std.specs.Prelude.{Option, Some, None}
-use Rattle.std.specs.Prelude.{ℕ, zero, suc, ◌+◌, ◌*◌, ◌≤◌, ◌<◌, ◌≡◌, Bool, cond, List, [], ◌∷◌, ◌++◌, map, Float, length, get_or, set, drop, replicate}
+use Rattle.std.specs.Prelude.{ℕ, zero, suc, ◌+◌, ◌*◌, ◌≤◌, ◌<◌, ◌≡◌, Bool, cond, List, [], ◌∷◌, ◌++◌, map, Float}
+use Rattle.std.specs.Prelude.{length, get_or, set, drop, replicate}
 use Rattle.std.specs.Float.{binary32, binary64}
 use Rattle.std.specs.Float.Ieee.{to_bits}
 use Rattle.ieee.specs.Single.{single, zerof, onef}
@@ -32,7 +33,11 @@ played ws = finish (turns (length ws) (start ws))
 
 -- the entry at a place of the stack that starts at word `base`
 abbrev pub entry_at : ℕ → List ℕ → ℕ → Entry
-entry_at base work k = record { weight = single (get_or work (base + 2 * k) 0); index = get_or work (base + 2 * k + 1) 0 }
+entry_at base work k = record {
+  weight = single (get_or work (base + 2 * k) 0);
+  index = get_or work
+      (base + 2 * k + 1) 0;
+}
 
 -- n entries, the last first
 unfoldable pub stack_at : ℕ → List ℕ → ℕ → List Entry

@@ -167,7 +167,9 @@ share-at bs i = sym (get_or-map (λ (b : Bin). b.p) bs i (record { q = zerof; p 
 pub p-is : (ws : List Float) (i : ℕ) → i < length ws →
     (bin_at (table ws) i).p ≡ get_or (filled_in ws) i zerof ⊘ total (filled_in ws)
 p-is ws i h =
-    share-at (table ws) i ∙ rw (shares-table ws) (share-of (filled_in ws) (total (filled_in ws)) i (rw filled_in-length h))
+    share-at (table ws) i
+    ∙ rw (shares-table ws) (share-of (filled_in ws) (total (filled_in ws)) i
+    (rw filled_in-length h))
 
 -- ---- an under bin's q
 
@@ -296,7 +298,9 @@ whole-stays (b ∷ bs) zero (suc j) h = h
 whole-stays (b ∷ bs) (suc i) zero h = h
 whole-stays (b ∷ bs) (suc i) (suc j) h = whole-stays bs i j h
 
-leftover-stays : (i : ℕ) (es : List Entry) (bs : List Bin) → (bin_at bs i).q ≡ onef → (bin_at (leftover es bs) i).q ≡ onef
+leftover-stays : (i : ℕ) (es : List Entry) (bs : List Bin) → (bin_at bs i).q ≡ onef
+    → (bin_at (leftover es bs) i).q ≡
+    onef
 unfolding leftover
 leftover-stays i [] bs h = h
 leftover-stays i (e ∷ es) bs h = whole-stays (leftover es bs) i e.index (leftover-stays i es bs h)

@@ -273,7 +273,8 @@ held-inside i count j (b ∷ bs) s h k =
     go (dec_le i j) (λ l. held-inside i count (suc j) bs (push (entry_of count j b) s) l (omega arith))
   where
     go : Dec (i ≤ j) → (j < i →
-        held_in i (push_all count (suc j) bs (push (entry_of count j b) s)) ≡ suc (held_in i (push (entry_of count j b) s)))
+        held_in i (push_all count (suc j) bs (push (entry_of count j b) s)) ≡ suc (held_in i (push
+        (entry_of count j b) s)))
         → held_in i (push_all count (suc j) bs (push (entry_of count j b) s)) ≡ suc (held_in i s)
     go (yes l) more =
         held_outside i count (suc j) bs (push (entry_of count j b) s) (inl (omega arith))
@@ -308,4 +309,6 @@ pub once : (ws : List Float) (i : ℕ) → i < length ws → occurrences i (sett
 once ws i h = held-in_turns i (length ws) (start (filled_in ws)) ∙ held_start (filled_in ws) i (rw filled_in-length h)
 
 pub no_other : (ws : List Float) (i : ℕ) → length ws ≤ i → occurrences i (settled_places ws) ≡ 0
-no_other ws i h = held-in_turns i (length ws) (start (filled_in ws)) ∙ held-past (filled_in ws) i (rw filled_in-length h)
+no_other ws i h = held-in_turns i (length ws) (start (filled_in ws))
+    ∙ held-past (filled_in ws) i
+    (rw filled_in-length h)

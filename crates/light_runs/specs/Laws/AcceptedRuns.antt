@@ -77,7 +77,9 @@ module _ (ws : List ℕ) (b : LightBVH) (parts : Parts ws b) where
     between u v w uv vw h d f =
         let at : (x : Float) → FromZeroToOne x → sample_walk (nodes b) q x ≡ walk 0 (weighed q t) onef (fmin x most) =
         λ x unit. draw-walk ws b parts q x unit t is in
-        let enters : (walk 0 (weighed q t) onef (fmin u most)).places ≡ (walk 0 (weighed q t) onef (fmin w most)).places =
+        let enters : (walk 0 (weighed q t) onef (fmin u most)).places ≡ (walk 0 (weighed q t) onef
+        (fmin w most)).places
+        =
         ap (λ (x : Walked Draw). x.places) (sym (at u uv.first)) ∙ same-places u w uv.first vw.second h d f
         ∙ ap (λ (x : Walked Draw). x.places) (at w vw.second) in
         let alike =
@@ -102,7 +104,8 @@ module _ (ws : List ℕ) (b : LightBVH) (parts : Parts ws b) where
         (fmin_mono u w most cap.known uw.order) (fmin-cap w most cap.known))
 
     -- two lamps at one place are one
-    apart : (u w : Float) → InOrder u w → (h i : ℕ) → Draws b q u h → Draws b q w i → place_of b h ≡ place_of b i → h ≡ i
+    apart : (u w : Float) → InOrder u w → (h i : ℕ) → Draws b q u h → Draws b q w i → place_of b h ≡ place_of b i
+        → h ≡ i
     apart u w uw h i d f e =
         let at = name-walk ws b parts t is q u uw.first h d in
         let other = name-walk ws b parts t is q w uw.second i f in

@@ -1,7 +1,8 @@
 -- Draws and chances by name over an accepted build. A draw is the walk over the build's tree with the query's weights
 -- (`draw-walk`), without a tree it draws no lamp (`draw-nothing`); where it draws a lamp, the chance by name enters the
 -- same nodes in reverse and is given (`name-walk`). Assumes nothing.
-use Rattle.std.specs.Prelude.{ℕ, zero, suc, ◌*◌, ◌-◌, ◌/◌, ◌%◌, ◌≤◌, ◌<◌, ◌≡◌, refl, Bool, true, false, ◌&&◌, List, [], ◌∷◌, ◌++◌, T, Float, length}
+use Rattle.std.specs.Prelude.{ℕ, zero, suc, ◌*◌, ◌-◌, ◌/◌, ◌%◌, ◌≤◌, ◌<◌, ◌≡◌, refl, Bool, true, false, ◌&&◌, List}
+use Rattle.std.specs.Prelude.{[], ◌∷◌, ◌++◌, T, Float, length}
 use Rattle.std.proofs.Common.{ap, sym, ◌∙◌, append-nil, arith, le-ltb, eq-eqb, ne_eqb}
 use Rattle.std.proofs.Math.Option.{none, some, none-ne-some}
 use Rattle.std.specs.Float.Ieee.{le}
@@ -79,7 +80,8 @@ check_name ns ts n m counted words few =
     rw (le-ltb max_lamps (length ts / 4) (omega arith), counted, eq-eqb (length ts % 4) 0 (omega arith))
 
 -- the walk up from the lamp's leaf
-named_by : (ws : List ℕ) (b : LightBVH) → Parts ws b → (q : Query) (h i : ℕ) (e : Float) (is : List ℕ) → place_of b h ≡ i
+named_by : (ws : List ℕ) (b : LightBVH) → Parts ws b → (q : Query) (h i : ℕ) (e : Float) (is : List ℕ)
+    → place_of b h ≡ i
     → (i ≡ invalid_index → ⊥)
     → ascend (nodes_written b) q (2 * b.k - 1) i onef ≡ record { outcome = given e; places = is }
     → pmf_walk (nodes b) (table b) q h ≡ record { outcome = given e; places = is }

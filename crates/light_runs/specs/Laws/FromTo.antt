@@ -2,7 +2,8 @@
 -- the values of the words 0 to 3f800000, in their order, and -0, which compares as 0; so the two floats are the values
 -- of the least and the greatest such word. Assumes nothing.
 use Rattle.std.specs.Prelude.{ℕ, zero, suc, ◌*◌, ◌≤◌, ◌<◌, ◌≡◌, refl, Bool, true, false, ◌⊎◌, ◌↔◌, pos, Float}
-use Rattle.std.proofs.Common.{zero-le, sym, inl, inr, le_refl as le_same, lt_of_le_of_lt, lt_of_not-le, eq-or-lt_of_le, le_of_suc-le-suc, arith, lit<}
+use Rattle.std.proofs.Common.{zero-le, sym, inl, inr, le_refl as le_same, lt_of_le_of_lt, lt_of_not-le}
+use Rattle.std.proofs.Common.{eq-or-lt_of_le, le_of_suc-le-suc, arith, lit<}
 use Rattle.std.proofs.Math.Path.{subst}
 use Rattle.std.proofs.Math.Decide.{dec_le}
 use Rattle.std.proofs.Math.Dec.{T}

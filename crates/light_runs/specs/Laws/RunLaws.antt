@@ -406,7 +406,8 @@ module _ (at : ℕ) (l r : Weighted) (x : Float × Float) (N : NotBelow x) (c u 
       (ap tail_of q ∙ ap (λ (p : Float). (walk (at + 1) l (c ⊗ p) z).places) (sym i))
   alike-step L R (left s y) (right t z) e f q =
       let last = last_of (at ∷ (walk (right_of at l) r (c ⊗ t) z).places) in
-      absurd (lt_irrefl last (subst (λ (n : ℕ). n < last) (ap last_of q) (left-before-right at l r (c ⊗ s) (c ⊗ t) y z)))
+      absurd (lt_irrefl last (subst (λ (n : ℕ). n < last) (ap last_of q) (left-before-right at l r (c ⊗ s)
+      (c ⊗ t) y z)))
   alike-step L R (right s y) b e f q =
       let m = fork-right x.0 x.1 u v N.0 N.1 P h (le_trans v w most k M) s y e in
       let o = fork-right x.0 x.1 v w N.0 N.1 (nonneg-up u v P h) k M s m.0 m.1 in

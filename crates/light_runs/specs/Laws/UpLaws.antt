@@ -1,7 +1,8 @@
 -- The walk up from where a draw ended. Where a draw from a standing tree finds a light, the walk up from the light's
 -- leaf enters the draw's places in reverse and gives a chance (`ascend-walk`); the draw enters no more places than
 -- there are leaves (`walk-length`). Assumes nothing.
-use Rattle.std.specs.Prelude.{ℕ, zero, suc, ◌+◌, ◌*◌, ◌-◌, ◌≤◌, ◌≡◌, refl, Bool, true, false, cond, List, [], ◌∷◌, ◌++◌, ◌⊎◌, eqb, Float, length}
+use Rattle.std.specs.Prelude.{ℕ, zero, suc, ◌+◌, ◌*◌, ◌-◌, ◌≤◌, ◌≡◌, refl, Bool, true, false, cond, List, [], ◌∷◌}
+use Rattle.std.specs.Prelude.{◌++◌, ◌⊎◌, eqb, Float, length}
 use Rattle.std.proofs.Common.{ap, sym, ◌∙◌, append_assoc, inl, inr, ⊎_elim, arith, eq-eqb, ne_eqb}
 use Rattle.std.proofs.Math.Option.{some, some-injective, none-ne-some}
 use Rattle.std.specs.Float.Ieee.{lt, le}
@@ -121,7 +122,8 @@ Rises ws q i acc =
     → (e : Float) × (upward ws q i d (λ (j : ℕ) (c : Float). ascend ws q n j c) (node_at ws i) ≡
     record { outcome = given e; places = acc })
 
-pub rises-root : (ws : List ℕ) (q : Query) (i : ℕ) (x : LightBVHNode) → node_at ws i ≡ given x → parent x ≡ invalid_index
+pub rises-root : (ws : List ℕ) (q : Query) (i : ℕ) (x : LightBVHNode) → node_at ws i ≡ given x
+    → parent x ≡ invalid_index
     → Rises ws q i []
 unfolding upward
 rises-root ws q i x node top n d few = (d, rw (node, eq-eqb (parent x) invalid_index top))
@@ -133,7 +135,9 @@ root-parent at p (fork b l r) = refl
 -- above a whole tree that stands there is nothing
 pub rises_standing : (ws : List ℕ) (q : Query) (at : ℕ) (t : Tree) → Stands ws at invalid_index t → Rises ws q at []
 rises_standing ws q at t s =
-    rises-root ws q at (root at invalid_index t) (stands-root ws at invalid_index t s).0 (root-parent at invalid_index t)
+    rises-root ws q at (root at invalid_index t) (stands-root ws at invalid_index t s).0
+    (root-parent at invalid_index
+    t)
 
 -- with an entry more
 ascend_rises : (ws : List ℕ) (q : Query) (i : ℕ) (acc : List ℕ) → Rises ws q i acc → (n : ℕ) (d : Float)
@@ -212,7 +216,11 @@ climbs-fork ws q at h acc x w e up =
 -- where a draw from a standing tree finds a light, whatever is above the tree
 pub ascend-walk : (ws : List ℕ) (q : Query) (t : Tree) (at p : ℕ) (c u : Float) (h : ℕ) (c' : Float) (acc : List ℕ)
     → Stands ws at p t
-    → at + (2 * leaves t - 1) ≤ head_end → Rises ws q at acc → (walk at (weighed q t) c u).outcome ≡ given (some (h, c'))
+    → at + (2 * leaves t - 1) ≤ head_end → Rises ws q at acc
+    → (walk at (weighed q t) c u).outcome ≡ given (some (
+      h,
+      c',
+    ))
     → Climbs ws q h acc (walk at (weighed q t) c u).places
 unfolding walk weighed leaves
 ascend-walk ws q (leaf k b) at p c u h c' acc s low rises found =

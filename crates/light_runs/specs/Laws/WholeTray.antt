@@ -23,7 +23,8 @@ use Rattle.words.specs.LittleEndian.{words_of, bytes_of}
 use Rattle.words.specs.Tray.{tray}
 use Rattle.light_bounds.specs.declared.importance.Query.{Query}
 use Rattle.light_bounds.specs.declared.light_bounds.LightBounds.{LightBounds}
-use Rattle.light_rows.specs.Nodes.{LightBVHNode, invalid_index, parent, node_words, node_place, node_count, node_of, node_at}
+use Rattle.light_rows.specs.Nodes.{LightBVHNode, invalid_index, parent, node_words, node_place, node_count, node_of}
+use Rattle.light_rows.specs.Nodes.{node_at}
 use Rattle.light_rows.specs.Tree.{Tree, leaf, fork, leaves, right_place}
 use Rattle.light_rows.specs.Laws.TreeLaws.{leaves-pos, root}
 use Rattle.light_bvh.specs.Build.{LightBVH, is_powered, nodes_reserve, nodes_written, table_written}

@@ -8,4 +8,9 @@ use Rattle.tree_laws.specs.Laws.PlaceLaws.{Reads}
 abbrev pub Stands : List ℕ → ℕ → ℕ → Tree → Type 0
 Stands ws at p (leaf h b) = Reads ws at (leaf_node h p, b)
 Stands ws at p (fork b l r) =
-    Reads ws at (interior (at + 1) (right_place at l) p, b) × Stands ws (at + 1) at l × Stands ws (right_place at l) at r
+    Reads ws at (
+      interior (at + 1) (right_place at l) p,
+      b,
+    ) × Stands ws (at + 1) at l × Stands ws
+    (right_place at l) at
+    r

@@ -3,7 +3,8 @@
 -- its words (`accepted-sound`, `accepted-count`, `accepted-read`); and the table leads from each powered lamp to its
 -- leaf, with its record, and from any other nowhere (`accepted-table`, `accepted_unpowered`, `accepted-nothing`).
 -- Assumes nothing.
-use Rattle.std.specs.Prelude.{ℕ, ◌*◌, ◌-◌, ◌≤◌, ◌<◌, ◌≡◌, refl, Bool, ◌&&◌, List, [], ◌∷◌, T, eqb, ltb, length, get_or, replicate}
+use Rattle.std.specs.Prelude.{ℕ, ◌*◌, ◌-◌, ◌≤◌, ◌<◌, ◌≡◌, refl, Bool, ◌&&◌, List, [], ◌∷◌, T, eqb, ltb, length}
+use Rattle.std.specs.Prelude.{get_or, replicate}
 use Rattle.std.proofs.Common.{ap, subst, sym, ◌∙◌, arith, ltb-true}
 use Rattle.std.proofs.Math.Bool.{true, false, cond}
 use Rattle.std.proofs.Math.Option.{Option, none, some, some-injective, none-ne-some, some-ne-none}
@@ -18,7 +19,8 @@ use Rattle.light_rows.specs.Block.{block_words, side_at, handle_at, block_layout
 use Rattle.light_rows.specs.Nodes.{LightBVHNode, leaf as leaf_node, invalid_index, node_words, node_at, bounds_at}
 use Rattle.light_rows.specs.Tree.{Tree, leaves, leaf_handles, tree_words}
 use Rattle.light_split.specs.Lights.{light_of}
-use Rattle.light_bvh.specs.Build.{is_powered, bounded_handles, all_bounds, validated, LightBVH, tree_of, built_bvh, is_short}
+use Rattle.light_bvh.specs.Build.{is_powered, bounded_handles, all_bounds, validated, LightBVH, tree_of, built_bvh}
+use Rattle.light_bvh.specs.Build.{is_short}
 use Rattle.light_bvh.specs.Build.{build_check, build_light_bvh, nodes_written, tabled, table_written}
 use Rattle.light_bvh.specs.Subtree.{build_subtree}
 use Rattle.tree_laws.specs.Laws.LeafLaws.{built-leaves, built-words, built-records, bounded-labelled, tree-count}
@@ -197,7 +199,9 @@ module _ (ws : List ℕ) (b : LightBVH) (t : Tree) (parts : Parts ws b) (is : b.
       let read = reads i (leaf_node x p, c) node in
       (i, p, rw table_is entry, omega (arith, accepted-leaves), read.0, read.1 ∙ ap given record_is)
 
-  pub accepted_unpowered : (x : ℕ) → x < b.rows → (T (is_powered ws x) → ⊥) → get_or (table_written b) x 0 ≡ invalid_index
+  pub accepted_unpowered : (x : ℕ) → x < b.rows → (T (is_powered ws x) → ⊥)
+      → get_or (table_written b) x 0 ≡
+      invalid_index
   accepted_unpowered x l never =
       rw table_is
       (table-other t b.rows x l

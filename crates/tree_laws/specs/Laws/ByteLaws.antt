@@ -1,7 +1,8 @@
 -- The words of a build that was accepted are below 2 ^ 32, so they come back from their bytes (`nodes-words`,
 -- `table-words-back`), which are 64 a node and 4 a row (`nodes-bytes`, `table-bytes`), so that as many nodes are
 -- counted in them as there are (`words-counted`, `nodes-counted`). Assumes nothing.
-use Rattle.std.specs.Prelude.{ℕ, suc, ◌+◌, ◌*◌, ◌-◌, ◌/◌, ◌%◌, ◌≤◌, ◌≡◌, Bool, true, false, cond, List, ◌++◌, T, Float, length, replicate}
+use Rattle.std.specs.Prelude.{ℕ, suc, ◌+◌, ◌*◌, ◌-◌, ◌/◌, ◌%◌, ◌≤◌, ◌≡◌, Bool, true, false, cond, List, ◌++◌, T}
+use Rattle.std.specs.Prelude.{Float, length, replicate}
 use Rattle.std.proofs.Math.Path.{refl}
 use Rattle.std.proofs.Common.{◌∙◌, arith, le-ltb, eq-eqb}
 use Rattle.std.proofs.Math.Option.{Option, none, some}
@@ -29,7 +30,9 @@ use Rattle.tree_laws.specs.Laws.NodeLaws.{node-words, table-words}
 -- ---- words
 
 -- sixteen words a node
-pub words-counted : (ws : List ℕ) (n : ℕ) → length ws ≡ node_words * n → n ≤ max_nodes → node_count (bytes_of ws) ≡ given n
+pub words-counted : (ws : List ℕ) (n : ℕ) → length ws ≡ node_words * n → n ≤ max_nodes
+    → node_count (bytes_of ws) ≡ given
+    n
 unfolding node_count
 words-counted ws n e few =
     let size = length-bytes_of ws in

@@ -2,7 +2,8 @@
 -- `built-words`), and, where the rows are labelled by their places, each handle a leaf as often as it stands in the
 -- stretch, with its row's record (`built-count`, `built-records`). So of a block's powered lamps each is a leaf once,
 -- and no other number is one (`tree-count`, `powered-once`, `others_never`). Assumes nothing.
-use Rattle.std.specs.Prelude.{ℕ, zero, suc, ◌+◌, ◌*◌, ◌-◌, ◌<◌, ◌≡◌, refl, Bool, true, false, cond, ◌&&◌, List, [], ◌∷◌, T, eqb, ltb, length}
+use Rattle.std.specs.Prelude.{ℕ, zero, suc, ◌+◌, ◌*◌, ◌-◌, ◌<◌, ◌≡◌, refl, Bool, true, false, cond, ◌&&◌, List, []}
+use Rattle.std.specs.Prelude.{◌∷◌, T, eqb, ltb, length}
 use Rattle.std.proofs.Common.{ap, sym, ◌∙◌, arith, ltb-true, ltb-false, lt-ltb, le-ltb, eqb-true, eq-eqb}
 use Rattle.std.proofs.lemmas.Bool.{eqb-false}
 use Rattle.words.specs.Answers.{given}
@@ -38,7 +39,8 @@ built-words ws n hs t e = omega (arith, built-leaves ws n hs t e, leaves-pos t, 
 abbrev pub Labelled : List ℕ → ℕ → Type 0
 Labelled ws h = label_of ws h ≡ h
 
-pub built-count : (ws : List ℕ) (n : ℕ) (hs : List ℕ) (t : Tree) → build_subtree ws n hs ≡ given t → All (Labelled ws) hs
+pub built-count : (ws : List ℕ) (n : ℕ) (hs : List ℕ) (t : Tree) → build_subtree ws n hs ≡ given t
+    → All (Labelled ws) hs
     → (x : ℕ) → often x (leaf_handles t) ≡ often x hs
 unfolding leaf_handles often
 built-count ws n hs t e =

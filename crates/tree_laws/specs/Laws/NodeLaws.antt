@@ -2,7 +2,8 @@
 -- `node-words`, `table-words`), that child words reach each place once (`places-reached`, `places`), that the table
 -- leads from a powered lamp to its leaf, from any other nowhere, and that each leaf is where it leads (`powered-leaf`,
 -- `other-lamps`, `leaf-powered`), and that a fork's box holds its children's (`boxes`). Assumes nothing.
-use Rattle.std.specs.Prelude.{ℕ, zero, suc, ◌+◌, ◌*◌, ◌-◌, ◌/◌, ◌≤◌, ◌<◌, ◌≡◌, Bool, true, false, cond, ◌&&◌, List, [], ◌∷◌, ◌++◌, T, ltb, get_or, replicate}
+use Rattle.std.specs.Prelude.{ℕ, zero, suc, ◌+◌, ◌*◌, ◌-◌, ◌/◌, ◌≤◌, ◌<◌, ◌≡◌, Bool, true, false, cond, ◌&&◌, List}
+use Rattle.std.specs.Prelude.{[], ◌∷◌, ◌++◌, T, ltb, get_or, replicate}
 use Rattle.std.proofs.Math.Path.{refl}
 use Rattle.std.proofs.Common.{ap, subst, sym, ◌∙◌, add-one, arith, ltb-true, ltb-false, lt-ltb, eq-eqb, length-append}
 use Rattle.std.proofs.Math.Logic.{⊎_elim}
@@ -94,7 +95,9 @@ not-leaf l r p h q e = let z : ◌≡◌ {A = ℕ} 0 1 = cc in omega arith
 
 -- its label stands among the leaves, and where it stands once, its place is the label's
 module _ (h q : ℕ) (c : LightBounds) where
-  leaf-counted : (at p : ℕ) (t : Tree) (i : ℕ) → node_in at p t i ≡ some (leaf_node h q, c) → 1 ≤ often h (leaf_handles t)
+  leaf-counted : (at p : ℕ) (t : Tree) (i : ℕ) → node_in at p t i ≡ some (leaf_node h q, c)
+      → 1 ≤ often h (leaf_handles
+      t)
   unfolding leaf_handles often
   leaf-counted at p (leaf k b) i e =
       let is = same-node (leaf_node k p, b) (leaf_node h q, c) (node_in-leaf at p k b i (leaf_node h q, c) e).1 in
@@ -284,7 +287,9 @@ module _ (ws : List ℕ) (b : LightBVH) (parts : Parts ws b) where
           let size = accepted-leaves ws b t parts is in
           places-reached (nodes_written b) n 0 invalid_index t (accepted_stands ws b t parts is) (omega arith) ∙ rw size
 
-  pub boxes : (i l r p : ℕ) → node_at (nodes_written b) i ≡ given (interior l r p) → HoldsChildren (nodes_written b) i l r
+  pub boxes : (i l r p : ℕ) → node_at (nodes_written b) i ≡ given (interior l r p)
+      → HoldsChildren (nodes_written b) i l
+      r
   boxes i l r p e = go b.tree refl
     where
       go : (o : Option Tree) → b.tree ≡ o → HoldsChildren (nodes_written b) i l r

@@ -1,11 +1,14 @@
 -- The places of a tree. At each of its 2 n - 1 places stands a node, and the tree's words there are read as that node,
--- and its record as that record (`node_in-some`, `place_at`, `place_read`). The handle table has, at a label that stands
+-- and its record as that record (`node_in-some`, `place_at`, `place_read`). The handle table has, at a label that
+-- stands
 -- once among the leaves, the place of its leaf, and at a number that is no label what it had (`tabled-at`,
 -- `place_in-node`, `tabled-other`), the invalid index where it was filled so (`table-leaf`, `table-other`). Assumes
 -- nothing.
-use Rattle.std.specs.Prelude.{ℕ, zero, suc, ◌+◌, ◌*◌, ◌-◌, ◌≤◌, ◌<◌, ◌≡◌, Bool, ◌⊎◌, ltb, length, get_or, set, replicate}
+use Rattle.std.specs.Prelude.{ℕ, zero, suc, ◌+◌, ◌*◌, ◌-◌, ◌≤◌, ◌<◌, ◌≡◌, Bool, ◌⊎◌, ltb, length, get_or, set}
+use Rattle.std.specs.Prelude.{replicate}
 use Rattle.std.proofs.Math.Path.{refl}
-use Rattle.std.proofs.Common.{ap, subst, sym, ◌∙◌, ⊎_elim, add-one, arith, length-set, get_or-set_same, get_or-set_other}
+use Rattle.std.proofs.Common.{ap, subst, sym, ◌∙◌, ⊎_elim, add-one, arith, length-set, get_or-set_same}
+use Rattle.std.proofs.Common.{get_or-set_other}
 use Rattle.std.proofs.Math.Bool.{true, false, cond}
 use mathlib.Core.List.{List, [], ◌∷◌, ◌++◌, append_assoc, append-nil}
 use Rattle.std.proofs.Math.Logic.{inl, inr}
@@ -195,7 +198,9 @@ place_at (fork b l r) ps ss at p i x place low labels fit e =
     here.1)
     (λ under. ⊎_elim
     (λ is. subst (λ (ws : List ℕ). Reads ws i x) (in_left ps ss at p b l r)
-    (place_at l (ps ++ node_list n b) (flatten (right_place at l) at r ++ ss) (at + 1) at i x (left-place ps at n b place)
+    (place_at l (ps ++ node_list n b) (flatten (right_place at l) at r ++ ss) (at + 1) at i x
+    (left-place ps at n b
+    place)
     (omega arith) labels-l fit.1 is))
     (λ is. subst (λ (ws : List ℕ). Reads ws i x) (in_right ps ss at p b l r)
     (place_at r (ps ++ node_list n b ++ flatten (at + 1) at l) ss (right_place at l) at i x
@@ -251,7 +256,9 @@ place_in-leaf at h b x i e = go (eqb x h) refl e
     go true f e = (eqb-true x h f, sym (some-injective at i e))
     go false f e = absurd (none-ne-some i e)
 
-pub place_in-within : (at : ℕ) (t : Tree) (x i : ℕ) → place_in at t x ≡ some i → (at ≤ i) × (i < at + (2 * leaves t - 1))
+pub place_in-within : (at : ℕ) (t : Tree) (x i : ℕ) → place_in at t x ≡ some i
+    → (at ≤ i) × (i < at +
+    (2 * leaves t - 1))
 unfolding place_in leaves
 place_in-within at (leaf h b) x i e = let (_, is) = place_in-leaf at h b x i e in (omega arith, omega arith)
 place_in-within at (fork b l r) x i e =
@@ -314,7 +321,11 @@ tabled-at at (leaf h b) table x d e low = go (eqb x h) refl e
     go false f e = absurd (omega arith)
 tabled-at at (fork b l r) table x d e low =
     go (often x (leaf_handles l)) refl (λ e. tabled-at (suc at) l table x d e low)
-    (λ e. tabled-at (right_place at l) r (tabled (suc at) l table) x d e (omega (arith, length-tabled (suc at) l table)))
+    (λ e. tabled-at (right_place at l) r (tabled (suc at) l table) x d e (omega (
+      arith,
+      length-tabled (suc at) l
+          table,
+    )))
   where
     go : (k : ℕ) → often x (leaf_handles l) ≡ k
         → (often x (leaf_handles l) ≡ 1 → (i : ℕ) × (place_in (suc at) l x ≡ some i) ×

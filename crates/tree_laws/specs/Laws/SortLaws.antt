@@ -22,7 +22,9 @@ use Rattle.tree_laws.specs.SortingBuild.{partition_sorting, forked_sorting, tree
 use Rattle.tree_laws.specs.SortingBuild.{tree_sorting, built_sorting, build_sorting}
 
 module _ (ws : List ℕ) where
-  pub partition_sorting_lem : (hs : List ℕ) (s : Split) → Ascends hs → partition_sorting ws hs s ≡ partition_handles ws hs s
+  pub partition_sorting_lem : (hs : List ℕ) (s : Split) → Ascends hs
+      → partition_sorting ws hs s ≡ partition_handles ws hs
+      s
   unfolding partition_sorting partition_handles
   partition_sorting_lem hs s h = go (eqb (length l) 0) (eqb (length r) 0) refl refl
     where

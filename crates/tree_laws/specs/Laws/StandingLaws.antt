@@ -20,7 +20,9 @@ stands-root ws at p (leaf h b) s = s
 stands-root ws at p (fork b l r) s = s.0
 
 -- a tree that is flattened into words stands there
-pub stands_flat : (t : Tree) (ps ss : List ℕ) (at p : ℕ) → length ps ≡ node_place at → at + (2 * leaves t - 1) ≤ head_end
+pub stands_flat : (t : Tree) (ps ss : List ℕ) (at p : ℕ) → length ps ≡ node_place at
+    → at + (2 * leaves t - 1) ≤
+    head_end
     → LabelsFit t → RecordsFit t
     → Stands (ps ++ flatten at p t ++ ss) at p t
 unfolding leaves leaf_handles

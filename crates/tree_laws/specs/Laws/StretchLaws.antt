@@ -3,7 +3,8 @@
 -- stretch of a build (`sort_changes-nothing`, `build_sorts-nothing`). Each half of two handles or more has one at
 -- least, and each handle stands in the halves as often as in the stretch (`halves-some`, `halves-length`,
 -- `halves-count`). Assumes nothing.
-use Rattle.std.specs.Prelude.{ℕ, zero, suc, ◌+◌, ◌/◌, ◌≤◌, ◌≡◌, refl, Bool, true, false, cond, ◌||◌, List, [], ◌∷◌, ◌++◌, ◌⊎◌, eqb, length, take, drop}
+use Rattle.std.specs.Prelude.{ℕ, zero, suc, ◌+◌, ◌/◌, ◌≤◌, ◌≡◌, refl, Bool, true, false, cond, ◌||◌, List, [], ◌∷◌}
+use Rattle.std.specs.Prelude.{◌++◌, ◌⊎◌, eqb, length, take, drop}
 use Rattle.std.proofs.Common.{ap, sym, ◌∙◌, append-nil, inl, inr, arith, eqb-true}
 use Rattle.std.proofs.lemmas.Bool.{eqb-false}
 use Rattle.light_split.specs.Lights.{centroid_ends}
