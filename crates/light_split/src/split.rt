@@ -78,7 +78,9 @@ fn best_cut(
     Ok(best)
 }
 
-// The cut of a stretch. An axis is left out where its centroids are equal.
+// The cut of a stretch. An axis is left out where its centroids are equal. Not inlined, so that the buckets stay out of
+// the frame of the recursion that builds the tree.
+#[inline(never)]
 #[tactic(auto, using(crate::proofs::SplitLaws::turns))]
 pub fn choose_split(block: &[u32], handles: &[u32]) -> Result<Split, Refusal>
     ensures { answered result ≡ choose_split block.now handles.now }
