@@ -36,8 +36,8 @@ pub fn importance(record: LightBounds, query: Query) -> Result<f32, Refusal>
 
 // ---- the query as a walk holds it
 
-// The point, whether all of the query is finite, and its normal where there is one: at length 1, or why it has no length
-// to divide by.
+// The point, whether all of the query is finite (a record's own refusals come before that of the query), and its normal
+// where there is one: at length 1, or why it has no length to divide by.
 #[derive(Clone, Copy)]
 pub struct Prepared {
     pub p: Vec3,

@@ -15,7 +15,7 @@ pub fn is_side(w: u32) -> bool
     w <= 1
 }
 
-// The side that a word says.
+// The side that a word says: any but 1 is one-sided, so it is no TryFrom.
 impl From<u32> for Side {
     ghost from_gives = { λ w side. side ≡ side_of w };
 

@@ -1,12 +1,13 @@
 // A node as sixteen words (specs/Nodes.antt): head, right child, parent, record. Where the words of a node stand is
 // said here alone.
 ghost use Rattle.words.specs.Answers.{answered};
-ghost use Rattle.std.specs.Prelude.{◌≡◌, cond, ◌∷◌, ◌*◌, ◌+◌, ◌<◌, ◌≤◌, length, get_or};
+ghost use Rattle.std.specs.Prelude.{◌≡◌, ◌+◌, ◌<◌, ◌≤◌, length, get_or};
 ghost use Rattle.std.proofs.lemmas.List.Edits.{sets};
 ghost use Rattle.words.specs.LittleEndian.{words_of};
-ghost use Rattle.light_rows.specs.RecordWords.{read_record, record_list};
-ghost use Rattle.light_rows.specs.Nodes.{node_value, head_number, head_word, right_child, parent, node_list, node, node_count, node_of, node_at, bounds_at, node_words};
-ghost use Rattle.light_rows.specs.Nodes.{node_place, bounds_place};
+ghost use Rattle.light_rows.specs.RecordWords.{read_record};
+ghost use Rattle.light_rows.specs.Nodes.{node_value, head_number, head_word, right_child, parent, node_list};
+ghost use Rattle.light_rows.specs.Nodes.{node, node_count, node_of, node_at, bounds_at};
+ghost use Rattle.light_rows.specs.Nodes.{node_words, node_place, bounds_place};
 ghost use Rattle.light_rows.specs.AsCoded.NodeRow.{node_fits, node_written};
 
 use super::record_words::{RECORD_WORDS, read_record_bytes, record_or_zeros, write_record};

@@ -1,8 +1,7 @@
 -- Where nothing but the direction counts, the box is not looked at; else the box, the smallest angle, then the cone's
 -- edge. Assumes nothing.
-use mathlib.Core.Path.{sym, ◌∙◌, ap}
+use mathlib.Core.Path.{sym, ◌∙◌}
 use Rattle.light_bounds.specs.Importance.{toward}
-use Rattle.light_bounds.specs.Vecmath.{vec_length}
 use Rattle.light_bounds.proofs.PlainView.{plain}
 use Rattle.light_bounds.proofs.importance.toward.Goals as goal
 
@@ -10,9 +9,6 @@ pub returns-then-is_plain : goal.returns-then-is_plain
 returns-then-is_plain c = let a = c.args in
     let told = sym c.is_plain.ensures ∙ c.if-is_plain.true in
     sym (plain a.record a.query.p a.wi a.d2 a.query.normal told)
-
-pub subtended-cos_b-requires : goal.subtended-cos_b-requires
-subtended-cos_b-requires c = c.length.ensures ∙ ap vec_length c.diagonal.ensures
 
 pub returns-then-cos_p-record : goal.returns-then-cos_p-record
 unfolding toward

@@ -5,6 +5,3 @@ use Rattle.light_bounds.proofs.vecmath.divides.Goals as goal
 pub returns-then-is_finite : goal.returns-then-is_finite
 unfolding of_bits ne
 returns-then-is_finite c = rw (← c.is_finite.ensures, c.if-is_finite.true)
-
-pub returns-else-is_finite : goal.returns-else-is_finite
-returns-else-is_finite c = rw (← c.is_finite.ensures, c.if-is_finite.false)

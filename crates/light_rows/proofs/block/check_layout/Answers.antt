@@ -1,5 +1,5 @@
 -- `light_rows::block::check_layout` judges the limits, then the length, then the sides. Assumes nothing.
-use mathlib.Core.Path.{◌≡◌, ◌∙◌}
+use mathlib.Core.Path.{◌≡◌}
 use native.Mathlib.Omega.{arith}
 use borrow.Author.Tests.{eq-eqb, ne_eqb}
 use lib.ListN.{length, get_or}
@@ -9,9 +9,6 @@ use Rattle.light_rows.proofs.block.check_layout.Goals as goal
 pub returns-then-crowded : goal.returns-then-crowded
 unfolding block_layout
 returns-then-crowded c = rw (← c.crowded.ensures, c.if-crowded.true)
-
-pub check_sides-requires : goal.check_sides-requires
-check_sides-requires c = c.if-block-block_words.true ∙ c.block_words.ensures
 
 pub returns-then-block-block_words : goal.returns-then-block-block_words
 unfolding block_layout

@@ -1,10 +1,8 @@
 -- `light_rows::block::check_sides`: up to `i` every side is known. Assumes nothing.
 use Prim.Native.Nat.{ℕ}
-use mathlib.Core.Path.{◌≡◌, refl, subst, sym, ap, ◌∙◌}
-use mathlib.Core.Bool.{true}
+use mathlib.Core.Path.{refl, sym, ap, ◌∙◌}
 use native.Mathlib.Omega.{arith}
 use lib.ListN.{get_or}
-use Rattle.words.specs.Answers.{given}
 use Rattle.words.specs.Rows.{below}
 use Rattle.words.proofs.RowLaws.{below_false, below_next}
 use Rattle.light_bounds.specs.Side.{side_known}
@@ -32,9 +30,3 @@ returns-then-not-is_side c = let args = c.args in
     let known = c.is_side.ensures
     ∙ ap (λ (k : ℕ). side_known (get_or block (side_place k) 0)) c.record_place.ensures in
     rw (below_false (side_at block) args.m c.loop-i.i (omega arith) (sym known ∙ c.if-not-is_side.true))
-
-pub returns : goal.returns
-returns c = let loop = c.loop-i in
-    let args = c.args in
-    let e : c.loop-i.i ≡ args.m = omega arith in
-    rw (subst (λ (k : ℕ). below (side_at args.block.now) k ≡ true) e c.loop-i.invariant.2) (ap given c.wide.ensures)

@@ -2,7 +2,6 @@
 use Prim.Native.Nat.{ℕ, ◌+◌}
 use mathlib.Core.Path.{◌≡◌, ap, sym, ◌∙◌}
 use mathlib.Core.List.{List}
-use borrow.Author.Tests.{leb-true}
 use lib.Dec.{leb}
 use lib.ListN.{length}
 use Rattle.light_rows.specs.Block.{bounds_words, handle_place}
@@ -17,9 +16,6 @@ module _ (c : After-fits) where
 
   fit : leb (handle_place c.args.row + bounds_words) (length block) ≡ c.fits.result
   fit = sym (c.fits.ensures ∙ ap (λ (k : ℕ). leb (k + bounds_words) (length block)) c.block_words.ensures)
-
-pub put_row-requires : goal.put_row-requires
-put_row-requires c = leb-true _ _ (fit (goal.at.put_row-requires c).After-fits ∙ c.if-fits.true)
 
 pub returns-then-fits : goal.returns-then-fits
 unfolding row_written

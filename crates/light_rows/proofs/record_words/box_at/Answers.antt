@@ -8,6 +8,3 @@ pub returns-then-words-at : goal.returns-then-words-at
 returns-then-words-at c = let ws = c.args.words.now in
     let at = c.args.at in
     rw (c.vec_at-min.ensures, vec_at-past ws at c.if-words-at.true, vec_at-past ws (at + 3) (omega arith))
-
-pub returns : goal.returns
-returns c = rw (c.vec_at-min.ensures, c.vec_at-max.ensures)

@@ -1,43 +1,21 @@
 -- `light_rows::record_words::read_record_bytes` judges what it fetches, where there are words enough. Assumes nothing.
-use Prim.Native.Nat.{◌+◌, ◌*◌, ◌-◌, ◌/◌, ◌≤◌}
+use Prim.Native.Nat.{◌+◌, ◌*◌, ◌-◌}
 use mathlib.Core.Path.{◌≡◌, ap, sym, ◌∙◌}
 use native.Mathlib.Omega.{arith}
 use borrow.Author.Tests.{leb-true}
-use lib.ListN.{length}
 use Rattle.words.specs.LittleEndian.{words_of}
 use Rattle.words.proofs.LittleEndianLaws.{length-words_of}
 use Rattle.light_rows.specs.AsCoded.RecordRow.{judged_row}
 use Rattle.light_rows.specs.Laws.RecordPlaces.{record_at-is, record_at-past, row-part}
 use Rattle.light_rows.specs.RecordWords.{record_words}
 use Rattle.light_rows.proofs.record_words.read_record_bytes.Goals as goal
-use Rattle.light_rows.proofs.record_words.read_record_bytes.Goals.{Then-fits}
-
--- there are words enough
-fit : (c : Then-fits) → c.args.at + record_words
-    ≤ length c.args.bytes.now / 4
-fit c = leb-true _ _ (sym c.fits.ensures ∙ c.if-fits.true)
-
-pub overflow_mul-from : goal.overflow_mul-from
-overflow_mul-from c = omega (arith, fit c)
-
-pub overflow_add-from : goal.overflow_add-from
-overflow_add-from c = omega (arith, fit c)
-
-pub slice_bounds-row_at-count : goal.slice_bounds-row_at-count
-slice_bounds-row_at-count c = omega (arith, fit c)
-
-pub slice_bounds-row_at-start : goal.slice_bounds-row_at-start
-slice_bounds-row_at-start c = omega (arith, fit c)
-
-pub slice_bounds-row_at-end : goal.slice_bounds-row_at-end
-slice_bounds-row_at-end c = omega (arith, fit c)
 
 pub returns-then-fits : goal.returns-then-fits
 returns-then-fits c = let args = c.args in
     let size : 4 * args.at + 4 * record_words - 4 * args.at ≡ 4 * record_words = omega arith in
     c.judged.ensures
     ∙ ap (judged_row 12)
-    (rw size at c.row_at.ensures ∙ row-part args.bytes.now args.at (fit (goal.at.returns-then-fits c).Then-fits))
+    (rw size at c.row_at.ensures ∙ row-part args.bytes.now args.at (leb-true _ _ (sym c.fits.ensures ∙ c.if-fits.true)))
     ∙ sym (record_at-is 12 (words_of args.bytes.now) args.at
     (rw length-words_of (sym c.fits.ensures ∙ c.if-fits.true)))
 
