@@ -15,7 +15,7 @@ use Rattle.ieee.specs.Single.{single}
 use Rattle.trig.specs.Series.{turns, series_step, series}
 use Rattle.trig.specs.Trig.{cos}
 use Rattle.words.proofs.AnswerLaws.{then_assoc}
-use Rattle.words.specs.Answers.{Answer, given, refused, ◌then◌}
+use Rattle.words.specs.Answers.{Answer, given, ◌then◌}
 use Rattle.light_bounds.specs.declared.light_bounds.LightBounds.{LightBounds}
 use Rattle.light_rows.specs.RecordWords.{vec_at}
 use Rattle.lamps.specs.LampList.{triangle_words}

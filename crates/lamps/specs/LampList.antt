@@ -6,7 +6,6 @@ use Rattle.std.specs.Prelude.{ℕ, zero, suc, ◌+◌, ◌*◌, ◌-◌, Bool, t
 use Rattle.std.specs.Prelude.{List, [], ◌∷◌, length, get_or, take, drop}
 use Rattle.ieee.specs.Single.{single}
 use Rattle.words.specs.Answers.{Answer, given, refused, ◌then◌}
-use Rattle.words.specs.Refusals.{number}
 use Rattle.words.specs.Heads.{kind_of, handle_of}
 use Rattle.words.specs.Limits.{crowded}
 use Rattle.light_rows.specs.RecordWords.{vec_at}

@@ -1,12 +1,12 @@
 -- The bounds of every lamp that is read from a list are of floats of the format, so that a block has each record whole.
 -- Assumes nothing.
-use Rattle.std.specs.Prelude.{ℕ, zero, suc, ◌+◌, ◌/◌, ◌≡◌, Bool, ◌&&◌, T, leb, eqb, Float}
+use Rattle.std.specs.Prelude.{ℕ, zero, suc, ◌+◌, ◌/◌, Bool, ◌&&◌, T, leb, eqb, Float}
 use Rattle.std.specs.Prelude.{List, [], ◌∷◌, length, get_or}
 use Rattle.std.specs.Float.{binary32}
 use Rattle.std.specs.Float.Ieee.{fits}
 use Rattle.std.specs.Float.Ieee.Fits.{mul-fits, cond-fits}
 use Rattle.ieee.specs.Laws.FormatLaws.{single-fits}
-use Rattle.ieee.specs.Single.{◌⊗◌, ◌⊖◌}
+use Rattle.ieee.specs.Single.{◌⊖◌}
 use Rattle.trig.specs.Trig.{cos, acos}
 use Rattle.trig.specs.Laws.TrigLaws.{cos-fits}
 use Rattle.words.specs.Answers.{Answer, given, refused}
@@ -20,7 +20,7 @@ use Rattle.light_bounds.specs.Vecmath.{finite_vec}
 use Rattle.light_bounds.specs.declared.light_bounds.LightBounds.{LightBounds}
 use Rattle.light_bounds.specs.declared.vecmath.Vec3.{Vec3}
 use Rattle.lamps.specs.BuildBounds.{all_bounds}
-use Rattle.lamps.specs.LampBounds.{nearly_one, point_box, point_phi, group_phi, validate_emission}
+use Rattle.lamps.specs.LampBounds.{nearly_one, point_box, point_phi, validate_emission}
 use Rattle.lamps.specs.LampBounds.{checked, point_bounds, too_narrow, falloff, spot_record}
 use Rattle.lamps.specs.LampBounds.{spot_bounds, no_area, triangle_bounds, triangle_at, faced_record}
 use Rattle.lamps.specs.LampBounds.{triangle_record, join_next, union_from, group_bounds, light_bounds_for_input}

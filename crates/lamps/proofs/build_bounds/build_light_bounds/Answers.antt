@@ -1,10 +1,9 @@
 -- `lamps::build_bounds::build_light_bounds`: the list is read, then there is room, then it is written. Assumes nothing.
 use Prim.Native.Nat.{◌≤◌}
-use mathlib.Core.Path.{◌≡◌, refl, sym}
+use mathlib.Core.Path.{refl, sym}
 use native.Mathlib.Omega.{arith}
 use lib.ListN.{length, get_or}
 use Rattle.std.proofs.Common.{rules}
-use Rattle.words.specs.Answers.{given, count}
 use Rattle.words.specs.Limits.{max_lamps}
 use Rattle.words.specs.Refusals.{number}
 use Rattle.words.specs.Tray.{tray}
@@ -16,16 +15,8 @@ use Rattle.lamps.proofs.BuildLaws.{list_counted, build_unread, build-short, earl
 use Rattle.lamps.proofs.build_bounds.build_light_bounds.Goals as goal
 use Rattle.lamps.proofs.build_bounds.build_light_bounds.Goals.{In_ok-m}
 
--- the list was read as m lamps
-read : (c : In_ok-m) →
-    count (lamp_list c.args.list.now) ≡
-    given c.in_ok-m.m
-read c = sym c.in_ok-m.ensures
-
 few : (c : In_ok-m) → c.in_ok-m.m ≤ max_lamps
-few c =
-    let (rs, lamps, n, is, h) = list_counted c.args.list.now
-    c.in_ok-m.m (read c) in h
+few c = let (rs, lamps, n, is, h) = list_counted c.args.list.now c.in_ok-m.m (sym c.in_ok-m.ensures) in h
 
 pub overflow_cast-m : goal.overflow_cast-m
 overflow_cast-m c = omega (arith, few c)
@@ -33,15 +24,9 @@ overflow_cast-m c = omega (arith, few c)
 pub returns-then-block-block_words : goal.returns-then-block-block_words
 unfolding tray
 returns-then-block-block_words c = let args = c.args in
-    rw (build-short args.list.now (length args.block.now) _ (read (goal.at.returns-then-block-block_words c).In_ok-m)
+    rw (build-short args.list.now (length args.block.now) _ (sym c.in_ok-m.ensures)
     (omega (arith, c.block_words.ensures)))
     (record { result_value = refl; block_after = refl })
-
-pub write_block-requires : goal.write_block-requires
-write_block-requires c = record {
-  list_value = read (goal.at.write_block-requires c).In_ok-m;
-  m_in_bounds = omega (arith, c.block_words.ensures);
-}
 
 pub returns-in_err-m : goal.returns-in_err-m
 returns-in_err-m c = let args = c.args in

@@ -11,17 +11,11 @@ overflow_cast-block c = let (rs, read, n, is, few) = list_counted c.args.list.no
     c.requires.list_value in omega
     (arith, few)
 
-pub bounds-block-0 : goal.bounds-block-0
-bounds-block-0 c = omega (arith, c.requires.m_in_bounds)
-
 pub loop-place-init : goal.loop-place-init
 loop-place-init c = let args = c.args in
     let (rs, read, n, is, few) = list_counted args.list.now args.m c.requires.list_value in
     rw c.new-cursor.ensures (taking-none args.list.now args.m args.block.now few
     c.requires.m_in_bounds)
-
-pub zero_words-requires : goal.zero_words-requires
-zero_words-requires c = omega (arith, c.block_words.ensures)
 
 pub returns-in-Err : goal.returns-in-Err
 returns-in-Err c = let (answer, block) =

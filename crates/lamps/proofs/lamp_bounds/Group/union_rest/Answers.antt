@@ -1,5 +1,5 @@
 -- `lamps::lamp_bounds::Group::union_rest`: what is left to join gives the same answer at each turn. Assumes nothing.
-use mathlib.Core.Path.{◌≡◌, refl, sym, ◌∙◌}
+use mathlib.Core.Path.{◌≡◌, sym, ◌∙◌}
 use native.Mathlib.Omega.{arith}
 use Rattle.std.proofs.Common.{rules}
 use Rattle.std.specs.Slice.Iter.{chunks_exact_rest}
@@ -20,10 +20,6 @@ more c =
     rw (← c.triangle_at.ensures) at (c.loop-words.invariant.1
     ∙ all_from-chunk e.max e.scale c.args.self.two_sided _ c.in-Some.words.now _ c.loop-words.result cut
     (length ∙ c.loop-words.invariant.0))
-
-pub loop-words-init : goal.loop-words-init
-loop-words-init c = rw c.into_iter-words-iterator.ensures.into_iter_gives
-    (c.chunks_exact-words-items.ensures.size, rw c.chunks_exact-words-items.ensures.rest refl)
 
 pub returns : goal.returns
 returns c = let e = c.args.self.emission in

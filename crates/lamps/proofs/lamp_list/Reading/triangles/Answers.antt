@@ -11,7 +11,6 @@ use Rattle.std.proofs.lemmas.Bool.Decides.{nat_tests}
 use Rattle.std.specs.Option.{unwrap_or}
 use Rattle.std.specs.Prelude.{Option, Some, None}
 use Rattle.std.specs.Slice.{IsGetRangeResult}
-use Rattle.lamps.specs.LampList.{triangles_of}
 use Rattle.lamps.proofs.lamp_list.Reading.triangles.Goals as goal
 
 stretch : (ws : List ℕ) (i j : ℕ) (o : Option (Bor (List ℕ))) (none : Bor (List ℕ)) → none.now ≡ [] →
