@@ -4,7 +4,8 @@ ghost use Rattle.ieee.specs.Choose.{fmin, fmax, clamp as clamped, fabs, is_sign_
 
 use words::floats::Float;
 
-// The lesser. A NaN loses to the other value; of equal values the first is given.
+// The lesser. A NaN loses to the other value; of equal values the first is given. `min` and `max` differ in their one
+// test: a function of both would only take it.
 pub fn min(x: f32, y: f32) -> f32
     ensures { result ≡ fmin x y }
 {

@@ -74,6 +74,7 @@ fn sqrt_word(w: u32) -> u32
     )
 }
 
+// The same at 64 bits, apart from it: at 32 most roots go by a float that is near enough, which 53 digits have not.
 fn sqrt64_word(w: u64) -> u64
     ensures { result ≡ to_bits binary64 (rooted binary64 (of_bits binary64 w)) }
 {
@@ -132,7 +133,7 @@ fn pattern(s: Scaled, kept: u64) -> u32
     ((2 + s.half) * 0x80_0000 + kept) as u32
 }
 
-// The pattern of the root of d * 2^e units of 2^-300.
+// The pattern of the root of d * 2^e units of 2^-300. The bounds of d and e are each width's own.
 fn digits_root(d: u64, e: u64) -> u32
     requires d_nonzero { (0 < d) × (d < 2 ^ 24) }
     requires le_e { (151 ≤ e) × (e ≤ 404) }

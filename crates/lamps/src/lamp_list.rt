@@ -120,6 +120,7 @@ fn alone(lamp: Lamp, end: usize) -> Reading
     }
 }
 
+// A point and a spot differ in the words that they read: one function of both would take width and reader.
 fn point_at(list: &[u32], at: usize) -> Result<Reading, Refusal>
     ensures { answered result ≡ cond (leb (at + point_words) (length list.now))
         (given (point_at list.now at)) (refused 1) }

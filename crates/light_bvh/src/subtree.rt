@@ -15,7 +15,8 @@ use light_split::partition::partition_handles;
 use light_split::split::choose_split;
 use words::refusals::Refusal;
 
-// Parts the stretch at its best cut: how many handles the left half has.
+// Parts the stretch at its best cut: how many handles the left half has. Handles and work are lent apart, since a half
+// of each is lent on.
 fn part_stretch(block: &[u32], handles: &mut [u32], work: &mut [u32]) -> Result<usize, Refusal>
     requires { length handles.old ≤ length work.old }
     ensures result_value { answered result ≡ split_count block.now handles.old }

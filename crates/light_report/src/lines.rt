@@ -57,7 +57,7 @@ fn draw_group(tree: Tree, group: &[u8]) -> Result<Option<Line>, Refusal>
     }
 }
 
-// ---- how it is written
+// ---- how it is written, at a place of the lent slice, as `text` writes
 
 // Writes a space and a float's bits; the place behind them.
 fn put_chance(out: &mut [u8], at: usize, x: f32) -> usize

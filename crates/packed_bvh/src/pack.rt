@@ -199,7 +199,8 @@ fn header(all: Bounds3) -> [u32; 8]
     ]
 }
 
-// The words of n nodes, 0 without nodes.
+// The words of n nodes, 0 without nodes. That n is at most 8,191 is what `node_count` answers: no type has it for one
+// number.
 fn reserve(n: usize) -> usize
     requires { n ≤ 8191 }
     ensures { result ≡ packed_reserve n }

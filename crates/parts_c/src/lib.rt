@@ -34,7 +34,7 @@ use words::refusals::Refusal;
 
 // ---- words and floats: plain numbers, and slices as a pointer and a length
 
-// The functions of one number, by a number of their own; the number itself past the last.
+// The functions of one number, by a number of their own, as C passes one; the number itself past the last.
 #[unsafe(no_mangle)]
 pub extern "C" fn floats_of_one(which: u32, x: f32) -> f32
     ensures { result ≡ of_one which x }
