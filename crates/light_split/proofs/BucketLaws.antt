@@ -1,10 +1,9 @@
 -- Laws of the twelve buckets: one more record, the refusal of a union, and a float of its word. Assumes nothing.
-use Prim.Native.Nat.{ℕ, suc, ◌+◌, ◌≤◌, ◌<◌}
+use Prim.Native.Nat.{ℕ, ◌+◌, ◌≤◌, ◌<◌}
 use mathlib.Core.Path.{◌≡◌, refl, ap, subst, sym, ◌∙◌}
 use mathlib.Core.Bool.{true}
-use mathlib.Core.List.{List, [], ◌∷◌}
+use mathlib.Core.List.{List, ◌∷◌}
 use native.Mathlib.Numerals.{add-one}
-use native.Mathlib.Omega.{arith}
 use lib.Dec.{T}
 use lib.Ieee.{Float, binary32, fits, of_bits, to_bits}
 use lib.Ieee.Bits.{of_bits-to_bits}
@@ -12,12 +11,15 @@ use lib.ListN.{length, get_or, set, drop, drop_of_length-le}
 use lib.Seq.{drop-cons}
 use Rattle.std.specs.Prelude.{None, Some}
 use Rattle.words.specs.Answers.{Answer, given, refused, ◌then◌}
-use Rattle.words.proofs.AnswerLaws.{Only, only-given, only-refused, only_then, only-number}
+use Rattle.words.proofs.AnswerLaws.{Only, only-given, only-refused, only_then, only-number, then_is, then-refused}
 use Rattle.light_bounds.specs.LightBounds.{union, operand, validate}
 use Rattle.light_bounds.specs.declared.bounds.Bounds3.{Bounds3}
 use Rattle.light_bounds.specs.declared.light_bounds.LightBounds.{LightBounds}
 use Rattle.light_split.specs.Buckets.{Bucket, join_to, fill_buckets, union_range}
 use Rattle.light_split.specs.Lights.{light_of, bucket_of}
+
+-- a step, by what was answered before it
+pub ruleset steps = (then_is, then-refused)
 
 -- ---- a union refuses by 10 alone
 
@@ -47,20 +49,28 @@ pub fill_end : (ws : List ℕ) (ends : Bounds3) (d : ℕ) (bs : List Bucket) (hs
 unfolding fill_buckets
 fill_end ws ends d bs hs i h = rw (drop_of_length-le hs h)
 
--- the bucket at a place is joined, or left out where it is empty
-pub union_some : (r : Bucket) (bs : List Bucket) (i : ℕ) (b : LightBounds) → i < length bs → get_or bs i None ≡ Some b
-    → union_range r (drop i bs) ≡ join_to r b then λ (r : Bucket). union_range r (drop (i + 1) bs)
-unfolding union_range
-union_some r bs i b h e = rw (drop-cons bs i None h, add-one i, e)
+-- the bucket at a place
+pub union_next : (r : Bucket) (bs : List Bucket) (i : ℕ) → i < length bs →
+    union_range r (drop i bs) ≡ union_range r (get_or bs i None ∷ drop (i + 1) bs)
+union_next r bs i h = rw (drop-cons bs i None h, add-one i)
 
-pub union_none : (r : Bucket) (bs : List Bucket) (i : ℕ) → i < length bs → get_or bs i None ≡ None →
-    union_range r (drop i bs) ≡ union_range r (drop (i + 1) bs)
+-- is joined, or left out where it is empty
+pub union_some : (r : Bucket) (b : LightBounds) (bs : List Bucket) →
+    union_range r (Some b ∷ bs) ≡ join_to r b then λ (r : Bucket). union_range r bs
 unfolding union_range
-union_none r bs i h e = rw (drop-cons bs i None h, add-one i, e)
+union_some r b bs = refl
+
+pub union_none : (r : Bucket) (bs : List Bucket) → union_range r (None ∷ bs) ≡ union_range r bs
+unfolding union_range
+union_none r bs = refl
 
 pub union_end : (r : Bucket) (bs : List Bucket) (i : ℕ) → length bs ≤ i → union_range r (drop i bs) ≡ given r
 unfolding union_range
 union_end r bs i h = rw (drop_of_length-le bs h)
+
+pub ruleset fills = (fill-next, fill_end, then_is, then-refused)
+
+pub ruleset joins = (union_next, union_some, union_none, union_end, then_is, then-refused)
 
 -- ---- a float is that of its word
 

@@ -3,10 +3,11 @@
 use Prim.Native.Nat.{ℕ, ◌+◌, ◌-◌, ◌/◌, ◌≤◌, ◌<◌, zero-le}
 use mathlib.Core.Path.{◌≡◌, refl, ap, sym, ◌∙◌}
 use mathlib.Core.Bool.{Bool, true, false, cond, not, ◌||◌}
-use mathlib.Core.List.{List, [], ◌∷◌, ◌++◌}
+use mathlib.Core.List.{List, [], ◌∷◌, ◌++◌, append-nil}
 use mathlib.Core.Logic.{◌⊎◌, ⊎_elim}
 use native.Mathlib.Omega.{arith}
-use lib.ListN.{length, get_or, take, drop, set, length-append, length-set, take-append-drop}
+use lib.ListN.{length, get_or, take, drop, set, length-append, length-set, length-drop, take-append-drop, drop_of_length-le}
+use borrow.Rule.Slice.PartMut.{post_of}
 use lib.Seq.{take_all, length-take-le, take-append_seam}
 use borrow.Author.Tests.{lt-ltb, le-ltb, eq-eqb, ne_eqb}
 use lib.Dec.{eqb}
@@ -220,3 +221,11 @@ parted_rejoined {ws} {hs} {work} {hs'} {work'} {s} {left} p =
       take-append_seam r
           (drop (length r) work),
     )
+
+-- the work's front behind the first handles
+pub put_behind : (hs hs' work' new : List ℕ) (left : ℕ) → length hs' ≡ length hs → new ≡ take (length hs - left) work'
+    → take left hs' ++ (new ++ post_of left (length hs' - left) hs') ≡ take left hs' ++ take (length hs' - left) work'
+put_behind hs hs' work' new left same e =
+    let past : drop (length hs' - left) (drop left hs') ≡ [] =
+    drop_of_length-le (drop left hs') (omega (arith, length-drop left hs')) in
+    rw (past, append-nil new, e, same)

@@ -16,7 +16,7 @@ use lib.Seq.{take-suc, take_all, drop-cons}
 use Rattle.ieee.specs.Laws.OrderLaws.{lt→le, not_le_of_lt}
 use Rattle.ieee.specs.Single.{◌⊕◌, zerof}
 use Rattle.words.specs.Answers.{Answer, given, refused, ◌then◌}
-use Rattle.words.proofs.AnswerLaws.{then_assoc}
+use Rattle.words.proofs.AnswerLaws.{then_assoc, then_is, then-refused}
 use Rattle.light_bounds.specs.declared.bounds.Bounds3.{Bounds3}
 use Rattle.light_bounds.specs.declared.light_bounds.LightBounds.{LightBounds}
 use Rattle.light_split.specs.Lights.{component, centroid_ends}
@@ -224,3 +224,5 @@ pub axis-in : (ws hs : List ℕ) (ends parent : Bounds3) (d : ℕ) (b : Best) �
     axes ws hs ends parent (3 - (d + 1)) b
 unfolding axis
 axis-in ws hs ends parent d b h e = axes-next ws hs ends parent d b h ∙ rw e
+
+pub ruleset turns = (axis-out, axis-in, then_is, then-refused)

@@ -4,7 +4,7 @@ use Rattle.std.specs.Prelude.{ℕ, zero, suc, ◌-◌, ◌/◌, false, cond, ◌
 use Rattle.std.specs.Float.{inf}
 use Rattle.std.specs.Float.Ieee.{lt, eq}
 use Rattle.ieee.specs.Single.{zerof}
-use Rattle.words.specs.Answers.{Answer, given, refused, ◌then◌}
+use Rattle.words.specs.Answers.{Answer, given, ◌then◌}
 use Rattle.light_bounds.specs.Bounds.{box_union}
 use Rattle.light_bounds.specs.declared.bounds.Bounds3.{Bounds3}
 use Rattle.light_split.specs.Lights.{light_of, component, centroid_ends, n_buckets}

@@ -19,8 +19,11 @@ use words::floats::Float;
 use words::refusals::Refusal;
 
 // A bucket, None where nothing fell into it, with one more record.
-#[tactic(auto, unfolding(crate::specs::Buckets::join_to))]
-pub(crate) fn join_to(bucket: Option<LightBounds>, bounds: LightBounds) -> Result<LightBounds, Refusal>
+#[tactic(auto, using(crate::proofs::BucketLaws::steps), unfolding(crate::specs::Buckets::join_to))]
+pub(crate) fn join_to(
+    bucket: Option<LightBounds>,
+    bounds: LightBounds,
+) -> Result<LightBounds, Refusal>
     ensures { answered result then (λ b. given (Some b)) ≡ join_to bucket bounds }
 {
     match bucket {
@@ -30,6 +33,7 @@ pub(crate) fn join_to(bucket: Option<LightBounds>, bounds: LightBounds) -> Resul
 }
 
 // Each handle's record into the bucket of its centroid.
+#[tactic(auto, using(crate::proofs::BucketLaws::fills))]
 pub(crate) fn fill_buckets(
     block: &[u32],
     handles: &[u32],
@@ -47,6 +51,7 @@ pub(crate) fn fill_buckets(
 }
 
 // The buckets joined from left to right, None where all are empty.
+#[tactic(auto, using(crate::proofs::BucketLaws::joins))]
 pub(crate) fn union_range(buckets: &[Option<LightBounds>]) -> Result<Option<LightBounds>, Refusal>
     ensures { answered result ≡ union_range None buckets.now }
 {
@@ -109,7 +114,12 @@ fn omega_for(last: &mut Option<Omega>, cos_theta_o: f32, cos_theta_e: f32) -> f3
 }
 
 #[tactic(auto, unfolding(crate::specs::Buckets::evaluate_cost))]
-fn evaluate_cost(bounds: LightBounds, parent: Bounds3, dimension: usize, last: &mut Option<Omega>) -> f32
+fn evaluate_cost(
+    bounds: LightBounds,
+    parent: Bounds3,
+    dimension: usize,
+    last: &mut Option<Omega>,
+) -> f32
     ensures { result ≡ evaluate_cost bounds parent dimension }
 {
     let sides = diagonal(parent);

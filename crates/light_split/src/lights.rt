@@ -57,7 +57,9 @@ fn widen(block: &[u32], b: Bounds3, handle: u32) -> Bounds3
 pub fn centroid_ends(block: &[u32], handles: &[u32]) -> Bounds3
     ensures { result ≡ centroid_ends block.now handles.now }
 {
-    handles.iter().fold(no_ends(), |ends, handle| widen(block, ends, *handle))
+    handles
+        .iter()
+        .fold(no_ends(), |ends, handle| widen(block, ends, *handle))
 }
 
 #[tactic(auto, unfolding(crate::specs::Lights::bucket_index))]

@@ -32,9 +32,10 @@ fn combined_bounds(block: &[u32], handles: &[u32]) -> Bounds3
 {
     match handles {
         [] => light_box(block, 0),
-        [first, rest @ ..] => rest
-            .iter()
-            .fold(light_box(block, *first), |combined, handle| union(combined, light_box(block, *handle))),
+        [first, rest @ ..] => rest.iter().fold(
+            light_box(block, *first),
+            |combined, handle| union(combined, light_box(block, *handle)),
+        ),
     }
 }
 
@@ -57,11 +58,10 @@ fn best_cut(
     buckets: &[Option<LightBounds>; N_BUCKETS],
     parent: Bounds3,
     dimension: usize,
-    best: Best,
+    mut best: Best,
 ) -> Result<Best, Refusal>
     ensures { answered result ≡ cuts buckets.now parent dimension best 11 }
 {
-    let mut best = best;
     let mut left = None;
     let mut last = None;
     for bucket in 0..N_BUCKETS - 1 {
@@ -70,7 +70,8 @@ fn best_cut(
         }
         if bucket == 0 || buckets[bucket].is_some() {
             let right = union_range(&buckets[bucket + 1..])?;
-            let cost = side_cost(parent, dimension, left, &mut last) + side_cost(parent, dimension, right, &mut last);
+            let cost = side_cost(parent, dimension, left, &mut last)
+                + side_cost(parent, dimension, right, &mut last);
             best = better(best, Split { dimension, bucket }, cost);
         }
     }
@@ -78,6 +79,7 @@ fn best_cut(
 }
 
 // The cut of a stretch. An axis is left out where its centroids are equal.
+#[tactic(auto, using(crate::proofs::SplitLaws::turns))]
 pub fn choose_split(block: &[u32], handles: &[u32]) -> Result<Split, Refusal>
     ensures { answered result ≡ choose_split block.now handles.now }
 {

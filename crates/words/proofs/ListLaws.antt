@@ -1,14 +1,14 @@
--- Laws of lists: what holds of every item (`All`), folds turn by turn, the items that pass a test, a list laid over the
--- front of another, and lists in reverse. Assumes nothing.
+-- Laws of lists: what holds of every item (`All`), the items that pass a test, a list laid over the front of another, and
+-- lists in reverse. Assumes nothing.
 use Prim.Native.Nat.{ℕ, zero, suc, ◌+◌, ◌-◌, ◌≤◌, ◌<◌}
 use mathlib.Core.Path.{◌≡◌, refl, ap, sym, ◌∙◌}
 use mathlib.Core.Bool.{Bool, true, false, cond, not}
 use mathlib.Core.List.{List, [], ◌∷◌, ◌++◌, append-nil}
 use native.Mathlib.Numerals.{add-one}
 use native.Mathlib.Omega.{arith}
-use lib.ListN.{length, get_or, take, drop, set, replicate, length-append, drop_of_length-le}
-use lib.Seq.{drop-cons, take-suc, get_or-append-add, get_or-drop}
-use Rattle.words.specs.Lists.{folded, kept, reversed}
+use lib.ListN.{length, get_or, take, drop, set, replicate, length-append}
+use lib.Seq.{take-suc, get_or-append-add, get_or-drop}
+use Rattle.words.specs.Lists.{kept, reversed}
 use Rattle.words.specs.AsCoded.ListParts.{laid, last_of}
 use Rattle.words.proofs.Stores.{stored}
 
@@ -70,20 +70,6 @@ module _ {A : Type 0} (P : A → Type 0) where
   pub none-all : (xs : List A) → (0 < length xs → ⊥) → All P xs
   none-all [] n = tt
   none-all (x ∷ xs) n = absurd (n (omega arith))
-
--- ---- folds
-
--- a turn of a loop that folds a list of numbers
-pub folded-next : {B : Type 0} (step : B → ℕ → B) (b : B) (xs : List ℕ) (i : ℕ) → i < length xs
-    → folded step b (drop i xs) ≡ folded step (step b (get_or xs i 0)) (drop (i + 1) xs)
-unfolding folded
-folded-next step b xs i h = rw (add-one, drop-cons xs i 0)
-
--- and its end
-pub folded-all : {B : Type 0} (step : B → ℕ → B) (b : B) (xs : List ℕ) (i : ℕ) → length xs ≤ i
-    → folded step b (drop i xs) ≡ b
-unfolding folded
-folded-all step b xs i h = rw (drop_of_length-le xs h)
 
 -- ---- the items that pass
 

@@ -1,12 +1,7 @@
--- Functions of lists that definitions of several crates cite: folds, the items that pass a test, a list over the front
--- of another, the reverse, the last, the sort of numbers, and how often a number stands in a list. Definitions only.
--- Assumes nothing.
+-- Functions of lists that definitions of several crates cite: the items that pass a test, a list over the front of
+-- another, the reverse, the last, the sort of numbers, and how often a number stands in a list. Definitions only. Assumes
+-- nothing.
 use Rattle.std.specs.Prelude.{ℕ, ◌+◌, Bool, cond, List, [], ◌∷◌, ◌++◌, leb, eqb}
-
--- a step for each item of a list, from left to right
-unfoldable pub folded : {A B : Type 0} → (B → A → B) → B → List A → B
-folded step b [] = b
-folded step b (x ∷ xs) = folded step (step b x) xs
 
 -- the items that pass a test
 unfoldable pub kept : {A : Type 0} → (A → Bool) → List A → List A

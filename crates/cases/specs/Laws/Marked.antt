@@ -30,10 +30,9 @@ use Rattle.light_rows.specs.Block.{block_layout, block_handles}
 use Rattle.light_rows.specs.Nodes.{node_list, node_count, node_of, node_at, bounds_at}
 use Rattle.light_rows.specs.Tree.{leaves, flatten}
 use Rattle.light_split.specs.Lights.{component, widen, centroid_ends, bucket_index, bucket_of}
-use Rattle.words.specs.Lists.{folded, kept}
+use Rattle.words.specs.Lists.{kept}
 use Rattle.light_split.specs.Buckets.{join_to, fill_buckets, union_range, union_bucket_range, m_omega, kr, evaluate_cost}
 use Rattle.light_split.specs.Buckets.{side_cost, cut_cost}
-use Rattle.light_split.specs.AsCoded.Slots.{slot_list}
 use Rattle.light_split.specs.Split.{combined_bounds, better, cuts, axis, choose_split}
 use Rattle.light_split.specs.Partition.{goes_left, goes_right, lefts, rights, partition_handles}
 use Rattle.light_split.specs.AsCoded.Parted.{parted_count, parted_handles, parted_work}
@@ -195,9 +194,9 @@ unfolding to_bits of_bits of_int span climb size odd units round neg sum add sub
     box_check least_of greatest_of box_union diagonal centroid surface_area safe_sqrt cos_sub_clamped sin_sub_clamped
     bound_subtended_directions joined union_direction_cones is_cosine range_check cone_check validate join union sine cos_w
     cos_p normal_factor with_normal toward distance2 geometry finish checked_importance importance_by importance weigh
-    vec_at record_at record_list block_layout block_handles node_list node_count node_of node_at bounds_at leaves flatten folded
+    vec_at record_at record_list block_layout block_handles node_list node_count node_of node_at bounds_at leaves flatten
     component widen centroid_ends bucket_index bucket_of join_to fill_buckets union_range union_bucket_range m_omega kr
-    evaluate_cost side_cost cut_cost slot_list combined_bounds better cuts axis choose_split kept goes_left goes_right lefts
+    evaluate_cost side_cost cut_cost combined_bounds better cuts axis choose_split kept goes_left goes_right lefts
     rights partition_handles parted_count parted_handles parted_work forked tree_by build_subtree bounded_handles grown
     all_bounds validated tree_of built_bvh build_check build_light_bvh nodes_written tabled table_written parted fork weigh_at
     weights turn taken onward descend part_of rise risen upward ascend sample_check from_root sample_walk pmf_check leaf_of

@@ -1,5 +1,5 @@
 -- `light_split::buckets::omega_for`: each cosine is that of its word. Assumes nothing.
-use mathlib.Core.Path.{◌≡◌, sym, ◌∙◌, ap}
+use mathlib.Core.Path.{◌≡◌, ◌∙◌}
 use Rattle.std.proofs.Common.{arith}
 use Rattle.std.proofs.lemmas.Grind.{common_steps}
 use Rattle.light_split.proofs.BucketLaws.{of_its_word}

@@ -27,12 +27,6 @@ loop-i-preserved c =
           (parting-right complement c.loop-i.invariant _ read (omega arith) (told ∙ w.if-goes_left.false))
     ]
 
-pub shape_of-handles : goal.shape_of-handles
-shape_of-handles c = c.loop-i.invariant.same
-
-pub shape_of-work : goal.shape_of-work
-shape_of-work c = c.loop-i.invariant.same_work
-
 pub returns : goal.returns
 returns c =
     let args = c.args in

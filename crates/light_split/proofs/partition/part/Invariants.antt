@@ -7,4 +7,3 @@ abbrev pub invariant-loop-i : goal.invariant-loop-i
 invariant-loop-i l =
     Parting (goes_left l.block l.ends l.split) (goes_right l.block l.ends l.split) l.initial.handles l.initial.work
     l.handles l.work l.left l.right l.i
-
