@@ -84,7 +84,7 @@ fn refuse_build(answer: &mut [u32], why: Refusal) -> u32
 }
 
 // The number where the answer is short: the refusals before it come first.
-#[tactic(auto, using(crate::proofs::Steps::steps), unfolding(crate::specs::AsCoded::ShortAnswer::short_answer))]
+#[tactic(auto, using(words::proofs::AnswerLaws::steps), unfolding(crate::specs::AsCoded::ShortAnswer::short_answer))]
 fn refuse_short(lights: usize, block: &[u32], nodes: usize, table: usize, work: usize) -> u32
     ensures { refused result ≡ short_answer lights block.now nodes table work }
 {

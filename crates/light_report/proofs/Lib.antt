@@ -1,4 +1,3 @@
 pub mod Reported
 pub mod TreeBytes
 pub mod WrittenLaws
-pub mod Steps

@@ -12,7 +12,7 @@ use lib.ListN.{length, get_or}
 use Rattle.ieee.specs.Single.{◌⊗◌, zerof}
 use Rattle.words.specs.Answers.{Answer, ◌then◌, given, refused}
 use Rattle.words.specs.Heads.{kind_of}
-use Rattle.words.proofs.AnswerLaws.{then_is, then-refused, not-both, refused_injective}
+use Rattle.words.proofs.AnswerLaws.{not-both, refused_injective}
 use Rattle.light_bounds.specs.AsCoded.Weighing.{prepared}
 use Rattle.light_bounds.proofs.WeighingLaws.{weigh-prepared}
 use Rattle.light_bounds.specs.declared.importance.Query.{Query}
@@ -24,9 +24,6 @@ use Rattle.light_sampler.specs.Fork.{neither, left, right}
 use Rattle.light_sampler.specs.AsCoded.Turns.{by_prepared}
 use Rattle.light_sampler.specs.Walks.{Walked, after_check, Weighing, by_query, turn, taken}
 use Rattle.light_sampler.specs.Walks.{onward, descend, nought, part, rise, risen, upward, ascend}
-
--- steps, by what was answered
-pub ruleset steps = (then_is, then-refused)
 
 -- a node stands within the words
 pub node-within : (ws : List ℕ) (i : ℕ) {n : LightBVHNode} → given n ≡ node_at ws i → i < length ws / node_words

@@ -34,7 +34,7 @@ fn part_of(place: usize, left: usize, right: usize, x: f32, y: f32) -> Result<Op
 }
 
 // From a child to its parent, whose node is read already.
-#[tactic(auto, using(crate::proofs::WalkLaws::steps), unfolding(crate::specs::Walks::rise))]
+#[tactic(auto, using(words::proofs::AnswerLaws::steps), unfolding(crate::specs::Walks::rise))]
 fn rise(
     nodes: &[u8],
     query: Prepared,
@@ -79,7 +79,7 @@ fn ascend(nodes: &[u8], query: Query, count: usize, leaf: u32) -> Result<f32, Re
 }
 
 // 2 of the nodes or of the table, then 1: how many nodes there are.
-#[tactic(auto, using(crate::proofs::WalkLaws::steps), unfolding(crate::specs::Sampler::pmf_check))]
+#[tactic(auto, using(words::proofs::AnswerLaws::steps), unfolding(crate::specs::Sampler::pmf_check))]
 fn check_pmf(nodes: &[u8], table: &[u8]) -> Result<usize, Refusal>
     ensures { answered result ≡ pmf_check nodes.now table.now }
 {

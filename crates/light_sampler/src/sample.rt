@@ -22,7 +22,7 @@ pub struct SampledLight {
 }
 
 // Where the node at a place sends u.
-#[tactic(auto, using(crate::proofs::WalkLaws::steps), unfolding(crate::specs::Walks::turn))]
+#[tactic(auto, using(words::proofs::AnswerLaws::steps), unfolding(crate::specs::Walks::turn))]
 fn turn(
     nodes: &[u8],
     query: Prepared,
@@ -81,7 +81,7 @@ fn descend(
 }
 
 // 2 and 1 of the nodes, 11 of u: how many nodes there are.
-#[tactic(auto, using(crate::proofs::WalkLaws::steps), unfolding(crate::specs::Sampler::sample_check))]
+#[tactic(auto, using(words::proofs::AnswerLaws::steps), unfolding(crate::specs::Sampler::sample_check))]
 fn check_sample(nodes: &[u8], u: f32) -> Result<usize, Refusal>
     ensures { answered result ≡ sample_check nodes.now u }
 {

@@ -12,7 +12,7 @@ use words::refusals::Refusal;
 
 // The weight of the node at a place: 12 past the end and of an unknown side, the record's refusals, the importance's.
 // Nodes and query are no struct: of one with a slice in it each clause would have to say `walk.entry.nodes.now`.
-#[tactic(auto, using(crate::proofs::WalkLaws::steps), unfolding(crate::specs::Walks::weigh_at))]
+#[tactic(auto, using(words::proofs::AnswerLaws::steps), unfolding(crate::specs::Walks::weigh_at))]
 pub(crate) fn weigh_at(nodes: &[u8], query: Prepared, place: usize) -> Result<f32, Refusal>
     ensures { answered result ≡ weigh_at (words_of nodes.now) (by_prepared query) place }
 {
@@ -20,7 +20,7 @@ pub(crate) fn weigh_at(nodes: &[u8], query: Prepared, place: usize) -> Result<f3
 }
 
 // The weights of the node's children: the left one, behind the node, in full before the right one is looked for.
-#[tactic(auto, using(crate::proofs::WalkLaws::steps), unfolding(crate::specs::Walks::weights))]
+#[tactic(auto, using(words::proofs::AnswerLaws::steps), unfolding(crate::specs::Walks::weights))]
 pub(crate) fn weigh_children(
     nodes: &[u8],
     query: Prepared,

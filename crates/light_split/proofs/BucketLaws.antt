@@ -17,9 +17,6 @@ use Rattle.light_bounds.specs.declared.light_bounds.LightBounds.{LightBounds}
 use Rattle.light_split.specs.Buckets.{Bucket, join_to, fill_buckets, union_range}
 use Rattle.light_split.specs.Lights.{light_of, bucket_of}
 
--- a step, by what was answered before it
-pub ruleset steps = (then_is, then-refused)
-
 -- ---- one more
 
 -- the record of the handle at a place, into its bucket

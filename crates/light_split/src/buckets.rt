@@ -19,7 +19,7 @@ use words::floats::Float;
 use words::refusals::Refusal;
 
 // A bucket, None where nothing fell into it, with one more record.
-#[tactic(auto, using(crate::proofs::BucketLaws::steps), unfolding(crate::specs::Buckets::join_to))]
+#[tactic(auto, using(words::proofs::AnswerLaws::steps), unfolding(crate::specs::Buckets::join_to))]
 pub(crate) fn join_to(
     bucket: Option<LightBounds>,
     bounds: LightBounds,

@@ -17,7 +17,7 @@ use Rattle.words.specs.LittleEndian.{bytes_of, bytes_of_word, words_of}
 use Rattle.words.specs.AsCoded.WordSlices.{set_word}
 use Rattle.words.specs.Tray.{tray}
 use Rattle.words.specs.Laws.TrayLaws.{tray-full, tray-early}
-use Rattle.words.proofs.AnswerLaws.{Early, Late, then_is, then-refused, then-given}
+use Rattle.words.proofs.AnswerLaws.{Early, Late, then-given}
 use Rattle.words.proofs.AnswerLaws.{only-given, only-refused, only-cond, only_then}
 use Rattle.words.proofs.AnswerLaws.{only-number, not-both, given_injective}
 use Rattle.words.proofs.LittleEndianLaws.{length-bytes_of, bytes_of-append}
@@ -40,9 +40,6 @@ use Rattle.packed_bvh.specs.Packed.{header_words, packed_node_words, packed_plac
 use Rattle.packed_bvh.specs.Packed.{pack_check, agreed, packed_tree, pack_light_bvh, packed_bytes, bytes_reserve}
 use Rattle.packed_bvh.specs.Packed.{words_packed}
 use Rattle.packed_bvh.specs.AsCoded.PackedParts.{placing}
-
--- what a step that is given, or refused, comes to
-pub ruleset steps = (then_is, then-refused)
 
 -- ---- words behind words
 

@@ -159,7 +159,7 @@ fn place(node: Node, count: usize, index: usize) -> Result<Placed, Refusal>
 // ---- a node
 
 // Its kind and its side, its record, its direction's length, then what `place` asks.
-#[tactic(auto, using(crate::proofs::PackLaws::steps), unfolding(crate::specs::Packed::pack_node))]
+#[tactic(auto, using(words::proofs::AnswerLaws::steps), unfolding(crate::specs::Packed::pack_node))]
 fn pack_node(nodes: &[u8], all: Bounds3, count: usize, index: usize) -> Result<[u32; 8], Refusal>
     requires { index < 8191 }
     ensures { answered result ≡ pack_node count all (words_of nodes.now) index }
@@ -249,7 +249,7 @@ fn pack_nodes(
 // ---- the checks
 
 // 2, 1, 3: how many nodes there are.
-#[tactic(auto, using(crate::proofs::PackLaws::steps), unfolding(crate::specs::Packed::pack_check))]
+#[tactic(auto, using(words::proofs::AnswerLaws::steps), unfolding(crate::specs::Packed::pack_check))]
 fn check_pack(nodes: &[u8], room: usize) -> Result<usize, Refusal>
     ensures { answered result ≡ pack_check nodes.now room }
 {
@@ -261,7 +261,7 @@ fn check_pack(nodes: &[u8], room: usize) -> Result<usize, Refusal>
 }
 
 // Without a box there are neither nodes nor lamps; a box has both, and its own check.
-#[tactic(auto, using(crate::proofs::PackLaws::steps), unfolding(crate::specs::Packed::agreed))]
+#[tactic(auto, using(words::proofs::AnswerLaws::steps), unfolding(crate::specs::Packed::agreed))]
 fn agree(n: usize, k: usize, all_bounds: Option<Bounds3>) -> Result<Option<Bounds3>, Refusal>
     ensures { agreement result ≡ agreed n k (optional all_bounds) }
 {

@@ -197,7 +197,7 @@ pub extern "C" fn words_bytes_of_words(words: &[u32], bytes: &mut [u8]) -> u32
 
 // ---- bounds of lamps, records and queries as slices of words
 
-#[tactic(auto, using(crate::proofs::Steps::steps), unfolding(crate::specs::PartCodes::validate_words))]
+#[tactic(auto, using(words::proofs::AnswerLaws::steps), unfolding(crate::specs::PartCodes::validate_words))]
 fn validate_words(record: &[u32]) -> Result<(), Refusal>
     ensures { answered result ≡ validate_words «record».now }
 {
@@ -212,7 +212,7 @@ pub extern "C" fn bounds_validate(record: &[u32]) -> u32
     code(validate_words(record))
 }
 
-#[tactic(auto, using(crate::proofs::Steps::steps), unfolding(crate::specs::PartCodes::importance_words))]
+#[tactic(auto, using(words::proofs::AnswerLaws::steps), unfolding(crate::specs::PartCodes::importance_words))]
 fn importance_words(record: &[u32], query: &[u32]) -> Result<f32, Refusal>
     ensures { answered result ≡ importance_words «record».now query.now }
 {
@@ -272,7 +272,7 @@ pub extern "C" fn bounds_union(a: &[u32], b: &[u32], out: &mut [u32]) -> u32
 // ---- the bounds block's check
 
 // The layout before the handles.
-#[tactic(auto, using(crate::proofs::Steps::steps), unfolding(light_rows::specs::Block::block_check))]
+#[tactic(auto, using(words::proofs::AnswerLaws::steps), unfolding(light_rows::specs::Block::block_check))]
 fn check_block(block: &[u32]) -> Result<usize, Refusal>
     ensures { answered result ≡ block_check block.now }
 {

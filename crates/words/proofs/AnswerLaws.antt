@@ -26,6 +26,9 @@ pub then_is : {A B : Type 0} (x : Answer A) (f : A → Answer B) (a : A) → x �
 unfolding ◌then◌
 then_is x f a e = rw e
 
+-- by which steps in a row close
+pub ruleset steps = (then_is, then-refused)
+
 -- ---- which refusals
 
 -- a refusal, if any, has the property
