@@ -197,8 +197,7 @@ module _ (before : List ℕ) (n : ℕ) (room : 19 ≤ length before) {a b c : Li
   line-laid =
       let long : p + q + r ≡ length (refusal_line n) = omega (arith, whole.past) in
       let within : p + q + r ≤ length c =
-      omega (arith, refusal-short n, room, ap length whole.is, length-sets before 0 (refusal_line n)) in
-      (
+      omega (arith, refusal-short n, room, ap length whole.is, length-sets before 0 (refusal_line n)) in (
         within,
         sym (length-take-le (p + q + r) c within),
         omega (arith, refusal-short n),
