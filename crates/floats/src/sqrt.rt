@@ -144,8 +144,7 @@ fn digits_root(d: u64, e: u64) -> u32
     pattern(s, kept)
 }
 
-// The same by a guess, for the normal floats, which are the most. Their leading zeros are known here when this is
-// compiled, which one function for both would lose.
+// The same by a guess, for the normal floats, which are the most. One function of both would take which root to take.
 fn normal_root(d: u64, e: u64) -> u32
     requires d_nonzero { (0 < d) × (d < 2 ^ 24) }
     requires le_e { (151 ≤ e) × (e ≤ 404) }

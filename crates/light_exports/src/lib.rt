@@ -1,6 +1,6 @@
-// The light tree for C and Rust, as `include/light_tree.h` tells it: the functions that the static library exports. Each
-// is the function of its name in `light_c`, promises what that promises, and calls it; a crate of the repository that
-// another one stands on cannot be a static library itself, and flat parameters are those of the C interface.
+// The light tree for C and Rust, as `include/light_tree.h` tells it: the functions that the static library exports.
+// Each is the function of its name in `light_c`, promises what that promises, and calls it; a crate of the repository
+// that another one stands on cannot be a static library itself, and flat parameters are those of the C interface.
 // tools/archives makes `liblight_c.a` of it.
 #![tactic(auto)]
 

@@ -52,7 +52,8 @@ reported-next {nodes} {table} {bytes} {before} {out} {out'} {count} {at} {end} {
     }
 
 -- a group that is cut off the front of what is left
-pub group-cut : (bytes : List ℕ) {group rest rest' : List ℕ} (i : ℕ) → rest ≡ drop (28 * i) bytes → rest ≡ group ++ rest'
+pub group-cut : (bytes : List ℕ) {group rest rest' : List ℕ} (i : ℕ) → rest ≡ drop (28 * i) bytes
+    → rest ≡ group ++ rest'
     → length group ≡ 28
     → (i < length bytes / 28) × (take 28 (drop (28 * i) bytes) ≡ group) × (rest' ≡ drop (28 * (i + 1)) bytes)
 group-cut bytes {group} {rest} {rest'} i left cut whole =
@@ -66,7 +67,9 @@ group-cut bytes {group} {rest} {rest'} i left cut whole =
     )
 
 -- what is left at the end is no whole group
-pub groups-end : (bytes : List ℕ) {rest : List ℕ} (i : ℕ) → rest ≡ drop (28 * i) bytes → length rest < 28 → length bytes / 28 ≤ i
+pub groups-end : (bytes : List ℕ) {rest : List ℕ} (i : ℕ) → rest ≡ drop (28 * i) bytes → length rest < 28
+    → length bytes / 28 ≤
+    i
 groups-end bytes {rest} i left few = omega (arith, ap length left, length-drop (28 * i) bytes, few)
 
 -- at the end all lines are there, but for a part group's

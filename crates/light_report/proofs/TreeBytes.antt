@@ -123,7 +123,9 @@ module _ (front : List ℕ) (m k : ℕ) (sized : given (m, k) ≡ sizes (report_
       (omega (arith, rows, count, tree.powered), omega (arith, rows, tree.few))
 
   -- the words that are handed on, at the front of the trays
-  pub nodes-front : (reserve : ℕ) (before after : List ℕ) → after ≡ tray nodes_written reserve (report_tree front) before
+  pub nodes-front : (reserve : ℕ) (before after : List ℕ)
+      → after ≡ tray nodes_written reserve
+      (report_tree front) before
       → bytes_of (take (nodes_reserve k) after) ≡ node_bytes (report_tree front)
   unfolding node_bytes
   nodes-front reserve before after e =
@@ -133,7 +135,9 @@ module _ (front : List ℕ) (m k : ℕ) (sized : given (m, k) ≡ sizes (report_
       ((tree-of front b is).nodes ∙ ap nodes_reserve (sym count)) in
       ap (λ (l : List ℕ). bytes_of (take (nodes_reserve k) l)) given_is ∙ ap bytes_of words ∙ ap node_bytes (sym is)
 
-  pub table-front : (reserve : ℕ) (before after : List ℕ) → after ≡ tray table_written reserve (report_tree front) before
+  pub table-front : (reserve : ℕ) (before after : List ℕ)
+      → after ≡ tray table_written reserve
+      (report_tree front) before
       → bytes_of (take m after) ≡ table_bytes (report_tree front)
   unfolding table_bytes
   table-front reserve before after e =

@@ -46,7 +46,9 @@ front-least front = go (ltb report_lamps (get_or (words_of front) 0 0))
     go false = omega arith
 
 -- a word 0 that is within a report's lamps
-front-few : (front : List ℕ) (m : ℕ) → get_or (words_of front) 0 0 ≡ m → m ≤ report_lamps → front_bytes front ≡ block_bytes m
+front-few : (front : List ℕ) (m : ℕ) → get_or (words_of front) 0 0 ≡ m → m ≤ report_lamps
+    → front_bytes front ≡ block_bytes
+    m
 unfolding front_bytes
 front-few front m word few = rw (word, le-ltb report_lamps m few)
 

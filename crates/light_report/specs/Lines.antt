@@ -1,7 +1,8 @@
 -- The lines of the report, in ASCII, as R13.4 has them: what a group of seven
 -- words draws, and how it is written. Chances are written as their words' eight hexadecimal digits, handles and
 -- refusals in decimal. Definitions only. Assumes nothing.
-use Rattle.std.specs.Prelude.{ℕ, zero, suc, ◌+◌, ◌*◌, ◌/◌, ◌%◌, cond, List, [], ◌∷◌, ◌++◌, eqb, Float, length, get_or, take, drop}
+use Rattle.std.specs.Prelude.{ℕ, zero, suc, ◌+◌, ◌*◌, ◌/◌, ◌%◌, cond, List, [], ◌∷◌, ◌++◌, eqb, Float, length, get_or}
+use Rattle.std.specs.Prelude.{take, drop}
 use Rattle.std.specs.Prelude.{Result, Ok, Err, Some, None}
 use Rattle.std.specs.Prelude.{Option as Option-of-std}
 use Rattle.std.proofs.Math.Option.{Option, none, some}

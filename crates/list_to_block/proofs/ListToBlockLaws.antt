@@ -1,5 +1,6 @@
 -- What was read of a list that is too long tells as much as all of it. Assumes nothing.
-use Rattle.std.specs.Prelude.{ℕ, ◌*◌, ◌%◌, ◌≤◌, ◌<◌, ◌≡◌, refl, Bool, true, false, ◌||◌, List, ltb, length, get_or, take}
+use Rattle.std.specs.Prelude.{ℕ, ◌*◌, ◌%◌, ◌≤◌, ◌<◌, ◌≡◌, refl, Bool, true, false, ◌||◌, List, ltb, length, get_or}
+use Rattle.std.specs.Prelude.{take}
 use Rattle.std.proofs.Common.{sym, ◌∙◌, arith, lt-ltb, length-take-le}
 use Rattle.words.specs.Limits.{max_lamps, max_words, crowded}
 use Rattle.words.specs.LittleEndian.{words_of}

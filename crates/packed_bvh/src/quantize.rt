@@ -16,7 +16,7 @@ fn steps(value: f32, min: f32, max: f32) -> f32
     clamp((value - min) / (max - min), 0.0, 1.0) * 65535.0
 }
 
-// Up or down to a whole step.
+// Up or down to a whole step. `up` is the definition's own flag: as a const parameter its goals speak of a number.
 fn quantize_bounds(up: bool, value: f32, min: f32, max: f32) -> u32
     ensures { result ≡ quantize_bounds up value min max }
 {

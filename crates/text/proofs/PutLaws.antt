@@ -134,7 +134,9 @@ module _ (before : List ℕ) (at : ℕ) (text : List ℕ) where
       let room : at + length text ≤ length before = leb-true (at + length text) (length before) is in
       rw (fitting-all room) (
         put_mid-paste at (at + length text - at) before laid text (length text) same (omega arith) refl
-            ∙ paste_all before at text (length text) refl ∙ sym (append_assoc (take at before) text (drop (at + length text) before))
+            ∙ paste_all before at text (length text) refl
+            ∙ sym (append_assoc (take at before) text (drop
+            (at + length text) before))
             ∙ sym (sets-eq text before at room),
         refl,
       )
@@ -157,7 +159,14 @@ put-fits {before} {text} {after} {at} {count} room is long =
 pub line-begun : (before a : List ℕ) (n : ℕ) {p q : ℕ} → p ≡ length (fitting before 0 refused_bytes)
     → q ≡ length (fitting a p (decimal_bytes n)) → p + q ≤ 18
 line-begun before a n {p} {q} p-is q-is =
-    omega (arith, fitting-short before 0 refused_bytes, fitting-short a p (decimal_bytes n), decimal-short n, p-is, q-is)
+    omega (
+      arith,
+      fitting-short before 0 refused_bytes,
+      fitting-short a p (decimal_bytes n),
+      decimal-short n,
+      p-is,
+      q-is,
+    )
 
 -- the word, the digits and the line's end, one behind another from the front of a slice with room for them
 module _ (before : List ℕ) (n : ℕ) (room : 19 ≤ length before) {a b c : List ℕ} {p q r : ℕ}
@@ -232,7 +241,8 @@ module _ (words before : List ℕ) where
 
   pub words-put : {n : ℕ} {after : List ℕ} → given n ≡ written_words words (length before)
       → after ≡ left (written_words words (length before))
-      → (after ≡ sets before 0 (fitting before 0 (bytes_of words))) × (4 * n ≡ length (fitting before 0 (bytes_of words)))
+      → (after ≡ sets before 0 (fitting before 0 (bytes_of words))) × (4 * n ≡ length (fitting before 0
+      (bytes_of words)))
   words-put {n} {after} e is =
       let (same, room) = words-room e in
       let long = length-bytes_of words in
@@ -254,6 +264,7 @@ module _ (words before : List ℕ) where
 
   -- words that are known by their bytes, where there is room
   pub words-fit : (text : List ℕ) {after : List ℕ} {count : ℕ} → bytes_of words ≡ text → length text ≤ length before
-      → (after ≡ sets before 0 (fitting before 0 (bytes_of words))) × (count ≡ length (fitting before 0 (bytes_of words)))
+      → (after ≡ sets before 0 (fitting before 0 (bytes_of words))) × (count ≡ length (fitting before 0
+      (bytes_of words)))
       → (after ≡ sets before 0 text) × (count ≡ length text)
   words-fit text known room put = rw (known, fitting-all before 0 text (omega (arith, room))) at put

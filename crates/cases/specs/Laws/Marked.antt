@@ -3,7 +3,8 @@
 use Rattle.std.specs.Prelude.{ℕ, ◌≡◌, refl, true, false, List, [], ◌∷◌, ◌++◌, Float, drop}
 use Rattle.std.proofs.Math.Option.{Option, none, some}
 use Rattle.std.specs.Float.{binary32}
-use Rattle.std.specs.Float.Ieee.{to_bits, of_bits, of_int, span, climb, size, odd, units, round, neg, sum, add, sub, mul, div, lt, eq, le, is_nan, to_unsigned}
+use Rattle.std.specs.Float.Ieee.{to_bits, of_bits, of_int, span, climb, size, odd, units, round, neg, sum, add, sub}
+use Rattle.std.specs.Float.Ieee.{mul, div, lt, eq, le, is_nan, to_unsigned}
 use Rattle.ieee.specs.Single.{single, zerof, half, onef, minus_one}
 use Rattle.ieee.specs.Choose.{fmin, fmax, clamp, fabs, is_sign_negative}
 use Rattle.ieee.specs.Narrow.{narrow}
@@ -31,7 +32,8 @@ use Rattle.light_rows.specs.Nodes.{node_list, node_count, node_of, node_at, boun
 use Rattle.light_rows.specs.Tree.{leaves, flatten}
 use Rattle.light_split.specs.Lights.{component, widen, centroid_ends, bucket_index, bucket_of}
 use Rattle.words.specs.Lists.{kept}
-use Rattle.light_split.specs.Buckets.{join_to, fill_buckets, union_range, union_bucket_range, m_omega, kr, evaluate_cost}
+use Rattle.light_split.specs.Buckets.{join_to, fill_buckets, union_range, union_bucket_range, m_omega, kr}
+use Rattle.light_split.specs.Buckets.{evaluate_cost}
 use Rattle.light_split.specs.Buckets.{side_cost, cut_cost}
 use Rattle.light_split.specs.Split.{combined_bounds, better, cuts, axis, choose_split}
 use Rattle.light_split.specs.Partition.{goes_left, goes_right, lefts, rights, partition_handles}
@@ -40,16 +42,21 @@ use Rattle.light_bvh.specs.Subtree.{forked, tree_by, build_subtree}
 use Rattle.light_bvh.specs.Build.{LightBVH, bounded_handles, all_bounds, validated, tree_of, built_bvh, build_check}
 use Rattle.light_bvh.specs.Build.{build_light_bvh, nodes_written, tabled, table_written}
 use Rattle.light_sampler.specs.Fork.{parted, fork}
-use Rattle.light_sampler.specs.Walks.{Draw, weigh_at, weights, turn, taken, onward, descend, part_of, rise, risen, upward}
+use Rattle.light_sampler.specs.Walks.{Draw, weigh_at, weights, turn, taken, onward, descend, part_of, rise, risen}
+use Rattle.light_sampler.specs.Walks.{upward}
 use Rattle.light_sampler.specs.Walks.{ascend}
-use Rattle.light_sampler.specs.Sampler.{sample, pmf, sample_check, from_root, sample_walk, pmf_check, leaf_of, from_leaf}
+use Rattle.light_sampler.specs.Sampler.{sample, pmf, sample_check, from_root, sample_walk, pmf_check, leaf_of}
+use Rattle.light_sampler.specs.Sampler.{from_leaf}
 use Rattle.light_sampler.specs.Sampler.{pmf_walk}
-use Rattle.packed_bvh.specs.Quantize.{steps_of, quantize_bounds, quantize_cos, sign, folded as folded_quantize, octahedral}
+use Rattle.packed_bvh.specs.Quantize.{steps_of, quantize_bounds, quantize_cos, sign, folded as folded_quantize}
+use Rattle.packed_bvh.specs.Quantize.{octahedral}
 use Rattle.packed_bvh.specs.Quantize.{quantize_axis, encode_octahedral}
 use Rattle.packed_bvh.specs.Decoded.{axis_of, unfolded, decode_octahedral}
-use Rattle.packed_bvh.specs.Packed.{compact_words, payload_check, parent_check, left_check, pack_node, pack_nodes, pack_check}
+use Rattle.packed_bvh.specs.Packed.{compact_words, payload_check, parent_check, left_check, pack_node, pack_nodes}
+use Rattle.packed_bvh.specs.Packed.{pack_check}
 use Rattle.packed_bvh.specs.Packed.{agreed, packed_tree, pack_light_bvh}
-use Rattle.alias_table.specs.AliasTable.{Bin, bin_words, any_bad, sum_from, filled_in, total, push, push_all, start, update}
+use Rattle.alias_table.specs.AliasTable.{Bin, bin_words, any_bad, sum_from, filled_in, total, push, push_all, start}
+use Rattle.alias_table.specs.AliasTable.{update}
 use Rattle.alias_table.specs.AliasTable.{turned, turns as turns_alias_table, leftover, table, build_power_alias_table}
 use Rattle.light_bounds.specs.declared.bounds.Bounds3.{Bounds3}
 use Rattle.light_bounds.specs.declared.importance.Query.{Query}
@@ -73,7 +80,8 @@ pair = 2 ∷ 0 ∷ point_record 0 ++ (1 ∷ point_record 0x40000000)
 -- its nodes: the fork around both, with phi 2, and a leaf each
 abbrev pub pair_nodes : List ℕ
 pair_nodes =
-    (0x80000001 ∷ 2 ∷ 0xffffffff ∷ 0 ∷ 0 ∷ 0 ∷ 0x40000000 ∷ 0 ∷ 0 ∷ 0 ∷ 0 ∷ 0x3f800000 ∷ 0x40000000 ∷ 0xbf800000 ∷ 0 ∷ 0 ∷ [])
+    (0x80000001 ∷ 2 ∷ 0xffffffff ∷ 0 ∷ 0 ∷ 0 ∷ 0x40000000 ∷ 0 ∷ 0 ∷ 0 ∷ 0 ∷ 0x3f800000 ∷ 0x40000000 ∷ 0xbf800000 ∷ 0 ∷
+    0 ∷ [])
     ++ (0x40000000 ∷ 0xffffffff ∷ 0 ∷ point_record 0) ++ (0x40000001 ∷ 0xffffffff ∷ 0 ∷ point_record 0x40000000)
 
 abbrev pub pair_table : List ℕ
@@ -187,22 +195,32 @@ pub record Marked : Type 0 where
   pub of_arcs : Arcs
 
 pub marked : Marked
-unfolding to_bits of_bits of_int span climb size odd units round neg sum add sub mul div lt eq le is_nan to_unsigned fmin
-    fmax clamp fabs is_sign_negative narrow root isqrt root_of sqrt next_whole floor ceil round_away to_u16 to_u32 to_usize
-    ◌then◌ words_of bytes_of crowded rows_from below gathered tray turns series_step series arc_step arc cos twice_arc acos
+unfolding to_bits of_bits of_int span climb size odd units round neg sum add sub mul div lt eq le is_nan to_unsigned
+    fmin
+    fmax clamp fabs is_sign_negative narrow root isqrt root_of sqrt next_whole floor ceil round_away to_u16 to_u32
+    to_usize
+    ◌then◌ words_of bytes_of crowded rows_from below gathered tray turns series_step series arc_step arc cos twice_arc
+    acos
     asin finite_vec dot plus minus cross scaled divided vec_length normalize normalize_by_division rotate angle_between
     box_check least_of greatest_of box_union diagonal centroid surface_area safe_sqrt cos_sub_clamped sin_sub_clamped
-    bound_subtended_directions joined union_direction_cones is_cosine range_check cone_check validate join union sine cos_w
+    bound_subtended_directions joined union_direction_cones is_cosine range_check cone_check validate join union sine
+    cos_w
     cos_p normal_factor with_normal toward distance2 geometry finish checked_importance importance_by importance weigh
-    vec_at record_at record_list block_layout block_handles node_list node_count node_of node_at bounds_at leaves flatten
+    vec_at record_at record_list block_layout block_handles node_list node_count node_of node_at bounds_at leaves
+    flatten
     component widen centroid_ends bucket_index bucket_of join_to fill_buckets union_range union_bucket_range m_omega kr
     evaluate_cost side_cost cut_cost combined_bounds better cuts axis choose_split kept goes_left goes_right lefts
     rights partition_handles parted_count parted_handles parted_work forked tree_by build_subtree bounded_handles
-    all_bounds validated tree_of built_bvh build_check build_light_bvh nodes_written tabled table_written parted fork weigh_at
-    weights turn taken onward descend part_of rise risen upward ascend sample_check from_root sample_walk pmf_check leaf_of
-    from_leaf pmf_walk steps_of quantize_bounds quantize_cos sign folded_quantize octahedral quantize_axis encode_octahedral
-    axis_of unfolded decode_octahedral compact_words payload_check parent_check left_check pack_node pack_nodes pack_check
-    agreed packed_tree pack_light_bvh any_bad sum_from filled_in total push push_all start update turned turns_alias_table
+    all_bounds validated tree_of built_bvh build_check build_light_bvh nodes_written tabled table_written parted fork
+    weigh_at
+    weights turn taken onward descend part_of rise risen upward ascend sample_check from_root sample_walk pmf_check
+    leaf_of
+    from_leaf pmf_walk steps_of quantize_bounds quantize_cos sign folded_quantize octahedral quantize_axis
+    encode_octahedral
+    axis_of unfolded decode_octahedral compact_words payload_check parent_check left_check pack_node pack_nodes
+    pack_check
+    agreed packed_tree pack_light_bvh any_bad sum_from filled_in total push push_all start update turned
+    turns_alias_table
     leftover table build_power_alias_table
 marked =
     record {

@@ -45,7 +45,12 @@ unfolding powered
 returns-in-Ok-Some c =
     let built = (goal.at.returns-in-Ok-Some c).After-build_light_bvh in
     record {
-      result_value = rw (← sized built, ← c.build_light_bvh.ensures.result_value, c.in-Ok-Some.is, c.in-Ok-Some.field-0-is);
+      result_value = rw (
+        ← sized built,
+        ← c.build_light_bvh.ensures.result_value,
+        c.in-Ok-Some.is,
+        c.in-Ok-Some.field-0-is,
+      );
       nodes_after = nodes built;
       table_after = table built;
     }
@@ -55,7 +60,12 @@ unfolding powered
 returns-in-Ok-None c =
     let built = (goal.at.returns-in-Ok-None c).After-build_light_bvh in
     record {
-      result_value = rw (← sized built, ← c.build_light_bvh.ensures.result_value, c.in-Ok-None.is, c.in-Ok-None.field-0-is);
+      result_value = rw (
+        ← sized built,
+        ← c.build_light_bvh.ensures.result_value,
+        c.in-Ok-None.is,
+        c.in-Ok-None.field-0-is,
+      );
       nodes_after = nodes built;
       table_after = table built;
     }

@@ -32,7 +32,12 @@ module _ (c : In-Ok) where
   few = sizes-few c.args.front.now c.in-Ok.taken.lamps c.in-Ok.taken.powered sized
 
 -- its nodes' bytes
-nodes : (c : After-put_words-nodes) → given (c.in-Ok.taken.lamps, c.in-Ok.taken.powered) ≡ sizes (report_tree c.args.front.now)
+nodes : (c : After-put_words-nodes)
+    → given (
+      c.in-Ok.taken.lamps,
+      c.in-Ok.taken.powered,
+    ) ≡ sizes
+    (report_tree c.args.front.now)
     → (c.put_words-nodes.new.out ≡ sets c.args.tree.now.nodes 0 (node_bytes (report_tree c.args.front.now)))
     × (c.put_words-nodes.result ≡ length (node_bytes (report_tree c.args.front.now)))
 nodes c tree =
@@ -44,7 +49,12 @@ nodes c tree =
     (words ∙ nodes-front front c.in-Ok.taken.lamps c.in-Ok.taken.powered tree _ _ _ c.take_tree.ensures.nodes_after)
     room (c.put_words-nodes.ensures.out_after, c.put_words-nodes.ensures.value)
 
-table : (c : After-put_words-table) → given (c.in-Ok.taken.lamps, c.in-Ok.taken.powered) ≡ sizes (report_tree c.args.front.now)
+table : (c : After-put_words-table)
+    → given (
+      c.in-Ok.taken.lamps,
+      c.in-Ok.taken.powered,
+    ) ≡ sizes
+    (report_tree c.args.front.now)
     → (c.put_words-table.new.out
     ≡ sets c.args.tree.now.table 0 (table_bytes (report_tree c.args.front.now)))
     × (c.put_words-table.result ≡ length (table_bytes (report_tree c.args.front.now)))
@@ -100,7 +110,9 @@ returns-in-Ok c =
       opened = opened-groups front c.in-Ok.taken.lamps c.in-Ok.taken.powered tree _ _ _ said.1 walked.1 tabled.1;
       nodes-laid = walked.0;
       table-laid = tabled.0;
-      lines-laid = said.0 ∙ ap (sets c.args.out.now 0) (first-header front c.in-Ok.taken.lamps c.in-Ok.taken.powered tree);
+      lines-laid = said.0 ∙ ap (sets c.args.out.now 0)
+          (first-header front c.in-Ok.taken.lamps c.in-Ok.taken.powered
+          tree);
     }
 
 pub returns-in-Err : goal.returns-in-Err

@@ -47,4 +47,9 @@ pub returns-in_err-lamps : goal.returns-in_err-lamps
 unfolding report_tree ◌then◌ sizes
 returns-in_err-lamps c =
     let none = sym c.in_err-lamps.ensures in
-    rw none (record { result_value = search rules; nodes_after = unbuilt _ _ none _ _ _; table_after = unbuilt _ _ none _ _ _ })
+    rw none (record {
+      result_value = search rules;
+      nodes_after = unbuilt _ _ none _ _ _;
+      table_after = unbuilt _ _
+          none _ _ _;
+    })

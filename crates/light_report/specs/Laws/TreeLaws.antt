@@ -22,7 +22,8 @@ use Rattle.light_report.specs.Laws.ReportLaws.{lamps-there}
 
 layout-count : (ws : List ℕ) (m : ℕ) → block_layout ws ≡ given m → get_or ws 0 0 ≡ m
 unfolding block_layout
-layout-count ws m e = go (crowded ws) (eqb (length ws) (block_words (get_or ws 0 0)) && below (side_at ws) (get_or ws 0 0)) e
+layout-count ws m e = go (crowded ws) (eqb (length ws) (block_words (get_or ws 0 0)) && below (side_at ws)
+    (get_or ws 0 0)) e
   where
     go : (a b : Bool) → cond a (refused 2) (cond b (given (get_or ws 0 0)) (refused 1)) ≡ given m → get_or ws 0 0 ≡ m
     go true b e = absurd (not-both e refl)

@@ -1,7 +1,8 @@
 -- The overall box of an accepted build is proper, finite with its minimum at most its maximum, and so is the box of
 -- every node, which it holds (`overall-proper`, `node-within`). Boxes that pass their checks are proper
 -- (`check-proper`, `proper_check`), and so is the union of two, which holds both. Assumes nothing.
-use Rattle.std.specs.Prelude.{ℕ, zero, suc, ◌+◌, ◌-◌, ◌*◌, ◌/◌, ◌<◌, ◌≡◌, Bool, true, false, cond, not, ◌&&◌, ◌||◌, List, [], ◌∷◌, ◌++◌, ◌⊎◌, T, ltb, Float}
+use Rattle.std.specs.Prelude.{ℕ, zero, suc, ◌+◌, ◌-◌, ◌*◌, ◌/◌, ◌<◌, ◌≡◌, Bool, true, false, cond, not, ◌&&◌, ◌||◌}
+use Rattle.std.specs.Prelude.{List, [], ◌∷◌, ◌++◌, ◌⊎◌, T, ltb, Float}
 use Rattle.std.proofs.Math.Path.{refl, subst}
 use Rattle.std.proofs.Common.{ap, sym, ◌∙◌, append-nil, inl, inr, ⊎_elim, arith, ltb-true, ltb-false}
 use Rattle.std.proofs.Math.Option.{Option, none, some, some-injective, none-ne-some}
@@ -26,7 +27,8 @@ use Rattle.light_rows.specs.Nodes.{LightBVHNode, leaf as leaf_node, interior, in
 use Rattle.light_rows.specs.Tree.{Tree, leaf, fork, bounds, right_place}
 use Rattle.light_rows.specs.Laws.TreeLaws.{bounds_at-past}
 use Rattle.light_split.specs.Lights.{light_of}
-use Rattle.light_bvh.specs.Build.{is_powered, bounded_handles, grown, all_bounds, validated, LightBVH, tree_of, built_bvh}
+use Rattle.light_bvh.specs.Build.{is_powered, bounded_handles, grown, all_bounds, validated, LightBVH, tree_of}
+use Rattle.light_bvh.specs.Build.{built_bvh}
 use Rattle.light_bvh.specs.Build.{build_check, build_light_bvh, nodes_written}
 use Rattle.light_bvh.specs.Subtree.{build_subtree}
 use Rattle.light_bvh.proofs.RowsLaws.{all-halves, bounds-there}

@@ -7,7 +7,9 @@ use Rattle.std.proofs.Common.{◌∙◌, le_trans, arith, lit<, lit≤, eqb→eq
 use Rattle.std.proofs.Math.Bool.{true, false}
 use Rattle.std.proofs.Math.Logic.{inl, inr}
 use Rattle.std.specs.Float.{nan, inf, fin, Format, binary32}
-use Rattle.std.specs.Float.Ieee.{prec, emax, low as lowest, unlike, up, down, size, span, climb, odd, units, round, neg, sum, add, sub, mul, div, lt, le, eq, is_nan, fits, of_fields, of_bits, of_int, to_unsigned}
+use Rattle.std.specs.Float.Ieee.{prec, emax, low as lowest, unlike, up, down, size, span, climb, odd, units, round}
+use Rattle.std.specs.Float.Ieee.{neg, sum, add, sub, mul, div, lt, le, eq, is_nan, fits, of_fields, of_bits, of_int}
+use Rattle.std.specs.Float.Ieee.{to_unsigned}
 use Rattle.std.specs.Float.Ieee.Back.{round_whole}
 use Rattle.std.specs.Float.Ieee.Exact.{HasValue}
 use Rattle.std.specs.Float.Ieee.Fits.{down_pos, mul-fits, round_is}
@@ -156,14 +158,16 @@ module _ (v lo hi : Float) (extent : eq lo hi ≡ false) (known : T (not (is_nan
 pub step-above : (quantize_bounds false (single 0x3780_0080) zerof onef ≡ 1)
     × HasValue (single 0x3780_0080) false 8388736 (2 ^ 39)
     × (8388736 * 65535 < 1 * 2 ^ 39)
-unfolding quantize_bounds steps_of to_u32 floor next_whole clamp of_fields of_bits span climb size odd units round neg sum
+unfolding quantize_bounds steps_of to_u32 floor next_whole clamp of_fields of_bits span climb size odd units round neg
+    sum
     add sub mul div lt eq to_unsigned
 step-above = (refl, (refl, refl), lit< tt)
 
 -- on an axis wider than any float, from -2 ^ 127 to 2 ^ 127, the maximum itself is packed as step 0: its steps are a
 -- NaN (StepsOrder's `wide-steps`)
 pub wide_corner : quantize_bounds true (single 0x7f00_0000) (single 0xff00_0000) (single 0x7f00_0000) ≡ 0
-unfolding quantize_bounds steps_of to_u32 ceil next_whole clamp of_fields of_bits span climb size odd units round neg sum
+unfolding quantize_bounds steps_of to_u32 ceil next_whole clamp of_fields of_bits span climb size odd units round neg
+    sum
     add sub mul div lt eq to_unsigned
 wide_corner = refl
 

@@ -3,7 +3,8 @@
 -- parent (`packed-node`), and the first three its box in steps (`packed-box`). Assumes nothing.
 use Prim.Native.Nat.{ℕ, zero, suc, ◌+◌, ◌-◌, ◌*◌, ◌/◌, ◌%◌, ◌≤◌, ◌<◌}
 use Rattle.std.specs.Prelude.{◌≡◌, refl, Bool, true, false, cond, ◌&&◌, ◌||◌, eqb, ltb, length, get_or, take}
-use Rattle.std.proofs.Common.{ap, sym, ◌∙◌, add-zero, arith, ltb-true, ltb-false, eqb-true, le-leb, length-append, get_or-append-add}
+use Rattle.std.proofs.Common.{ap, sym, ◌∙◌, add-zero, arith, ltb-true, ltb-false, eqb-true, le-leb, length-append}
+use Rattle.std.proofs.Common.{get_or-append-add}
 use Rattle.std.proofs.Math.Path.{subst}
 use mathlib.Core.List.{List, ◌++◌}
 use Rattle.std.proofs.Math.Option.{Option, none, some, some-injective, none-ne-some}
@@ -20,7 +21,8 @@ use Rattle.light_bounds.specs.declared.light_bounds.LightBounds.{LightBounds}
 use Rattle.light_bounds.specs.declared.vecmath.Vec3.{Vec3}
 use Rattle.light_rows.specs.Nodes.{LightBVHNode, leaf, interior, parent, node_bytes, node_count, node_at, bounds_at}
 use Rattle.packed_bvh.specs.Packed.{header_words, packed_node_words, index_max, leaf_bit, paired, payload, payload_word}
-use Rattle.packed_bvh.specs.Packed.{compact_words, payload_check, parent_check, left_check, pack_node, pack_nodes, header}
+use Rattle.packed_bvh.specs.Packed.{compact_words, payload_check, parent_check, left_check, pack_node, pack_nodes}
+use Rattle.packed_bvh.specs.Packed.{header}
 use Rattle.packed_bvh.specs.Packed.{packed_place, packed_reserve, pack_check, agreed, packed_tree, pack_light_bvh}
 use Rattle.packed_bvh.specs.Quantize.{quantize_bounds}
 use Rattle.packed_bvh.specs.Laws.QuantizeLaws.{quantize-small}
@@ -251,7 +253,8 @@ module _ (nodes : List ℕ) (all : Option Bounds3) (ws : List ℕ) (m : Made nod
           rw (← m.is, at) (get_or-append-add (header m.box) m.rows (packed_node_words * i + j) 0)
 
   made-node : (i : ℕ) → i < length nodes / node_bytes
-      → node_at (words_of nodes) i ≡ given (read_node i (get_or ws (packed_place i + 6) 0) (get_or ws (packed_place i + 7) 0))
+      → node_at (words_of nodes) i ≡ given (read_node i (get_or ws (packed_place i + 6) 0) (get_or ws
+      (packed_place i + 7) 0))
   made-node i l =
       let (row, is, words) = made_row i l in
       rw (words 6 (omega arith), words 7 (omega arith)) (row-node m.box (words_of nodes) i row is)
@@ -293,11 +296,14 @@ module _ (nodes : List ℕ) (k : ℕ) (all : Option Bounds3) (room : ℕ) (ws : 
 
   -- parents, children and handles come back exactly, whatever nodes were packed
   pub packed-node : (i : ℕ) → i < length nodes / node_bytes
-      → node_at (words_of nodes) i ≡ given (read_node i (get_or ws (packed_place i + 6) 0) (get_or ws (packed_place i + 7) 0))
+      → node_at (words_of nodes) i ≡ given (read_node i (get_or ws (packed_place i + 6) 0) (get_or ws
+      (packed_place i + 7) 0))
   packed-node = made-node nodes all ws made
 
   -- each record passed its check
-  pub packed-valid : (i : ℕ) → i < length nodes / node_bytes → (b : LightBounds) → bounds_at (words_of nodes) i ≡ given b
+  pub packed-valid : (i : ℕ) → i < length nodes / node_bytes → (b : LightBounds)
+      → bounds_at (words_of nodes) i ≡ given
+      b
       → validate b ≡ given tt
   packed-valid i l b e = made-valid nodes all ws made i b l e
 

@@ -2,10 +2,13 @@
 -- smaller, whichever way both are rounded (`quantize_mono`). Every part of the computation keeps it: the difference,
 -- the quotient, the clamp, the product, the next whole number. The computed steps are known where the difference of the
 -- axis's ends is finite (`steps-known`); where it is not, all are 0 (`wide-steps`). Assumes nothing.
-use Rattle.std.specs.Prelude.{ℕ, suc, ◌+◌, ◌*◌, ◌≤◌, ◌<◌, ◌≡◌, refl, Bool, true, false, cond, not, ◌⊎◌, T, ℤ, pos, Float}
-use Rattle.std.proofs.Common.{zero-le, ◌∙◌, inl, inr, lt_of_mul-lt-mul_right, le_of_mul-le-mul_right, mul-pos, mul-le-mul_right, eq-zero-or-pos, arith, eq-eqb, eqb→eq, lt→ltb}
+use Rattle.std.specs.Prelude.{ℕ, suc, ◌+◌, ◌*◌, ◌≤◌, ◌<◌, ◌≡◌, refl, Bool, true, false, cond, not, ◌⊎◌, T, ℤ, pos}
+use Rattle.std.specs.Prelude.{Float}
+use Rattle.std.proofs.Common.{zero-le, ◌∙◌, inl, inr, lt_of_mul-lt-mul_right, le_of_mul-le-mul_right, mul-pos}
+use Rattle.std.proofs.Common.{mul-le-mul_right, eq-zero-or-pos, arith, eq-eqb, eqb→eq, lt→ltb}
 use Rattle.std.specs.Float.{nan, inf, fin, binary32}
-use Rattle.std.specs.Float.Ieee.{unlike, low, up, down, size, span, climb, odd, units, round, mul, div, lt, le, eq, is_nan, fits, of_bits, to_unsigned}
+use Rattle.std.specs.Float.Ieee.{unlike, low, up, down, size, span, climb, odd, units, round, mul, div, lt, le, eq}
+use Rattle.std.specs.Float.Ieee.{is_nan, fits, of_bits, to_unsigned}
 use Rattle.std.specs.Float.Ieee.Fits.{down_pos, up_pos}
 use Rattle.std.specs.Float.Ieee.Scale.{finite}
 use Rattle.ieee.specs.Choose.{clamp, fmin, fmax}

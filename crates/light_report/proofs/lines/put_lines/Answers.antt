@@ -5,7 +5,8 @@ use mathlib.Core.List.{[], ◌∷◌}
 use native.Mathlib.Omega.{arith}
 use lib.ListN.{length, take, drop, length-append}
 use Rattle.std.specs.Slice.Iter.{chunks_exact_rest}
-use Rattle.light_report.proofs.Reported.{reported-none, reported-next, reported-all, reported-part, group-cut, groups-end}
+use Rattle.light_report.proofs.Reported.{reported-none, reported-next, reported-all, reported-part, group-cut}
+use Rattle.light_report.proofs.Reported.{groups-end}
 use Rattle.light_report.proofs.lines.put_lines.Goals as goal
 use Rattle.light_report.proofs.lines.put_lines.Goals.{In-Some, In-None}
 

@@ -10,5 +10,6 @@ abbrev pub invariant-loop-group : goal.invariant-loop-group
 invariant-loop-group l = record {
   size : chunks_exact_size l.group-iterator ≡ 28;
   rest : chunks_exact_rest l.group-iterator ≡ drop (28 * length l.yielded) l.groups;
-  lines : Reported l.tree.nodes.now l.tree.table.now l.groups l.initial.out (length l.groups / 28) l.out l.at (length l.yielded);
+  lines : Reported l.tree.nodes.now l.tree.table.now l.groups l.initial.out (length l.groups / 28) l.out l.at
+      (length l.yielded);
 }
