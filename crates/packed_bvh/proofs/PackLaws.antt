@@ -39,7 +39,7 @@ use Rattle.packed_bvh.specs.Packed.{left_check, pack_node, pack_nodes, header}
 use Rattle.packed_bvh.specs.Packed.{header_words, packed_node_words, packed_place, packed_reserve}
 use Rattle.packed_bvh.specs.Packed.{pack_check, agreed, packed_tree, pack_light_bvh, packed_bytes, bytes_reserve}
 use Rattle.packed_bvh.specs.Packed.{words_packed}
-use Rattle.packed_bvh.specs.AsCoded.PackedParts.{placing}
+use Rattle.packed_bvh.specs.AsCoded.PackedParts.{placing, pack_bounds, pack_placed}
 
 -- ---- words behind words
 
@@ -89,14 +89,45 @@ own_checks (given u) (refused n) z w p f = refl
 own_checks (given u) (given v) (refused n) w p f = refl
 own_checks (given u) (given v) (given t) w p f = refl
 
+-- a node's own checks behind its record's
+pub node-placed : (count : ℕ) (all : Bounds3) (ws : List ℕ) (i : ℕ) (n : LightBVHNode) → node_at ws i ≡ given n
+    → pack_node count all ws i ≡ pack_placed all ws i (placing count i n)
+unfolding pack_node pack_placed pack_bounds placing ◌then◌
+node-placed count all ws i n e = rw e (record_of_lem (bounds_at ws i))
+  where
+    unit : (b : LightBounds) (x : Answer Vec3)
+        → (x then λ (d : Vec3). payload_check n then λ _. parent_check count n then λ _. left_check i n then λ _.
+        given (compact_words all b d (payload_word n) (parent n)))
+        ≡ (x then λ (d : Vec3). placing count i n then λ (w : ℕ × ℕ). given (compact_words all b d w.0 w.1))
+    unit b (given d) =
+        own_checks (payload_check n) (parent_check count n) (left_check i n) (payload_word n) (parent n)
+        (λ (w p : ℕ). compact_words all b d w p)
+    unit b (refused k) = refl
+
+    valid : (b : LightBounds) (x : Answer (Unit {0}))
+        → (x then λ _. normalize_by_division b.direction then λ (d : Vec3). payload_check n then λ _. parent_check count
+        n then λ _. left_check i n then λ _.
+        given (compact_words all b d (payload_word n) (parent n)))
+        ≡ (x then λ _. pack_bounds all b (placing count i n))
+    valid b (given u) = unit b (normalize_by_division b.direction)
+    valid b (refused k) = refl
+
+    record_of_lem : (x : Answer LightBounds)
+        → (x then λ (b : LightBounds). validate b then λ _. normalize_by_division b.direction then λ (d : Vec3).
+        payload_check n then λ _. parent_check count n then λ _. left_check i n then λ _. given
+        (compact_words all b d (payload_word n) (parent n)))
+        ≡ (x then λ (b : LightBounds). validate b then λ _. pack_bounds all b (placing count i n))
+    record_of_lem (given b) = valid b (validate b)
+    record_of_lem (refused k) = refl
+
 -- a node whose record is read, valid and has a direction: its own checks are left
-pub node-placed : (count : ℕ) (all : Bounds3) (ws : List ℕ) (i : ℕ) {n : LightBVHNode} {b : LightBounds} {t : Unit {0}}
+pub node-checked : (count : ℕ) (all : Bounds3) (ws : List ℕ) (i : ℕ) {n : LightBVHNode} {b : LightBounds} {t : Unit {0}}
     {d : Vec3}
     → given n ≡ node_at ws i → given b ≡ bounds_at ws i → given t ≡ validate b
     → given d ≡ normalize_by_division b.direction
     → pack_node count all ws i ≡ (placing count i n then λ (w : ℕ × ℕ). given (compact_words all b d w.0 w.1))
 unfolding pack_node placing ◌then◌
-node-placed count all ws i {n} {b} {t} {d} is read valid directed =
+node-checked count all ws i {n} {b} {t} {d} is read valid directed =
     rw (← is, ← read, ← valid, ← directed)
     (own_checks (payload_check n) (parent_check count n) (left_check i n) (payload_word n) (parent n)
     (λ (w p : ℕ). compact_words all b d w p))
