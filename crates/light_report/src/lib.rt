@@ -301,7 +301,7 @@ fn write_groups(
 
 // ---- the report
 
-// Behind a front that was read.
+// Behind a front that was read. It is lent apart from chunk and lines, which are written while it is read.
 fn write_report(
     front: &[u8],
     tree: &mut WalkedTree,

@@ -7,7 +7,8 @@ use floats::choose::{abs, clamp, is_sign_negative};
 use floats::whole::{to_u16, to_u32};
 use light_bounds::vecmath::{Vec3, divide_vector};
 
-// ---- coordinates within an axis, in 65535 steps; 0 on an axis without extent
+// ---- coordinates within an axis, in 65535 steps; 0 on an axis without extent. They take value, min and max, as the
+// Rust's do.
 
 #[tactic(auto, unfolding(crate::specs::Quantize::steps_of))]
 fn steps(value: f32, min: f32, max: f32) -> f32
