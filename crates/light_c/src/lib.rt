@@ -152,6 +152,7 @@ fn query_at(px: f32, py: f32, pz: f32, nx: f32, ny: f32, nz: f32) -> Query
     Query { p, n }
 }
 
+// A draw as one number, which C can take.
 fn draw_code(answer: Result<Option<SampledLight>, Refusal>) -> u64
     ensures { result ≡ draw_code (drawn answer) }
 {
@@ -178,7 +179,7 @@ pub fn light_sample(
     draw_code(bvh_light_sampler_sample(nodes, query_at(px, py, pz, nx, ny, nz), u))
 }
 
-// A value's bits, or 2^32 and the refusal's number.
+// A value's bits, or 2^32 and the refusal's number: one number, which C can take.
 pub fn value_code(answer: Result<f32, Refusal>) -> u64
     ensures { result ≡ value_code (answered answer) }
 {
@@ -218,6 +219,7 @@ fn box_of(present: u32, min: Vec3, max: Vec3) -> Option<Bounds3>
     Some(Bounds3 { min, max })
 }
 
+// How many words were packed, as one number, which C can take.
 fn packed_code(answer: Result<Option<usize>, Refusal>) -> u64
     ensures { result ≡ packed_code (packed answer) }
 {
@@ -229,7 +231,7 @@ fn packed_code(answer: Result<Option<usize>, Refusal>) -> u64
 }
 
 // How many words were packed, 2^32 where there is no tree, or 2^33 and the refusal's number. There is no overall box
-// where `present` is 0.
+// where `present` is 0, since C has no `Option`.
 pub fn light_pack(
     nodes: &[u8],
     k: usize,

@@ -92,7 +92,7 @@ pub extern "C" fn light_pmf(
 }
 
 // How many words were packed, 2^32 where there is no tree, or 2^33 and the refusal's number. There is no overall box
-// where `present` is 0.
+// where `present` is 0, since C has no `Option`.
 #[unsafe(no_mangle)]
 pub extern "C" fn light_pack(
     nodes: &[u8],

@@ -7,7 +7,6 @@ ghost use Rattle.words.specs.LittleEndian.{words_of, bytes_of};
 ghost use Rattle.words.specs.AsCoded.Fill.{filled};
 ghost use Rattle.words.specs.Tray.{tray};
 ghost use Rattle.light_rows.specs.Nodes.{node_value, invalid_index};
-ghost use Rattle.packed_bvh.specs.Packed.{header_words, packed_node_words};
 ghost use Rattle.packed_bvh.specs.Packed.{paired, cone_word, compact_words, payload, pack_node, header, packed_reserve};
 ghost use Rattle.packed_bvh.specs.Packed.{pack_check, agreed};
 ghost use Rattle.packed_bvh.specs.Packed.{packed_tree, pack_light_bvh, packed_bytes, bytes_reserve, words_packed};
@@ -199,8 +198,8 @@ fn header(all: Bounds3) -> [u32; 8]
     ]
 }
 
-// The words of n nodes, 0 without nodes. That n is at most 8,191 is what `node_count` answers: no type has it for one
-// number.
+// The words of n nodes, 0 without nodes. That n is at most 8,191 is what `node_count` answers; a type of its own would be
+// made and taken apart again for three functions.
 fn reserve(n: usize) -> usize
     requires { n ≤ 8191 }
     ensures { result ≡ packed_reserve n }
