@@ -36,7 +36,7 @@ fn row_count(block: &[u32]) -> u32
 
 // ---- the reserves of m rows
 
-fn nodes_reserve(m: u32) -> usize
+pub fn nodes_reserve(m: u32) -> usize
     ensures { result ≡ nodes_reserve m }
 {
     NODE_WORDS * (2 * wide(m)).saturating_sub(1)
