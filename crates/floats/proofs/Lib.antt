@@ -1,2 +1,2 @@
 pub mod Saturated
-pub mod RootWords
+pub mod WordLaws

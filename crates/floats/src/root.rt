@@ -121,6 +121,7 @@ impl Digits {
     }
 
     // What is kept of the root of n where q is not it: one up or one down by the same test, and else by all the digits.
+    #[tactic(auto, using(crate::proofs::WordLaws::nearest))]
     fn beside(self, q: u64) -> u64
         requires { q < 2 ^ 25 }
         ensures { result ≡ closest (sticky self.n) (2 ^ 4) }
@@ -136,6 +137,7 @@ impl Digits {
 
     // What is kept of the root of n: the float near it, which the sum with 2^29 rounds to 24 digits, where that is the
     // nearest.
+    #[tactic(auto, using(crate::proofs::WordLaws::nearest))]
     pub(crate) fn nearest_root(self) -> u64
         ensures { result ≡ closest (sticky self.n) (2 ^ 4) }
     {

@@ -20,6 +20,7 @@ pub trait Root: Float {
         ensures read { of_bits Self.format (Self.number result) ≡ rooted Self.format (Self.value self) };
 }
 
+#[tactic(auto, using(crate::proofs::WordLaws::backs))]
 impl Root for f32 {
     fn root_word(self) -> u32
         ensures word { result ≡ to_bits binary32 (rooted binary32 self) }
@@ -29,6 +30,7 @@ impl Root for f32 {
     }
 }
 
+#[tactic(auto, using(crate::proofs::WordLaws::backs))]
 impl Root for f64 {
     fn root_word(self) -> u64
         ensures word { result ≡ to_bits binary64 (rooted binary64 self) }
