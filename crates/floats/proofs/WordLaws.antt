@@ -1,5 +1,5 @@
 -- A function on floats that is taken by its words: each word is read back as the value it was made of. Assumes nothing.
-use Rattle.std.proofs.Common.{◌≡◌, ℕ, sym, subst, inl, inr, refl, not, leb, ltb}
+use Rattle.std.proofs.Common.{◌≡◌, ℕ, sym, subst, inl, inr, not, leb, ltb, suc, ◌+◌, ◌*◌, ◌/◌, ◌%◌, ◌^◌, ◌<◌, ◌≤◌, ◌≢◌}
 use Rattle.std.specs.Prelude.{T, Float, true}
 use Rattle.std.specs.Float.{Format, binary32, binary64}
 use Rattle.std.specs.Float.Ieee.{of_bits, to_bits, fits, nan, is_nan}
@@ -9,14 +9,15 @@ use Rattle.ieee.specs.Laws.FormatLaws.{sqrt-fits}
 use Rattle.ieee.specs.Laws.NarrowLaws.{narrow-fits}
 use Rattle.ieee.specs.Laws.Nans.{only_nan}
 use Rattle.ieee.specs.Laws.SqrtNear.{nearest-kept}
-use Rattle.ieee.specs.Laws.SqrtWords.{sticky, sticky-lt}
+use Rattle.ieee.specs.Laws.SqrtWords.{sqrt-own, sqrt-none, sqrt_subnormal, sqrt-normal}
 use Rattle.ieee.specs.Laws.WholeLaws.{floor-fits, floor-word, ceil-fits, ceil-word, round_away-fits}
 use Rattle.ieee.specs.Narrow.{narrow}
 use Rattle.ieee.specs.Sqrt.{sqrt}
 use Rattle.ieee.specs.Whole.{floor, ceil, round_away, next_whole}
 use borrow.Author.Tests.{lt-ltb, le-ltb}
 use Rattle.std.proofs.lemmas.Bool.Decides.{leb_tells}
-use lib.Ieee.{top}
+use lib.Ieee.{top, hid, ones, low}
+use Rattle.ieee.specs.Sqrt.{root_of}
 
 pub read_back : (f : Format) (x : Float) → fits f x ≡ true → of_bits f (to_bits f x) ≡ x
 read_back f x h = of_bits-to_bits f x (subst T (sym h) tt)
@@ -46,3 +47,30 @@ root_back f x h = of_bits-to_bits f (sqrt f x) (sqrt-fits f x (subst T (sym h) t
 pub ruleset backs = (read_back, floor_back, floor-word, ceil_back, ceil_word, round_back, narrow_back, root_back)
 
 pub ruleset nearest = (nearest-kept)
+
+-- the roots of words, by the tests that part them
+module _ (f : Format) (w : ℕ) where
+  pub zero_root : w % top f ≡ 0 → w < 2 * top f → to_bits f (sqrt f (of_bits f w)) ≡ w
+  zero_root z W = sym (sqrt-own f w W (inl z))
+
+  pub infinity_root : w ≡ ones f * hid f → w < 2 * top f → to_bits f (sqrt f (of_bits f w)) ≡ w
+  infinity_root z W = sym (sqrt-own f w W (inr z))
+
+  pub subnormal_root : w % top f ≢ 0 → w < ones f * hid f → w < hid f
+      → to_bits f (sqrt f (of_bits f w)) ≡ to_bits f (root_of f (suc (low f)) (w * 2 ^ (low f + 2)))
+  subnormal_root z F h = sym (sqrt_subnormal f w z F h)
+
+  pub normal_root : w % top f ≢ 0 → w < ones f * hid f → hid f ≤ w
+      → to_bits f (sqrt f (of_bits f w))
+      ≡ to_bits f (root_of f (suc (low f)) ((hid f + w % hid f) * 2 ^ (w / hid f + (low f + 1))))
+  normal_root z F h = sym (sqrt-normal f w z F h)
+
+pub no_root : (w : ℕ) → w % 2 ^ 31 ≢ 0 → 0x7f80_0000 < w → w < 2 ^ 32
+    → to_bits binary32 (sqrt binary32 (of_bits binary32 w)) ≡ 0x7fc0_0000
+no_root w z h W = unfold to_bits in sym (sqrt-none binary32 w W z h)
+
+pub no_root64 : (w : ℕ) → w % 2 ^ 63 ≢ 0 → 0x7ff0_0000_0000_0000 < w → w < 2 ^ 64
+    → to_bits binary64 (sqrt binary64 (of_bits binary64 w)) ≡ 0x7ff8_0000_0000_0000
+no_root64 w z h W = unfold to_bits in sym (sqrt-none binary64 w W z h)
+
+pub ruleset roots = (zero_root, infinity_root, no_root, no_root64, subnormal_root, normal_root)
