@@ -31,6 +31,7 @@ pub fn clamp(x: f32, lo: f32, hi: f32) -> f32
 }
 
 // The value without its sign: the greater of x and 0 - x, with no branch by the sign, and of zeros 0 - x, which is +0.
+#[tactic(auto, using(crate::proofs::WordLaws::larger))]
 pub fn abs(x: f32) -> f32
     ensures { result ≡ fabs x }
 {

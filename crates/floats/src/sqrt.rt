@@ -48,6 +48,7 @@ pub fn sqrt<F: Root>(x: F) -> F
 }
 
 // The pattern of the root of a pattern's value. Lengths and cosines are often 1, which is its own root.
+#[tactic(auto, using(crate::proofs::WordLaws::roots))]
 fn root_word(w: u32) -> u32
     ensures { result ≡ to_bits binary32 (rooted binary32 (of_bits binary32 w)) }
 {
@@ -79,7 +80,8 @@ fn sqrt_word(w: u32) -> u32
     )
 }
 
-// The same at 64 bits, apart from it: at 32 most roots go by a float that is near enough, which 53 digits have not.
+// The same at 64 bits. It is a function of its own because the two take roots by other ways: at 32 bits an f64 near the
+// root mostly settles it, and no float is near enough for the 53 digits of an f64.
 #[tactic(auto, using(crate::proofs::WordLaws::roots))]
 fn sqrt64_word(w: u64) -> u64
     ensures { result ≡ to_bits binary64 (rooted binary64 (of_bits binary64 w)) }
@@ -131,6 +133,7 @@ fn normalised(d: u64, e: u64) -> Scaled
 }
 
 // The pattern of the root of scaled digits in units of 2^-300, by what is kept of the digits' root.
+#[tactic(auto, using(crate::proofs::RootLaws::digits))]
 fn pattern(s: Scaled, kept: u64) -> u32
     requires half_bound { s.half ≤ 202 }
     requires kept_value { kept ≡ closest (sticky s.digits.n) (2 ^ 4) }

@@ -34,7 +34,8 @@ pub fn round(x: f32) -> f32
     f32::of_word(round_word(x.word()))
 }
 
-// The pattern of the next whole number, away from zero or toward it.
+// The pattern of the next whole number, away from zero or toward it. `away` is the flag of the definition `next_whole`:
+// two functions, or a closure, would say its cases twice.
 fn next_whole_word(w: u32, away: bool) -> u32
     ensures { result ≡ to_bits binary32 (next_whole binary32 away (of_bits binary32 w)) }
 {
