@@ -20,7 +20,7 @@ pub(crate) struct Digits {
     ghost odd_bound: { odd < 2 },
 }
 
-// What the root of digits is near to by a polynomial: x from 1 up to 2, its powers, and the factor behind it.
+// What the polynomials near a root are of: x from 1 up to 2, its powers, and the scale, which takes in odd.
 struct Reduced {
     x: f64,
     x2: f64,
@@ -29,7 +29,7 @@ struct Reduced {
 }
 
 impl Digits {
-    // normal as x, and the root of 2 where odd is 1 as the scale.
+    // x is normal / 2^52, and the scale is 1, or the root of 2 where odd is 1.
     fn reduced(self) -> Reduced {
         let x = f64::of_word(0x3fe0_0000_0000_0000 + self.normal);
         let x2 = x * x;
@@ -41,8 +41,8 @@ impl Digits {
         }
     }
 
-    // A float near the root of n / 2^52, to 28 digits: a polynomial near the root of x from 1 up to 2, times the root
-    // of 2 where odd is 1. Nothing rests on how near it is.
+    // A float near the root of n / 2^52, to 28 digits: a polynomial near the root of x, times the scale. Nothing rests
+    // on how near it is.
     fn near_root(self) -> f64 {
         let Reduced { x, x2, x4, scale } = self.reduced();
         let low = 0.23340100123411664
