@@ -32,12 +32,13 @@ impl Digits {
     // x is normal / 2^52, and the scale is 1, or the root of 2 where odd is 1.
     fn reduced(self) -> Reduced {
         let x = f64::of_word(0x3fe0_0000_0000_0000 + self.normal);
+        let scale = f64::of_word(0x3ff0_0000_0000_0000 + self.odd * 0x6_a09e_667f_3bcd);
         let x2 = x * x;
         Reduced {
             x,
             x2,
             x4: x2 * x2,
-            scale: f64::of_word(0x3ff0_0000_0000_0000 + self.odd * 0x6_a09e_667f_3bcd),
+            scale,
         }
     }
 
