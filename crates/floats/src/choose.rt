@@ -4,8 +4,8 @@ ghost use Rattle.ieee.specs.Choose.{fmin, fmax, clamp as clamped, fabs, is_sign_
 
 use words::floats::Float;
 
-// The lesser. A NaN loses to the other value; of equal values the first is given. `min` and `max` are two functions since
-// each is one test of two floats: a function of both would take that test as a parameter and be no plainer.
+// The lesser. A NaN loses to the other value; of equal values the first is given. `min` and `max` are two functions
+// because each is one test of two floats: a function of both would take that test as a parameter and be no plainer.
 #[tactic(auto, unfolding(ieee::specs::Choose::fmin))]
 pub fn min(x: f32, y: f32) -> f32
     ensures { result ≡ fmin x y }

@@ -113,14 +113,14 @@ fn to_usize_word(w: u32) -> usize
 }
 
 // The same for u32, and for u16.
-#[tactic(auto, using(crate::proofs::Saturated::saturated), unfolding(ieee::specs::Whole::to_u32, ieee::specs::Whole::to_usize))]
+#[tactic(auto, using(crate::proofs::Saturated::casts))]
 pub fn to_u32(x: f32) -> u32
     ensures { result ≡ to_u32 x }
 {
     u32::try_from(to_usize(x)).unwrap_or(u32::MAX)
 }
 
-#[tactic(auto, using(crate::proofs::Saturated::saturated), unfolding(ieee::specs::Whole::to_u16, ieee::specs::Whole::to_usize))]
+#[tactic(auto, using(crate::proofs::Saturated::casts))]
 pub fn to_u16(x: f32) -> u16
     ensures { result ≡ to_u16 x }
 {
