@@ -184,7 +184,7 @@ fn with_unit(
 // ---- angles
 
 // The sine of an angle by its cosine.
-fn sine(c: f32) -> f32
+pub fn sine(c: f32) -> f32
     ensures { result ≡ sine_of c }
 {
     safe_sqrt(1.0 - c * c)
@@ -223,7 +223,8 @@ fn less_the_box(sin_x: f32, cos_x: f32, cos_b: f32) -> f32
     }
 }
 
-// The normal's factor, by the cosine between it and the direction.
+// The normal's factor, by the cosine between it and the direction: the same steps, but that the first sine too is taken
+// only where it is needed. As a closure it would have no value to state where it is not taken.
 fn facing(c: f32, cos_b: f32) -> f32
     ensures { result ≡ normal_factor c cos_b }
 {

@@ -70,17 +70,17 @@ fn write_summary(answer: &mut [u32], built: Built)
     ]);
 }
 
-// The refusal's number; one after 4 zeroes the answer.
+// The refusal's number; but for the four that leave the lent words as they are, it zeroes the answer.
 fn refuse_build(answer: &mut [u32], why: Refusal) -> u32
     requires { answer_reserve ≤ length answer.old }
     ensures value { result ≡ number why }
     ensures answer_after { answer.new ≡ tray summary_list answer_reserve (refused (number why)) answer.old }
 {
-    let n = why.number();
-    if n > 4 {
-        zero_words(answer, 0, ANSWER_WORDS);
+    match why {
+        Refusal::Ragged | Refusal::Crowded | Refusal::ShortTray | Refusal::Misplaced => {}
+        _ => zero_words(answer, 0, ANSWER_WORDS),
     }
-    n
+    why.number()
 }
 
 // The number where the answer is short: the refusals before it come first.
