@@ -74,8 +74,8 @@ fn bucket_index(value: f32, min: f32, max: f32) -> usize
     to_usize((value - min) / (max - min) * 12.0).min(N_BUCKETS - 1)
 }
 
-// The bucket of a handle's centroid between the ends of an axis. Block, ends and axis are no struct, since a cut has its
-// axis (`Split`) and an axis that is being filled has no cut yet.
+// The bucket of a handle's centroid between the ends of an axis. Block, ends and axis are no struct, since a cut has
+// its axis (`Split`) and an axis that is being filled has no cut yet.
 #[tactic(auto, unfolding(crate::specs::Lights::bucket_of))]
 pub fn bucket_of(block: &[u32], ends: Bounds3, dimension: usize, handle: u32) -> usize
     ensures value { result ≡ bucket_of block.now ends dimension handle }
