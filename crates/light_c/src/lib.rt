@@ -157,9 +157,9 @@ fn draw_code(answer: Result<Option<SampledLight>, Refusal>) -> u64
     ensures { result ≡ draw_code (drawn answer) }
 {
     match answer {
-        Ok(Some(SampledLight { light, pmf })) => light as u64 * 0x1_0000_0000 + pmf.word() as u64,
+        Ok(Some(SampledLight { light, pmf })) => u64::from(light) * 0x1_0000_0000 + u64::from(pmf.word()),
         Ok(None) => 0x4000_0000_0000_0000,
-        Err(why) => 0x8000_0000_0000_0000 + why.number() as u64,
+        Err(why) => 0x8000_0000_0000_0000 + u64::from(why.number()),
     }
 }
 
@@ -184,8 +184,8 @@ pub fn value_code(answer: Result<f32, Refusal>) -> u64
     ensures { result ≡ value_code (answered answer) }
 {
     match answer {
-        Ok(x) => x.word() as u64,
-        Err(why) => 0x1_0000_0000 + why.number() as u64,
+        Ok(x) => u64::from(x.word()),
+        Err(why) => 0x1_0000_0000 + u64::from(why.number()),
     }
 }
 
@@ -226,7 +226,7 @@ fn packed_code(answer: Result<Option<usize>, Refusal>) -> u64
     match answer {
         Ok(Some(n)) => n as u64,
         Ok(None) => 0x1_0000_0000,
-        Err(why) => 0x2_0000_0000 + why.number() as u64,
+        Err(why) => 0x2_0000_0000 + u64::from(why.number()),
     }
 }
 
