@@ -22,6 +22,7 @@ pub struct Cone {
     pub cos_theta: f32,
 }
 
+#[tactic(auto, unfolding(crate::specs::Cones::safe_sqrt))]
 pub fn safe_sqrt(value: f32) -> f32
     ensures { result ≡ safe_sqrt value }
 {

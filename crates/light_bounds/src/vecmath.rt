@@ -38,6 +38,7 @@ pub fn is_finite_vec(v: Vec3) -> bool
     is_finite(v.x) && (is_finite(v.y) && is_finite(v.z))
 }
 
+#[tactic(auto, unfolding(crate::specs::Vecmath::dot))]
 pub fn dot(a: Vec3, b: Vec3) -> f32
     ensures { result ≡ dot_of a b }
 {
@@ -70,6 +71,7 @@ pub(crate) fn by_axis<F: Fn(f32, f32) -> f32>(a: Vec3, b: Vec3, f: F) -> Vec3
     }
 }
 
+#[tactic(auto, unfolding(crate::specs::Vecmath::cross))]
 pub fn cross(a: Vec3, b: Vec3) -> Vec3
     ensures { result ≡ cross_of a b }
 {
@@ -90,6 +92,7 @@ pub fn scale_vector(v: Vec3, scale: f32) -> Vec3
     }
 }
 
+#[tactic(auto, unfolding(crate::specs::Vecmath::divided))]
 pub fn divide_vector(v: Vec3, divisor: f32) -> Vec3
     ensures { result ≡ divided v divisor }
 {
@@ -100,6 +103,7 @@ pub fn divide_vector(v: Vec3, divisor: f32) -> Vec3
     }
 }
 
+#[tactic(auto, unfolding(crate::specs::Vecmath::vec_length))]
 pub fn length(v: Vec3) -> f32
     ensures { result ≡ vec_length v }
 {
