@@ -107,14 +107,11 @@ fn ones(m: usize) -> f64
     s
 }
 
-// The weight at a place; where the weights are flat each is one.
-// Weights and flat are no struct: of one with a slice in it each clause would have to say `weights.entry.words.now`.
-#[tactic(auto, unfolding(crate::specs::AsCoded::Stacks::weighted))]
-fn weight_at(weights: &[u32], flat: bool, i: usize) -> f32
-    requires { i < length weights.now }
-    ensures { result ≡ get_or (weighted flat weights.now) i zerof }
+// The weight that is played for a word: where the weights are flat, which is the definition's own flag, each is one.
+fn played_weight(flat: bool, word: u32) -> f32
+    ensures { result ≡ cond flat onef (single word) }
 {
-    if flat { 1.0 } else { f32::of_word(weights[i]) }
+    if flat { 1.0 } else { f32::of_word(word) }
 }
 
 // The game, from the start to the zeroed work.
@@ -147,8 +144,8 @@ fn start(weights: &[u32], flat: bool, sum: f32, bins: &mut [u32], work: &mut [u3
     let m = weights.len();
     let count = m as f32;
     let mut heights = Heights { under: 0, over: 0 };
-    for i in 0..m {
-        let p = weight_at(weights, flat, i) / sum;
+    for (i, word) in weights.iter().enumerate() {
+        let p = played_weight(flat, *word) / sum;
         put_bin(bins, 3 * i, p);
         heights.push(m, work, p * count, i as u32);
     }
