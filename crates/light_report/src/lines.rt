@@ -39,7 +39,7 @@ pub const LINE_BYTES: usize = 29;
 // ---- what a group draws
 
 // Words past a group's end are read as 0.
-#[tactic(auto, using(words::proofs::AnswerLaws::steps), unfolding(crate::specs::Lines::shown, crate::specs::Lines::named))]
+#[tactic(auto, using(words::proofs::AnswerLaws::steps), unfolding(crate::specs::Lines::named))]
 fn draw_group(tree: Tree, group: &[u8]) -> Result<Option<Line>, Refusal>
     ensures { line result ≡ group_shown tree.entry.nodes.now tree.entry.table.now (words_of group.now) }
 {
