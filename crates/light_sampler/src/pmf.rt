@@ -3,10 +3,10 @@ ghost use Rattle.words.specs.Answers.{answered, given};
 ghost use Rattle.std.specs.Prelude.{◌≡◌};
 ghost use Rattle.ieee.specs.Single.{onef};
 ghost use Rattle.words.specs.LittleEndian.{words_of};
-ghost use Rattle.light_sampler.specs.Sampler.{pmf_check, leaf_of, pmf as pmf_of};
+ghost use Rattle.light_sampler.specs.Sampler.{pmf_check, pmf as pmf_of};
 ghost use Rattle.light_sampler.specs.Walks.{part_of, rise as rise_of, ascend as ascend_of};
 ghost use Rattle.light_rows.specs.Nodes.{node_value, node_at};
-ghost use Rattle.light_sampler.specs.AsCoded.Turns.{by_prepared, risen_of};
+ghost use Rattle.light_sampler.specs.AsCoded.Turns.{by_prepared, risen_of, leaf_found};
 
 use super::weigh::weigh_children;
 use light_bounds::importance::{Prepared, Query, prepare};
@@ -93,20 +93,25 @@ fn check_pmf(nodes: &[u8], table: &[u8]) -> Result<usize, Refusal>
     Err(Refusal::Ragged)
 }
 
-// The light's place in the table, none past its end.
-fn leaf_of(table: &[u8], handle: u32) -> u32
-    ensures { result ≡ leaf_of (words_of table.now) handle }
+// The place of the light's leaf; none past the table and of a light without a leaf.
+fn leaf_of(table: &[u8], handle: u32) -> Option<u32>
+    ensures { result ≡ leaf_found (words_of table.now) handle }
 {
-    if (handle as usize) < table.len() / 4 {
-        return word_at(table, handle as usize);
+    if table.len() / 4 <= handle as usize {
+        return None;
     }
-    INVALID_INDEX
+    let leaf = word_at(table, handle as usize);
+    if leaf == INVALID_INDEX {
+        None
+    } else {
+        Some(leaf)
+    }
 }
 
 // The chance of a light for a query, as the product of its weights' parts along the way up. Refusals: 2 over 8,191
 // nodes or 4,096 table words, 1 of a part of a node or of a word; then those that the walk meets, 12 where the words do
 // not hang together. A light past the table or without a leaf has chance 0.
-#[tactic(auto, using(crate::proofs::WalkLaws::checks), unfolding(crate::specs::Sampler::pmf_walk, crate::specs::Sampler::from_leaf))]
+#[tactic(auto, using(crate::proofs::WalkLaws::leaf_checks), unfolding(crate::specs::Sampler::pmf_walk))]
 pub fn bvh_light_sampler_pmf(
     nodes: &[u8],
     table: &[u8],
@@ -116,9 +121,8 @@ pub fn bvh_light_sampler_pmf(
     ensures { answered result ≡ pmf_of nodes.now table.now query handle }
 {
     let n = check_pmf(nodes, table)?;
-    let leaf = leaf_of(table, handle);
-    if leaf == INVALID_INDEX {
+    let Some(leaf) = leaf_of(table, handle) else {
         return Ok(0.0);
-    }
+    };
     ascend(nodes, query, n, leaf)
 }
