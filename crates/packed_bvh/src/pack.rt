@@ -38,30 +38,23 @@ const LEAF_BIT: u32 = 0x8000_0000;
 // ---- a node's words
 
 // Two numbers of sixteen bits as a word, the first one below.
-fn pair(low: u32, high: u32) -> u32
-    requires low_bound { low < 65536 }
-    requires high_bound { high < 65536 }
+fn pair(low: u16, high: u16) -> u32
     ensures { result ≡ paired low high }
 {
-    low + 0x1_0000 * high
+    u32::from(low) + 0x1_0000 * u32::from(high)
 }
 
 // Both cosines and the side.
 fn cone_word(bounds: LightBounds) -> u32
     ensures { result ≡ cone_word bounds }
 {
-    let o = quantize_cos(bounds.cos_theta_o) as u32;
-    let e = quantize_cos(bounds.cos_theta_e) as u32;
-    let cosines = o + 0x8000 * e;
-    if bounds.side.two_sided {
-        cosines + 0x4000_0000
-    } else {
-        cosines
-    }
+    let o = u32::from(quantize_cos(bounds.cos_theta_o));
+    let e = u32::from(quantize_cos(bounds.cos_theta_e));
+    o + 0x8000 * e + 0x4000_0000 * u32::from(bounds.side.two_sided)
 }
 
 // The record within the overall box, with its direction at unit length.
-#[tactic(auto, using(crate::proofs::QuantizeCuts::small_steps))]
+#[tactic(auto, unfolding(crate::specs::Packed::compact_words, crate::specs::Quantize::encode_octahedral))]
 fn compact_words(all: Bounds3, bounds: LightBounds, d: Vec3, payload: u32, parent: u32) -> [u32; 8]
     ensures { result ≡ compact_words all bounds d payload parent }
 {
