@@ -285,7 +285,7 @@ module _ (all : Bounds3) (ws : List ℕ) (n : ℕ) where
 
     -- every node is packed
     pub outcome-given : i ≡ n
-        → (given (some (packed_reserve n)) ≡ words_packed (packed_tree ws n (some all)))
+        → (given (some (packed_place n)) ≡ words_packed (packed_tree ws n (some all)))
         × (l ≡ tray packed_bytes (4 * packed_reserve n) (packed_tree ws n (some all)) before)
     outcome-given e =
         let count : length (header all ++ p.nodes) ≡ packed_reserve n =
@@ -302,7 +302,7 @@ module _ (all : Bounds3) (ws : List ℕ) (n : ℕ) where
         ∙ sym (ap (sets before 0) (bytes_of-append (header all) p.nodes) ∙ sets-append before 0 (bytes_of (header all))
         (bytes_of p.nodes)) in
         rw (packing-all p e) (
-          ap (λ (k : ℕ). given (some k)) (sym count),
+          ap (λ (k : ℕ). given (some k)) (sym (count ∙ reserve)),
           whole ∙ sets-eq (bytes_of (header all ++ p.nodes)) before 0 (omega (arith, at))
               ∙ ap (λ (k : ℕ). bytes_of (header all ++ p.nodes) ++ drop k before) at
               ∙ sym (tray-full packed_bytes (4 * packed_reserve n) before (some (header all ++ p.nodes)) bytes),

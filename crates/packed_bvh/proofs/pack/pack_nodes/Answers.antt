@@ -3,7 +3,7 @@
 use mathlib.Core.Path.{sym}
 use native.Mathlib.Omega.{arith}
 use Rattle.words.specs.Refusals.{number}
-use Rattle.packed_bvh.proofs.PackLaws.{packing-none, packing-one, reserve-some, outcome-refused, outcome-given}
+use Rattle.packed_bvh.proofs.PackLaws.{packing-none, packing-one, outcome-refused, outcome-given}
 use Rattle.packed_bvh.proofs.pack.pack_nodes.Goals as goal
 
 pub loop-i-init : goal.loop-i-init
@@ -26,4 +26,4 @@ returns c =
     let h =
     outcome-given _ _ _ _ c.requires.n_nonzero c.requires.n_in_bounds
     (rw c.header.ensures at c.write_words.ensures) c.loop-i.invariant (omega arith) in
-    rw (← reserve-some _ c.requires.n_nonzero) (record { result_value = h.0; out_after = h.1 })
+    record { result_value = h.0; out_after = h.1 }
