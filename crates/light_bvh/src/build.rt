@@ -96,7 +96,8 @@ fn is_powered(block: &[u32], handle: u32) -> bool
     light_phi(block, handle) > 0.0
 }
 
-// Their handles, in order, to the front of the slice, and how many they are.
+// Their handles, in order, to the front of the slice, and how many they are. k counts what is kept and is the answer; a
+// filter's place would leave the count to a second pass.
 fn gather_handles(block: &[u32], handles: &mut [u32]) -> usize
     requires { get_or block.now 0 0 ≤ length handles.old }
     ensures value { result ≡ length (bounded_handles block.now (get_or block.now 0 0)) }
@@ -148,7 +149,8 @@ fn zero_reserves(rows: u32, nodes: &mut [u32], table: &mut [u32], work: &mut [u3
     zero_words(work, 0, work_reserve(rows));
 }
 
-// Writes each leaf's place at its label, by a pass over the nodes.
+// Writes each leaf's place at its label, by a pass over the nodes. The length is tested, since `get_mut` of a slice
+// promises nothing of the slice but its length.
 fn table_leaves(nodes: &[u32], table: &mut [u32])
     requires { length nodes.now ≤ node_words * max_nodes }
     ensures { table.new ≡ tabled_below nodes.now (length nodes.now / node_words) table.old }

@@ -95,6 +95,7 @@ impl Node {
 
 // ---- writing
 
+#[tactic(auto, unfolding(crate::specs::Nodes::node_list, crate::specs::AsCoded::RecordRow::written_at))]
 fn put_node(words: &mut [u32], at: usize, node: Node, bounds: LightBounds)
     requires head { head_number (node_value node) < 0x4000_0000 }
     requires in_bounds { at + node_words ≤ length words.old }
@@ -108,6 +109,7 @@ fn put_node(words: &mut [u32], at: usize, node: Node, bounds: LightBounds)
 
 // Writes a node at a place, or nothing where its row is not there or its head has no room for the handle or the left
 // child: whether it wrote.
+#[tactic(auto, unfolding(crate::specs::AsCoded::NodeRow::node_written, crate::specs::AsCoded::NodeRow::node_fits))]
 pub fn write_node(words: &mut [u32], place: usize, node: Node, bounds: LightBounds) -> bool
     ensures value { result ≡ node_fits words.old place (node_value node) }
     ensures words_after { words.new ≡ node_written words.old place (node_value node) bounds }
@@ -129,6 +131,7 @@ pub fn bounds_in(nodes: &[u32], place: u32) -> LightBounds
 }
 
 // How many nodes there are: over 8,191 are refusal 2, a part of a node is 1.
+#[tactic(auto, unfolding(crate::specs::Nodes::node_count))]
 pub fn node_count(nodes: &[u8]) -> Result<usize, Refusal>
     ensures { answered result ≡ node_count nodes.now }
 {
@@ -142,6 +145,7 @@ pub fn node_count(nodes: &[u8]) -> Result<usize, Refusal>
     Err(Refusal::Ragged)
 }
 
+#[tactic(auto, unfolding(crate::specs::Nodes::node_of))]
 fn node_of(head: u32, right_child: u32, parent: u32) -> Result<Node, Refusal>
     ensures { node result ≡ node_of head right_child parent }
 {
