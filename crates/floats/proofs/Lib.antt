@@ -1,2 +1,3 @@
 pub mod Saturated
-pub mod RootWords
+pub mod WordLaws
+pub mod RootLaws

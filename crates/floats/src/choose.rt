@@ -4,22 +4,25 @@ ghost use Rattle.ieee.specs.Choose.{fmin, fmax, clamp as clamped, fabs, is_sign_
 
 use words::floats::Float;
 
-// The lesser. A NaN loses to the other value; of equal values the first is given. `min` and `max` differ in their one
-// test: a function of both would only take it.
+// The lesser. A NaN loses to the other value; of equal values the first is given. `min` and `max` are two functions
+// because each is one test of two floats: a function of both would take that test as a parameter and be no plainer.
+#[tactic(auto, unfolding(ieee::specs::Choose::fmin))]
 pub fn min(x: f32, y: f32) -> f32
     ensures { result ≡ fmin x y }
 {
-    if x != x || y < x { y } else { x }
+    if x.is_nan() || y < x { y } else { x }
 }
 
 // The greater, likewise.
+#[tactic(auto, unfolding(ieee::specs::Choose::fmax))]
 pub fn max(x: f32, y: f32) -> f32
     ensures { result ≡ fmax x y }
 {
-    if x != x || x < y { y } else { x }
+    if x.is_nan() || x < y { y } else { x }
 }
 
 // lo where x is below it, then hi where that is above it; a NaN stays. Ends that are turned round give hi.
+#[tactic(auto, unfolding(ieee::specs::Choose::clamp))]
 pub fn clamp(x: f32, lo: f32, hi: f32) -> f32
     ensures { result ≡ clamped x lo hi }
 {
@@ -28,6 +31,7 @@ pub fn clamp(x: f32, lo: f32, hi: f32) -> f32
 }
 
 // The value without its sign: the greater of x and 0 - x, with no branch by the sign, and of zeros 0 - x, which is +0.
+#[tactic(auto, using(crate::proofs::WordLaws::larger))]
 pub fn abs(x: f32) -> f32
     ensures { result ≡ fabs x }
 {
@@ -36,6 +40,7 @@ pub fn abs(x: f32) -> f32
 }
 
 // Whether the word that x is stored as has its sign bit; a NaN's has none.
+#[tactic(auto, unfolding(ieee::specs::Choose::is_sign_negative))]
 pub fn is_sign_negative(x: f32) -> bool
     ensures { result ≡ is_sign_negative x }
 {

@@ -15,6 +15,7 @@ pub fn widen(x: f32) -> f64
 }
 
 // The f32 nearest to x, ties to even.
+#[tactic(auto, using(crate::proofs::WordLaws::backs))]
 pub fn narrow(x: f64) -> f32
     ensures { result ≡ narrowed x }
 {

@@ -20,14 +20,32 @@ pub(crate) struct Digits {
     ghost odd_bound: { odd < 2 },
 }
 
+// What the polynomials near a root are of: x from 1 up to 2, its powers, and the scale, which takes in odd.
+struct Reduced {
+    x: f64,
+    x2: f64,
+    x4: f64,
+    scale: f64,
+}
+
 impl Digits {
-    // A float near the root of n / 2^52, to 28 digits: a polynomial near the root of x from 1 up to 2, times the root
-    // of 2 where odd is 1. Nothing rests on how near it is.
-    fn near_root(self) -> f64 {
+    // x is normal / 2^52, and the scale is 1, or the root of 2 where odd is 1.
+    fn reduced(self) -> Reduced {
         let x = f64::of_word(0x3fe0_0000_0000_0000 + self.normal);
         let scale = f64::of_word(0x3ff0_0000_0000_0000 + self.odd * 0x6_a09e_667f_3bcd);
         let x2 = x * x;
-        let x4 = x2 * x2;
+        Reduced {
+            x,
+            x2,
+            x4: x2 * x2,
+            scale,
+        }
+    }
+
+    // A float near the root of n / 2^52, to 28 digits: a polynomial near the root of x, times the scale. Nothing rests
+    // on how near it is.
+    fn near_root(self) -> f64 {
+        let Reduced { x, x2, x4, scale } = self.reduced();
         let low = 0.23340100123411664
             + 1.3193533027095627 * x
             + (0.9014983820579215 * x - 1.0794072036466167) * x2;
@@ -38,10 +56,7 @@ impl Digits {
 
     // The same to 33 digits, by a polynomial of two degrees more.
     fn nearer_root(self) -> f64 {
-        let x = f64::of_word(0x3fe0_0000_0000_0000 + self.normal);
-        let scale = f64::of_word(0x3ff0_0000_0000_0000 + self.odd * 0x6_a09e_667f_3bcd);
-        let x2 = x * x;
-        let x4 = x2 * x2;
+        let Reduced { x, x2, x4, scale } = self.reduced();
         let low = 0.20942746719644256
             + 1.480147379936842 * x
             + (1.742466250429782 * x - 1.559674922066227) * x2;
@@ -97,6 +112,7 @@ impl Digits {
     }
 
     // Twice the root of n, and one more where the root leaves a rest.
+    #[tactic(auto, using(crate::proofs::RootLaws::digits))]
     fn sticky_root(self) -> u64
         ensures { result ≡ sticky self.n }
     {
@@ -105,6 +121,7 @@ impl Digits {
     }
 
     // What is kept of the root of n when its last three digits and its rest are rounded away.
+    #[tactic(auto, using(crate::proofs::RootLaws::digits))]
     pub(crate) fn kept_root(self) -> u64
         ensures { result ≡ closest (sticky self.n) (2 ^ 4) }
     {
@@ -112,6 +129,7 @@ impl Digits {
     }
 
     // Whether q is the whole number nearest to the root of n / 64.
+    #[tactic(auto, using(crate::proofs::RootLaws::digits), unfolding(ieee::specs::Laws::SqrtNear::is_nearest))]
     fn is_nearest(self, q: u64) -> bool
         requires { q ≤ 2 ^ 25 }
         ensures { result ≡ is_nearest self.n q }
@@ -121,6 +139,7 @@ impl Digits {
     }
 
     // What is kept of the root of n where q is not it: one up or one down by the same test, and else by all the digits.
+    #[tactic(auto, using(crate::proofs::RootLaws::nearest))]
     fn beside(self, q: u64) -> u64
         requires { q < 2 ^ 25 }
         ensures { result ≡ closest (sticky self.n) (2 ^ 4) }
@@ -136,6 +155,7 @@ impl Digits {
 
     // What is kept of the root of n: the float near it, which the sum with 2^29 rounds to 24 digits, where that is the
     // nearest.
+    #[tactic(auto, using(crate::proofs::RootLaws::nearest))]
     pub(crate) fn nearest_root(self) -> u64
         ensures { result ≡ closest (sticky self.n) (2 ^ 4) }
     {

@@ -20,6 +20,7 @@ pub trait Root: Float {
         ensures read { of_bits Self.format (Self.number result) ≡ rooted Self.format (Self.value self) };
 }
 
+#[tactic(auto, using(crate::proofs::WordLaws::backs))]
 impl Root for f32 {
     fn root_word(self) -> u32
         ensures word { result ≡ to_bits binary32 (rooted binary32 self) }
@@ -29,6 +30,7 @@ impl Root for f32 {
     }
 }
 
+#[tactic(auto, using(crate::proofs::WordLaws::backs))]
 impl Root for f64 {
     fn root_word(self) -> u64
         ensures word { result ≡ to_bits binary64 (rooted binary64 self) }
@@ -46,6 +48,7 @@ pub fn sqrt<F: Root>(x: F) -> F
 }
 
 // The pattern of the root of a pattern's value. Lengths and cosines are often 1, which is its own root.
+#[tactic(auto, using(crate::proofs::WordLaws::roots))]
 fn root_word(w: u32) -> u32
     ensures { result ≡ to_bits binary32 (rooted binary32 (of_bits binary32 w)) }
 {
@@ -53,6 +56,7 @@ fn root_word(w: u32) -> u32
 }
 
 // The same for every pattern.
+#[tactic(auto, using(crate::proofs::WordLaws::roots))]
 fn sqrt_word(w: u32) -> u32
     ensures { result ≡ to_bits binary32 (rooted binary32 (of_bits binary32 w)) }
 {
@@ -66,15 +70,19 @@ fn sqrt_word(w: u32) -> u32
     }
     // subnormal: the digits as they are, with the exponent of a field of 1
     if w < 0x80_0000 {
-        return digits_root(w as u64, 151);
+        return digits_root(w as u64, 151, |x| x.kept_root());
     }
-    normal_root(
+    // normal, as most are: by a float near the root
+    digits_root(
         (0x80_0000 + w % 0x80_0000) as u64,
         (w / 0x80_0000 + 150) as u64,
+        |x| x.nearest_root(),
     )
 }
 
-// The same at 64 bits, apart from it: at 32 most roots go by a float that is near enough, which 53 digits have not.
+// The same at 64 bits. It is a function of its own because the two take roots by other ways: at 32 bits an f64 near the
+// root mostly settles it, and no float is near enough for the 53 digits of an f64.
+#[tactic(auto, using(crate::proofs::WordLaws::roots))]
 fn sqrt64_word(w: u64) -> u64
     ensures { result ≡ to_bits binary64 (rooted binary64 (of_bits binary64 w)) }
 {
@@ -125,6 +133,7 @@ fn normalised(d: u64, e: u64) -> Scaled
 }
 
 // The pattern of the root of scaled digits in units of 2^-300, by what is kept of the digits' root.
+#[tactic(auto, using(crate::proofs::RootLaws::digits))]
 fn pattern(s: Scaled, kept: u64) -> u32
     requires half_bound { s.half ≤ 202 }
     requires kept_value { kept ≡ closest (sticky s.digits.n) (2 ^ 4) }
@@ -133,25 +142,17 @@ fn pattern(s: Scaled, kept: u64) -> u32
     ((2 + s.half) * 0x80_0000 + kept) as u32
 }
 
-// The pattern of the root of d * 2^e units of 2^-300. The bounds of d and e are each width's own.
-fn digits_root(d: u64, e: u64) -> u32
+// The pattern of the root of d * 2^e units of 2^-300, where `kept` gives what is kept of the root of digits. The bounds
+// of d and e are each width's own.
+fn digits_root<F: Fn(Digits) -> u64>(d: u64, e: u64, kept: F) -> u32
     requires d_nonzero { (0 < d) × (d < 2 ^ 24) }
     requires le_e { (151 ≤ e) × (e ≤ 404) }
+    requires callable { F.IsAlwaysCallable kept }
+    requires kept_value { (x : _) (k : _) → F.post kept x k → k ≡ closest (sticky x.n) (2 ^ 4) }
     ensures { result ≡ to_bits binary32 (root_of binary32 150 (d * 2 ^ e)) }
 {
     let s = normalised(d, e);
-    let kept = s.digits.kept_root();
-    pattern(s, kept)
-}
-
-// The same by a guess, for the normal floats, which are the most. One function of both would take which root to take.
-fn normal_root(d: u64, e: u64) -> u32
-    requires d_nonzero { (0 < d) × (d < 2 ^ 24) }
-    requires le_e { (151 ≤ e) × (e ≤ 404) }
-    ensures { result ≡ to_bits binary32 (root_of binary32 150 (d * 2 ^ e)) }
-{
-    let s = normalised(d, e);
-    let kept = s.digits.nearest_root();
+    let kept = kept(s.digits);
     pattern(s, kept)
 }
 

@@ -9,6 +9,7 @@ use super::shift::power;
 use words::floats::Float;
 
 // The greatest whole number at most x.
+#[tactic(auto, using(crate::proofs::WordLaws::backs))]
 pub fn floor(x: f32) -> f32
     ensures { result ≡ floored binary32 x }
 {
@@ -17,21 +18,24 @@ pub fn floor(x: f32) -> f32
 }
 
 // The least whole number at least x.
+#[tactic(auto, using(crate::proofs::WordLaws::backs))]
 pub fn ceil(x: f32) -> f32
     ensures { result ≡ ceiled binary32 x }
 {
     let w = x.word();
-    f32::of_word(next_whole_word(w, !(w >= 0x8000_0000)))
+    f32::of_word(next_whole_word(w, w < 0x8000_0000))
 }
 
 // The nearest whole number, halves away from zero.
+#[tactic(auto, using(crate::proofs::WordLaws::backs))]
 pub fn round(x: f32) -> f32
     ensures { result ≡ round_away binary32 x }
 {
     f32::of_word(round_word(x.word()))
 }
 
-// The pattern of the next whole number, away from zero or toward it.
+// The pattern of the next whole number, away from zero or toward it. `away` is the flag of the definition `next_whole`:
+// two functions, or a closure, would say its cases twice.
 fn next_whole_word(w: u32, away: bool) -> u32
     ensures { result ≡ to_bits binary32 (next_whole binary32 away (of_bits binary32 w)) }
 {
@@ -81,6 +85,7 @@ fn round_word(w: u32) -> u32
 }
 
 // x cut to a whole number: 0 below zero and at a NaN, the largest usize above it.
+#[tactic(auto, using(crate::proofs::WordLaws::backs))]
 pub fn to_usize(x: f32) -> usize
     ensures { result ≡ to_usize x }
 {
@@ -108,12 +113,14 @@ fn to_usize_word(w: u32) -> usize
 }
 
 // The same for u32, and for u16.
+#[tactic(auto, using(crate::proofs::Saturated::casts))]
 pub fn to_u32(x: f32) -> u32
     ensures { result ≡ to_u32 x }
 {
     u32::try_from(to_usize(x)).unwrap_or(u32::MAX)
 }
 
+#[tactic(auto, using(crate::proofs::Saturated::casts))]
 pub fn to_u16(x: f32) -> u16
     ensures { result ≡ to_u16 x }
 {

@@ -1,3 +1,3 @@
 pub mod Turns
-pub mod Sizes
+pub mod Cases
 pub mod KnownArcs

@@ -30,3 +30,5 @@ module _ {step : ℕ → Float → Float} {n : ℕ} {first : Float} {m : ℕ} {q
       spent : (k : ℕ) → k ≤ 0 → turns step k q ≡ q
       spent zero h = unfold turns in refl
       spent (suc k) h = absurd (omega arith)
+
+pub ruleset turning = (turning-start, turning-next, turning-end)

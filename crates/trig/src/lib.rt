@@ -9,9 +9,11 @@ ghost use Rattle.trig.specs.Trig.{cos as cos_of, sin as sin_of, acos as acos_of,
 use floats::choose::abs;
 use floats::narrow::{narrow, widen};
 use floats::sqrt::sqrt;
+use std::f64::consts::{FRAC_PI_2, PI};
 use words::floats::Float;
 
 // One turn of the cosine's series at S = 1, of the sine's at S = 0.
+#[tactic(auto, unfolding(crate::specs::Series::series_step))]
 fn series_step<const S: u32>(z: f64, m: u32, q: f64) -> f64
     requires s_bound { S ≤ 1 }
     requires le_m { 1 ≤ m }
@@ -23,6 +25,7 @@ fn series_step<const S: u32>(z: f64, m: u32, q: f64) -> f64
 }
 
 // The cosine's series at S = 1, the sine's at S = 0, of the squared argument.
+#[tactic(auto, using(crate::proofs::Turns::turning), unfolding(crate::specs::Series::series))]
 fn series<const S: u32>(z: f64) -> f64
     requires { S ≤ 1 }
     ensures { result ≡ series_of S z }
@@ -35,6 +38,7 @@ fn series<const S: u32>(z: f64) -> f64
 }
 
 // One turn of K's series.
+#[tactic(auto, unfolding(crate::specs::Series::arc_step))]
 fn arc_step(z: f64, m: u32, p: f64) -> f64
     requires le_m { 1 ≤ m }
     requires m_bound { m ≤ 16 }
@@ -46,6 +50,7 @@ fn arc_step(z: f64, m: u32, p: f64) -> f64
 }
 
 // K, the arc's series.
+#[tactic(auto, using(crate::proofs::Turns::turning), unfolding(crate::specs::Series::arc))]
 fn arc(x: f64) -> f64
     ensures { result ≡ arc_of x }
 {
@@ -58,6 +63,7 @@ fn arc(x: f64) -> f64
 }
 
 // 2 K(sqrt((1 - y) / 2)).
+#[tactic(auto, unfolding(crate::specs::Trig::twice_arc))]
 fn twice_arc(y: f64) -> f64
     ensures { result ≡ twice_arc y }
 {
@@ -65,6 +71,7 @@ fn twice_arc(y: f64) -> f64
 }
 
 // NaN beyond 8 on either side.
+#[tactic(auto, using(crate::proofs::Cases::turns_cases))]
 pub fn cos(x: f32) -> f32
     ensures { result ≡ cos_of x }
 {
@@ -72,10 +79,11 @@ pub fn cos(x: f32) -> f32
         let wide = widen(x);
         narrow(series::<1>(wide * wide))
     } else {
-        0.0 / 0.0
+        f32::NAN
     }
 }
 
+#[tactic(auto, using(crate::proofs::Cases::turns_cases))]
 pub fn sin(x: f32) -> f32
     ensures { result ≡ sin_of x }
 {
@@ -83,32 +91,26 @@ pub fn sin(x: f32) -> f32
         let wide = widen(x);
         narrow(wide * series::<0>(wide * wide))
     } else {
-        0.0 / 0.0
+        f32::NAN
     }
 }
 
 // NaN beyond 1 on either side. Cones are often a point, a half or a whole sphere, whose arcs are known; a quarter
 // turn's cosine is rounded to -4.3711388e-8.
+#[tactic(auto, using(crate::proofs::KnownArcs::known))]
 pub fn acos(x: f32) -> f32
     ensures { result ≡ acos_of x }
 {
-    let word = x.word();
-    if word == 0x3f80_0000 {
-        return 0.0;
+    match x.word() {
+        0x3f80_0000 => 0.0,
+        0xbf80_0000 => std::f32::consts::PI,
+        0 | 0xb33b_bd2e => std::f32::consts::FRAC_PI_2,
+        _ => acos_steps(x),
     }
-    if word == 0xbf80_0000 {
-        return 3.1415927;
-    }
-    if word == 0 {
-        return 1.5707964;
-    }
-    if word == 0xb33b_bd2e {
-        return 1.5707964;
-    }
-    acos_steps(x)
 }
 
 // The same for every argument.
+#[tactic(auto, using(crate::proofs::Cases::arc_cases))]
 fn acos_steps(x: f32) -> f32
     ensures { result ≡ acos_of x }
 {
@@ -116,18 +118,19 @@ fn acos_steps(x: f32) -> f32
     if size <= 1.0 {
         let wide = widen(x);
         if size <= 0.5 {
-            return narrow(1.5707963267948966 - arc(wide));
+            return narrow(FRAC_PI_2 - arc(wide));
         }
         if x > 0.5 {
             return narrow(twice_arc(wide));
         }
-        narrow(3.141592653589793 - twice_arc(-wide))
+        narrow(PI - twice_arc(-wide))
     } else {
-        0.0 / 0.0
+        f32::NAN
     }
 }
 
 // NaN beyond 1 on either side. Directions are often the same, and then the arc between them is of 0.
+#[tactic(auto, using(crate::proofs::KnownArcs::known))]
 pub fn asin(x: f32) -> f32
     ensures { result ≡ asin_of x }
 {
@@ -137,6 +140,7 @@ pub fn asin(x: f32) -> f32
     asin_steps(x)
 }
 
+#[tactic(auto, using(crate::proofs::Cases::arc_cases))]
 fn asin_steps(x: f32) -> f32
     ensures { result ≡ asin_of x }
 {
@@ -145,12 +149,12 @@ fn asin_steps(x: f32) -> f32
         if size <= 0.5 {
             return narrow(arc(widen(x)));
         }
-        let magnitude = 1.5707963267948966 - twice_arc(widen(size));
+        let magnitude = FRAC_PI_2 - twice_arc(widen(size));
         if x < 0.0 {
             return narrow(-magnitude);
         }
         narrow(magnitude)
     } else {
-        0.0 / 0.0
+        f32::NAN
     }
 }

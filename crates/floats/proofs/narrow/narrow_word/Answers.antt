@@ -1,20 +1,14 @@
 -- `floats::narrow::narrow_word`: the tests part the magnitudes into too large, normal, too small and subnormal;
 -- NarrowLaws says which digits each keeps. Assumes nothing.
-use Prim.Native.Nat.{◌*◌, ◌%◌, ◌^◌, ◌≤◌}
+use Prim.Native.Nat.{◌%◌, ◌^◌, ◌≤◌}
 use native.Mathlib.Omega.{arith}
 use lib.Ieee.{binary64, to_bits}
 use Rattle.ieee.specs.Laws.Nans.{nan-bits}
 use Rattle.ieee.specs.Narrow.{narrow}
 use Rattle.ieee.specs.Laws.NarrowLaws.{narrow-large, narrow-normal, narrow-small}
-use Rattle.ieee.specs.Laws.NarrowLaws.{narrow_subnormal, normal-room, subnormal-room}
+use Rattle.ieee.specs.Laws.NarrowLaws.{narrow_subnormal, subnormal-room}
 use Rattle.floats.proofs.narrow.narrow_word.Goals as goal
 use Rattle.floats.proofs.narrow.narrow_word.Goals.{After-shifted_to_even, After-shifted_to_even-2}
-
--- what is kept of a normal and of a subnormal magnitude
-normal-kept : (c : After-shifted_to_even) → c.shifted_to_even.result ≤ 255 * 2 ^ 23
-normal-kept c =
-    rw c.shifted_to_even.ensures
-    (normal-room (c.args.w % 2 ^ 63) c.if-a-ge5183643171103440896.false)
 
 subnormal-kept : (c : After-shifted_to_even-2) → c.shifted_to_even-2.result ≤ 2 ^ 23
 subnormal-kept c =
@@ -28,12 +22,6 @@ returns-then-a-gt9218868437227405312 c = rw (nan-bits binary64 c.args.w c.if-a-g
 pub returns-then-a-ge5183643171103440896 : goal.returns-then-a-ge5183643171103440896
 returns-then-a-ge5183643171103440896 c =
     narrow-large c.args.w (omega arith) c.if-a-ge5183643171103440896.true c.if-a-gt9218868437227405312.false
-
-pub overflow_cast-result : goal.overflow_cast-result
-overflow_cast-result c = omega (arith, normal-kept c)
-
-pub overflow_add-result-then-a-ge4039728865751334912 : goal.overflow_add-result-then-a-ge4039728865751334912
-overflow_add-result-then-a-ge4039728865751334912 c = omega (arith, normal-kept c)
 
 pub returns-then-a-ge4039728865751334912 : goal.returns-then-a-ge4039728865751334912
 returns-then-a-ge4039728865751334912 c = rw c.shifted_to_even.ensures

@@ -9,7 +9,7 @@ use lib.Pow.{pow-add}
 use lib.Ieee.{binary64, to_bits}
 use lib.Ieee.Nearest.{closest}
 use Rattle.ieee.specs.Sqrt.{root_of}
-use Rattle.ieee.specs.Laws.SqrtWords.{sticky, sticky-lt, root_kept, root-pattern}
+use Rattle.ieee.specs.Laws.SqrtWords.{sticky, sticky-lt, root-pattern}
 use Rattle.floats.proofs.sqrt.digits_root64.Goals as goal
 use Rattle.floats.proofs.sqrt.digits_root64.Goals.{After-shifted_to_even-kept}
 
@@ -25,23 +25,12 @@ kept : (c : After-shifted_to_even-kept) →
     c.shifted_to_even-kept.result ≡ closest (sticky (c.normalised-s.result.digits.n * 2 ^ 54)) (2 ^ 2)
 kept c = c.shifted_to_even-kept.ensures ∙ ap (λ (z : ℕ). closest z (2 ^ 2)) c.wide_sticky_root.ensures
 
-kept-le : (c : After-shifted_to_even-kept) → c.shifted_to_even-kept.result ≤ 2 ^ 53
-kept-le c =
-    let s = c.normalised-s.result in
-    let e = c.normalised-s.ensures in
-    let n = s.digits.n in
-    rw (kept c)
-    (root_kept binary64 0 (s.half - 27) (n * 2 ^ 54) (from n s.digits.n_from) (to n s.digits.n_bound))
-
 pub shifted_to_even-kept-requires : goal.shifted_to_even-kept-requires
 shifted_to_even-kept-requires c =
     let n = c.normalised-s.result.digits.n in
     let l : sticky (n * 2 ^ 54) < 2 ^ 55 =
     sticky-lt (n * 2 ^ 54) (2 ^ 54) (to n c.normalised-s.result.digits.n_bound) in
     record { a_bound = omega (arith, c.wide_sticky_root.ensures); le_gone = lit≤ tt; gone_bound = lit≤ tt }
-
-pub overflow_add-result : goal.overflow_add-result
-overflow_add-result c = omega (arith, kept-le c)
 
 pub returns : goal.returns
 returns c =

@@ -44,15 +44,6 @@ twice-shifted c = mod-eq_of_lt (lt_of_lt_of_le (bounds c).to (lit≤ tt))
 pub overflow_sub-shift : goal.overflow_sub-shift
 overflow_sub-shift c = (found c).enough
 
-pub overflow_cast-shift : goal.overflow_cast-shift
-overflow_cast-shift c = omega (arith, (found c).few)
-
-pub overflow_shl-normal : goal.overflow_shl-normal
-overflow_shl-normal c = omega (arith, (found c).few)
-
-pub overflow_sub-exponent : goal.overflow_sub-exponent
-overflow_sub-exponent c = omega (arith, (found c).few)
-
 pub invariant_of-result : goal.invariant_of-result
 invariant_of-result c =
     let n = found c in

@@ -1,7 +1,6 @@
 -- `floats::whole::round_word`: adding half the weight of a one and cutting the fraction off rounds halves away from
 -- zero; each range of magnitudes is a case of WholeWords. Assumes nothing.
-use Prim.Native.Nat.{◌+◌, ◌-◌, ◌%◌, ◌/◌, ◌^◌, ◌≤◌}
-use native.Mathlib.Nat.{mod-le}
+use Prim.Native.Nat.{◌-◌, ◌%◌, ◌/◌, ◌^◌, ◌≤◌}
 use native.Mathlib.Omega.{arith}
 use lib.Pow.{pow_pos, pow_mono}
 use lib.Ieee.{binary32, to_bits}
@@ -32,12 +31,6 @@ returns-then-a-lt1056964608 c = round_away-none c.args.w (omega arith) c.if-a-lt
 
 pub returns-then-a-lt1065353216 : goal.returns-then-a-lt1065353216
 returns-then-a-lt1065353216 c = round_away-one c.args.w (omega arith) c.if-a-lt1065353216.true c.if-a-lt1056964608.false
-
-pub nonzero_rem-result : goal.nonzero_rem-result
-nonzero_rem-result c = (part c).0
-
-pub overflow_sub-result : goal.overflow_sub-result
-overflow_sub-result c = mod-le (c.args.w % 2 ^ 31 + c.power-part.result / 2) c.power-part.result
 
 pub overflow_add-result-2 : goal.overflow_add-result-2
 overflow_add-result-2 c = omega (arith, part c)

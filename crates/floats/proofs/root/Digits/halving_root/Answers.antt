@@ -1,7 +1,6 @@
 -- `Digits::halving_root`: the root lies from `low` up to `low + range`, and the range falls to 1. Assumes nothing.
-use Prim.Native.Nat.{ℕ, suc, ◌+◌, ◌-◌, ◌*◌, ◌/◌, ◌^◌, ◌≤◌, ◌<◌}
+use Prim.Native.Nat.{ℕ, suc, ◌+◌, ◌-◌, ◌*◌, ◌/◌, ◌<◌}
 use mathlib.Core.Path.{◌≡◌, subst}
-use native.Mathlib.Nat.{mul-le-mul}
 use native.Mathlib.Omega.{arith}
 use Rattle.ieee.specs.Laws.SqrtLaws.{root_unique}
 use Rattle.floats.proofs.root.Digits.halving_root.Goals as goal
@@ -12,12 +11,6 @@ same_end : (n low range : ℕ) → n < (low + range) * (low + range) →
 same_end n low range h =
     let e : low + range ≡ low + range / 2 + (range - range / 2) = omega arith in
     subst (λ (z : ℕ). n < z * z) e h
-
-square-fits : (k : ℕ) → k ≤ 2 ^ 27 → k * k < 2 ^ 64
-square-fits k h = omega (arith, mul-le-mul h h)
-
-pub overflow_mul-middle : goal.overflow_mul-middle
-overflow_mul-middle c = record { fits = square-fits (c.loop-range.low + c.loop-range.range / 2) (omega arith) }
 
 pub loop-range-preserved-then-middle-self : goal.loop-range-preserved-then-middle-self
 loop-range-preserved-then-middle-self c = let at = c.loop-range in (

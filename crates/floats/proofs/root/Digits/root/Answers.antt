@@ -1,18 +1,12 @@
 -- `Digits::root`: a number whose square is at most n, and whose next number's is above n, is the root, wherever it came
 -- from. Assumes nothing.
-use Prim.Native.Nat.{ℕ, zero, suc, ◌-◌, ◌*◌, ◌^◌, ◌≤◌, ◌<◌}
+use Prim.Native.Nat.{ℕ, zero, suc, ◌-◌, ◌*◌, ◌≤◌, ◌<◌}
 use mathlib.Core.Path.{◌≡◌}
-use native.Mathlib.Nat.{mul-le-mul}
 use native.Mathlib.Omega.{arith}
 use borrow.Author.Tests.{leb-true}
 use Rattle.ieee.specs.Laws.SqrtLaws.{root_unique}
 use Rattle.floats.proofs.root.Digits.root.Goals as goal
 use Rattle.floats.proofs.root.Digits.root.Goals.{Then-square-n-2}
-
-square-fits : (k : ℕ) → k < 2 ^ 27 → k * k < 2 ^ 54
-square-fits k h =
-    let l : k ≤ 2 ^ 27 - 1 = omega arith in
-    omega (arith, mul-le-mul l l)
 
 -- a square above n is not 0's
 positive : (k n : ℕ) → n < k * k → 1 ≤ k
@@ -22,24 +16,9 @@ positive (suc k) n h = omega arith
 above : (c : Then-square-n-2) → 1 ≤ c.guess-q.result
 above c = positive c.guess-q.result c.args.self.n c.if-square-n-2.true
 
-pub overflow_mul-square : goal.overflow_mul-square
-overflow_mul-square c = omega (arith, square-fits c.guess-q.result c.guess-q.ensures)
-
 pub returns-then-n-square : goal.returns-then-n-square
 returns-then-n-square c = root_unique c.args.self.n c.guess-q.result
     (record { at_most = c.if-square-n.true; below = omega (arith, leb-true) })
-
-pub overflow_sub-q : goal.overflow_sub-q
-overflow_sub-q c = above c
-
-pub overflow_sub-q-then-square-n-2 : goal.overflow_sub-q-then-square-n-2
-overflow_sub-q-then-square-n-2 c = above c
-
-pub overflow_mul-q-then-square-n-2 : goal.overflow_mul-q-then-square-n-2
-overflow_mul-q-then-square-n-2 c = omega (arith, square-fits (c.guess-q.result - 1) (omega (arith, c.guess-q.ensures)))
-
-pub overflow_sub-result : goal.overflow_sub-result
-overflow_sub-result c = above (goal.at.overflow_sub-result c).Then-square-n-2
 
 pub returns-then-q-n : goal.returns-then-q-n
 returns-then-q-n c =

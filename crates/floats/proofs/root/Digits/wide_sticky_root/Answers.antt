@@ -84,19 +84,6 @@ overflow_mul-result-then-over-square-2 c =
     let h = halves (goal.at.overflow_mul-result-then-over-square-2 c).After-root-upper in
     omega (arith, h.to, h.lower-to)
 
-pub overflow_sub-result : goal.overflow_sub-result
-overflow_sub-result c = omega (arith, (halves (goal.at.overflow_sub-result c).After-root-upper).from)
-
-pub overflow_mul-result-else-over-square-2 : goal.overflow_mul-result-else-over-square-2
-overflow_mul-result-else-over-square-2 c =
-    let h = halves (goal.at.overflow_mul-result-else-over-square-2 c).After-root-upper in
-    omega (arith, h.to, h.lower-to)
-
-pub overflow_add-result : goal.overflow_add-result
-overflow_add-result c =
-    let h = halves (goal.at.overflow_add-result c).After-root-upper in
-    omega (arith, h.to, h.lower-to)
-
 pub returns-then-over-square : goal.returns-then-over-square
 unfolding lower over whole-root
 returns-then-over-square c =
