@@ -9,12 +9,23 @@ use Rattle.words.specs.LittleEndian.{words_of}
 use Rattle.words.proofs.LittleEndianLaws.{words_of-at}
 use Rattle.words.specs.Answers.{given, refused}
 use Rattle.words.proofs.Stores.{sets-append}
-use Rattle.light_rows.specs.AsCoded.RecordRow.{triple_at, row_at, judged_row, written_at}
+use Rattle.ieee.specs.Single.{zerof}
+use Rattle.light_rows.specs.AsCoded.RecordRow.{triple_at, row_at, vec_of, record_of, judged_row, written_at}
 use Rattle.light_rows.specs.RecordWords.{record_words, record_at, read_record, vec_at}
 use Rattle.light_rows.specs.RecordWords.{vec_words, rest_words, record_list}
 use Rattle.light_rows.specs.RecordWords.{max_place, direction_place, phi_place, cos_o_place, cos_e_place, side_place}
 use Rattle.light_bounds.specs.Side.{side_known}
+use Rattle.light_bounds.specs.Vecmath.{vec}
 use Rattle.light_bounds.specs.declared.light_bounds.LightBounds.{LightBounds}
+
+pub vec_at-past : (ws : List ℕ) (at : ℕ) → length ws ≤ at → vec_at ws at ≡ vec zerof zerof zerof
+unfolding vec_at
+vec_at-past ws at h =
+    rw (
+      get_or-eq_default ws 0 {n = at} h,
+      get_or-eq_default ws 0 {n = at + 1} (omega arith),
+      get_or-eq_default ws 0 {n = at + 2} (omega arith),
+    )
 
 -- ---- fetched
 
@@ -89,6 +100,14 @@ module _ (bs : List ℕ) (at : ℕ) (h : at + record_words ≤ length bs / 4) wh
       }
 
 -- ---- decoded
+
+pub vec_at-is : (ws : List ℕ) (at : ℕ) → vec_at ws at ≡ vec_of (triple_at ws at)
+unfolding vec_at
+vec_at-is ws at = refl
+
+pub read_record-is : (ws : List ℕ) (at : ℕ) → read_record ws at ≡ record_of (row_at ws at)
+unfolding vec_at
+read_record-is ws at = refl
 
 module _ (n : ℕ) (ws : List ℕ) (at : ℕ) where
   pub record_at-past : leb (at + record_words) (length ws) ≡ false → record_at n ws at ≡ refused n

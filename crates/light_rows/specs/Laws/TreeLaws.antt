@@ -34,6 +34,10 @@ module _ (head right p : ℕ) where
   unfolding node_of
   node_of-interior h = rw (ne_eqb (kind_of head) 1 (λ e. omega arith), eq-eqb (kind_of head) 2 h)
 
+  pub node_of_unknown : (kind_of head ≡ 1 → ⊥) → (kind_of head ≡ 2 → ⊥) → node_of head right p ≡ refused 12
+  unfolding node_of
+  node_of_unknown h k = rw (ne_eqb (kind_of head) 1 h, ne_eqb (kind_of head) 2 k)
+
 module _ (ws : List ℕ) (i : ℕ) where
   pub node_at-room : i < length ws / node_words
       → node_at ws i ≡ node_of (get_or ws (node_place i) 0) (get_or ws (node_place i + 1) 0) (get_or ws
