@@ -280,11 +280,6 @@ entry-cut stack entry {rest} {rest'} k rest-is cut two =
       rw (← step) (sym (ap (drop 2) e ∙ behind) ∙ drop-drop 2 (2 * k) stack),
     )
 
--- what is left at the end is no whole entry
-pub entries-end : (stack : List ℕ) {rest : List ℕ} (k : ℕ) → rest ≡ drop (2 * k) stack → length rest < 2
-    → length stack / 2 ≤ k
-entries-end stack k rest-is few = omega (arith, ap length rest-is, length-drop (2 * k) stack, few)
-
 module _ {bins₀ stack bins : List ℕ} {k : ℕ} (g : Wholing bins₀ stack bins k) where
   module _ {place : ℕ} (more : k < length stack / 2) (is : place ≡ get_or stack (0 + 2 * k + 1) 0) where
     pub whole_in : Left bins₀ stack → 3 * place < length bins
@@ -302,11 +297,6 @@ module _ {bins₀ stack bins : List ℕ} {k : ℕ} (g : Wholing bins₀ stack bi
               rw (g.whole bs rest e (λ j l. s j (omega arith)), is, add-one k)
               (whole_words 0 _ _ rest (rw length-leftover (s k (omega arith)).0));
         }
-
-  pub wholing-all : length stack / 2 ≤ k → Wholed bins₀ stack bins
-  wholing-all end bs rest e s =
-      let n : k ≡ length stack / 2 = omega (arith, g.within, end) in
-      rw n at (g.whole bs rest e (rw n s))
 
 -- all that a stack still holds, in a part of the work
 module _ {m base n : ℕ} {work bins part : List ℕ} {es : List Entry} (bs : List Bin) (rest : List ℕ)

@@ -6,7 +6,7 @@ use mathlib.Core.List.{[], ◌∷◌}
 use native.Mathlib.Omega.{arith}
 use lib.ListN.{length, get_or, drop, length-append}
 use Rattle.std.specs.Slice.Iter.{chunks_exact_rest}
-use Rattle.alias_table.proofs.LoopLaws.{wholing-none, entry-cut, entries-end, whole_in, wholing-next, wholing-all}
+use Rattle.alias_table.proofs.LoopLaws.{wholing-none, entry-cut, whole_in, wholing-next}
 use Rattle.alias_table.proofs.make_whole.Goals as goal
 use Rattle.alias_table.proofs.make_whole.Goals.{In-Some}
 
@@ -40,9 +40,3 @@ loop-entry-preserved c =
       rest = rest;
       wholing = wholing-next c.loop-entry.invariant.wholing more index;
     })
-
-pub returns : goal.returns
-returns c =
-    let end = entries-end _ _ c.loop-entry.invariant.rest
-    (omega (arith, c.in-None.ensures.steps.1.0, c.loop-entry.invariant.size)) in
-    wholing-all c.loop-entry.invariant.wholing end
