@@ -77,6 +77,7 @@ pub fn write_row(block: &mut [u32], row: u32, record: LightBounds)
     }
 }
 
+// By its place: the slice is the caller's, and a part of it would leave `write_row` to say what the rest keeps.
 #[tactic(auto, unfolding(crate::specs::AsCoded::RecordRow::written_at))]
 fn put_row(block: &mut [u32], row: u32, record: LightBounds)
     requires { handle_place row + bounds_words ≤ length block.old }

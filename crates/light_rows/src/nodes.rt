@@ -95,6 +95,7 @@ impl Node {
 
 // ---- writing
 
+// At a place: the slice is the caller's, and a part of it would leave `write_node` to say what the rest keeps.
 #[tactic(auto, unfolding(crate::specs::Nodes::node_list, crate::specs::AsCoded::RecordRow::written_at))]
 fn put_node(words: &mut [u32], at: usize, node: Node, bounds: LightBounds)
     requires head { head_number (node_value node) < 0x4000_0000 }
