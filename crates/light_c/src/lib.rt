@@ -157,7 +157,8 @@ fn draw_code(answer: Result<Option<SampledLight>, Refusal>) -> u64
     ensures { result ≡ draw_code (drawn answer) }
 {
     match answer {
-        Ok(Some(SampledLight { light, pmf })) => u64::from(light) * 0x1_0000_0000 + u64::from(pmf.word()),
+        Ok(Some(SampledLight { light, pmf })) => u64::from(light) * 0x1_0000_0000
+            + u64::from(pmf.word()),
         Ok(None) => 0x4000_0000_0000_0000,
         Err(why) => 0x8000_0000_0000_0000 + u64::from(why.number()),
     }

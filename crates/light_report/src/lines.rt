@@ -57,7 +57,8 @@ fn draw_group(tree: Tree, group: &[u8]) -> Result<Option<Line>, Refusal>
     }
 }
 
-// ---- how it is written, at a place of the lent slice, as `text` writes
+// ---- how it is written, at a place of the lent slice, as `text` writes; each asks for the room of a whole line there,
+// since how long a line is is known only when it is written
 
 // Writes a space and a float's bits; the place behind them.
 fn put_chance(out: &mut [u8], at: usize, x: f32) -> usize

@@ -51,7 +51,8 @@ late TooWide a b c d = omega arith
 pub returns-clause-answer_after : goal.returns-clause-answer_after
 returns-clause-answer_after c = let answer = c.args.answer.now in
     elim c.match-why.branch [
-      | in-Ragged w ↦ w.answer-is ∙ sym (tray-early summary_list answer_reserve answer _ (early c.args.why w.in-Ragged.is))
+      | in-Ragged w ↦ let n = early c.args.why w.in-Ragged.is in
+          w.answer-is ∙ sym (tray-early summary_list answer_reserve answer _ n)
       | in_default w ↦ let d = w.in_default in
           w.answer-is ∙ w.zero_words.ensures
           ∙ tray-zeroed summary_list answer_reserve answer answer _ c.requires refl
