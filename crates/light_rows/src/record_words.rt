@@ -270,8 +270,8 @@ fn words_of_record(record: LightBounds) -> [u32; RECORD_WORDS]
     ]
 }
 
-// Writes the record; where there are too few words nothing is written. At a place: the slice is the caller's, and a part
-// of it would leave each caller to say what the rest keeps.
+// Writes the record; where there are too few words nothing is written. At a place: the slice is the caller's, and a
+// part of it would leave each caller to say what the rest keeps.
 #[tactic(auto, unfolding(crate::specs::AsCoded::RecordRow::written_at))]
 pub fn write_record(words: &mut [u32], at: usize, record: LightBounds)
     ensures { words.new ≡ written_at words.old at «record» }
