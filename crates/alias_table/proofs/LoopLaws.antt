@@ -1,7 +1,7 @@
 -- The game's loops: the turns on their way to the last state; the start, bin by bin; and what is left over. Assumes
 -- nothing.
-use Prim.Native.Nat.{ℕ, zero, suc, ◌+◌, ◌-◌, ◌*◌, ◌≤◌, ◌<◌}
-use mathlib.Core.Path.{◌≡◌, refl, sym, ◌∙◌}
+use Prim.Native.Nat.{ℕ, zero, suc, ◌+◌, ◌-◌, ◌*◌, ◌/◌, ◌≤◌, ◌<◌}
+use mathlib.Core.Path.{◌≡◌, refl, sym, ap, ◌∙◌}
 use mathlib.Core.Bool.{Bool, true, false, cond}
 use mathlib.Core.List.{List, [], ◌∷◌, ◌++◌, map}
 use mathlib.Core.Logic.{◌⊎◌, inl, inr, ⊎_elim}
@@ -11,17 +11,18 @@ use native.Mathlib.Omega.{arith}
 use lib.IntN.{pos}
 use lib.Ieee.{Float, binary32, of_bits, to_bits, of_int, lt}
 use lib.Ieee.Fits.{mul-fits, sub-fits}
-use lib.ListN.{length, get_or, set, take, drop, length-set, length-map, length-append, get_or-map, drop_of_length-le}
-use lib.Seq.{sets, drop-cons, take_all, take-suc, length-take-le}
+use lib.ListN.{length, get_or, set, take, drop, length-set, length-map, length-append, length-drop, get_or-map}
+use lib.ListN.{get_or-append, drop_of_length-le}
+use lib.Seq.{sets, drop-cons, drop-drop, drop-append_seam, take_all, take-suc, length-take-le, get_or-take, get_or-drop}
 use Rattle.ieee.specs.Single.{◌⊕◌, ◌⊖◌, ◌⊗◌, ◌⊘◌, single, zerof, onef}
 use Rattle.words.proofs.RowLaws.{Written, written_none, written_one}
 use Rattle.alias_table.specs.AliasTable.{Bin, Entry, State, none, total, bin, push, push_all, start}
 use Rattle.alias_table.specs.AliasTable.{update, settle, turned, turn, turns, leftover, bin_row, bin_words}
-use Rattle.alias_table.specs.Laws.GameLaws.{turns_stay, push-bins, start-bins, length-update}
+use Rattle.alias_table.specs.Laws.GameLaws.{turns_stay, push-bins, start-bins, length-update, length-leftover}
 use Rattle.alias_table.specs.AsCoded.Stacks.{stack_at, put, top, Stack, Stacks, Game}
-use Rattle.alias_table.specs.AsCoded.Stacks.{Room, Started, Playing, Played, Left, Wholed}
+use Rattle.alias_table.specs.AsCoded.Stacks.{Room, Started, Playing, Played, Sound, Left, Wholed}
 use Rattle.alias_table.proofs.StackLaws.{bin_width, length-bin_words, settle-words, stacks-push}
-use Rattle.alias_table.proofs.StackLaws.{stacks-none, popped, stack_top}
+use Rattle.alias_table.proofs.StackLaws.{stacks-none, popped, stack_top, stack-part, whole_words}
 
 -- ---- the turns
 
@@ -253,12 +254,75 @@ module _ {m : ℕ} {ws : List Float} {sum : Float} {bins₀ work₀ bins work : 
 
 -- ---- what is left over
 
--- all that a stack still holds
-module _ {m base n : ℕ} {work bins : List ℕ} {es : List Entry} (bs : List Bin) (rest : List ℕ)
-    (k : Stack m base work n es)
-    (is : bins ≡ bin_words bs ++ rest) (count : length bs ≡ m) where
-  pub left-of : base + 2 * n ≤ length work → Left bins work base n
-  left-of room = (bs, rest, is, rw count k.sound, room)
+-- the bins of the first k entries of a stack are whole, whichever bins the words were those of
+pub record Wholing (bins₀ stack bins : List ℕ) (k : ℕ) : Type 0 where
+  pub within : k ≤ length stack / 2
+  pub same : length bins ≡ length bins₀
+  pub whole : (bs : List Bin) (bins_rest : List ℕ) → bins₀ ≡ bin_words bs ++ bins_rest → Sound (length bs) 0 stack k
+      → bins ≡ bin_words (leftover (stack_at 0 stack k) bs) ++ bins_rest
 
-  pub wholed-of : {bins' : List ℕ} → Wholed bins work base n bins' → bins' ≡ bin_words (leftover es bs) ++ rest
-  wholed-of w = rw (← k.are) (w bs rest is (rw count k.sound))
+pub wholing-none : {bins stack : List ℕ} → Wholing bins stack bins 0
+unfolding leftover stack_at
+wholing-none = record { within = omega arith; same = refl; whole = λ bs rest e s. e }
+
+-- an entry that is cut off the front of what is left
+pub entry-cut : (stack entry : List ℕ) {rest rest' : List ℕ} (k : ℕ) → rest ≡ drop (2 * k) stack
+    → rest ≡ entry ++ rest' → length entry ≡ 2
+    → (k < length stack / 2) × (get_or entry 1 0 ≡ get_or stack (0 + 2 * k + 1) 0) × (rest' ≡ drop (2 * (k + 1)) stack)
+entry-cut stack entry {rest} {rest'} k rest-is cut two =
+    let e : drop (2 * k) stack ≡ entry ++ rest' = sym rest-is ∙ cut in
+    let step : 2 * k + 2 ≡ 2 * (k + 1) = omega arith in
+    let place : 2 * k + 1 ≡ 0 + 2 * k + 1 = omega arith in
+    let second = get_or-append entry rest' 0 1 (omega (arith, two)) in
+    let behind : drop 2 (entry ++ rest') ≡ rest' = rw two at (drop-append_seam entry rest') in (
+      omega (arith, ap length e, length-drop (2 * k) stack, length-append entry rest', two),
+      rw (← place) (sym second ∙ ap (λ (l : List ℕ). get_or l 1 0) (sym e) ∙ get_or-drop (2 * k) stack 1 0),
+      rw (← step) (sym (ap (drop 2) e ∙ behind) ∙ drop-drop 2 (2 * k) stack),
+    )
+
+module _ {bins₀ stack bins : List ℕ} {k : ℕ} (g : Wholing bins₀ stack bins k) where
+  module _ {place : ℕ} (more : k < length stack / 2) (is : place ≡ get_or stack (0 + 2 * k + 1) 0) where
+    pub whole_in : Left bins₀ stack → 3 * place < length bins
+    whole_in (bs, rest, e, sound) =
+        let long : length bins₀ ≡ 3 * length bs + length rest = rw (e, length-append, length-bin_words) refl in
+        omega (arith, g.same, long, is, (sound k more).0)
+
+    pub wholing-next : Wholing bins₀ stack (set bins (3 * place) 0x3f80_0000) (k + 1)
+    unfolding leftover stack_at
+    wholing-next =
+        record {
+          within = omega (arith, more);
+          same = simp length-set g.same;
+          whole = λ bs rest e s.
+              rw (g.whole bs rest e (λ j l. s j (omega arith)), is, add-one k)
+              (whole_words 0 _ _ rest (rw length-leftover (s k (omega arith)).0));
+        }
+
+-- all that a stack still holds, in a part of the work
+module _ {m base n : ℕ} {work bins part : List ℕ} {es : List Entry} (bs : List Bin) (rest : List ℕ)
+    (k : Stack m base work n es)
+    (is : bins ≡ bin_words bs ++ rest) (count : length bs ≡ m) (room : base + 2 * n ≤ length work)
+    (lent : part ≡ take (2 * n) (drop base work)) where
+  entries : length part / 2 ≡ n
+  entries =
+      let long : length part ≡ 2 * n =
+      ap length lent ∙ length-take-le (2 * n) (drop base work) (omega (arith, length-drop base work, room)) in
+      omega (arith, long)
+
+  same : (i j : ℕ) → j ≡ base + i → i < 2 * n → get_or part i 0 ≡ get_or work j 0
+  same i j e h = rw (lent, e) (get_or-take (2 * n) (drop base work) i 0 h ∙ get_or-drop base work i 0)
+
+  sound-part : Sound (length bs) 0 part n
+  sound-part j h =
+      rw (
+        same (0 + 2 * j + 1) (base + 2 * j + 1) (omega arith) (omega arith),
+        same (0 + 2 * j) (base + 2 * j) (omega arith) (omega arith),
+        count,
+      ) (k.sound j h)
+
+  pub left-of : Left bins part
+  left-of = (bs, rest, is, rw entries sound-part)
+
+  pub wholed-of : {bins' : List ℕ} → Wholed bins part bins' → bins' ≡ bin_words (leftover es bs) ++ rest
+  wholed-of w =
+      rw (← k.are, ← stack-part base n work part same) (rw entries at (w bs rest is (rw entries sound-part)))

@@ -104,6 +104,18 @@ unfolding stack_at
 stack_top base work zero h = absurd (omega arith)
 stack_top base work (suc n) h = let e : suc n - 1 ≡ n = omega arith in rw e
 
+-- the same entries stand in a part of the words
+pub stack-part : (base n : ℕ) (work part : List ℕ)
+    → ((i j : ℕ) → j ≡ base + i → i < 2 * n → get_or part i 0 ≡ get_or work j 0)
+    → stack_at 0 part n ≡ stack_at base work n
+unfolding stack_at
+stack-part base zero work part s = refl
+stack-part base (suc n) work part s =
+    let below = stack-part base n work part (λ i j e h. s i j e (omega arith)) in
+    let weight = s (0 + 2 * n) (base + 2 * n) (omega arith) (omega arith) in
+    let index = s (0 + 2 * n + 1) (base + 2 * n + 1) (omega arith) (omega arith) in
+    rw (weight, index, below)
+
 -- ---- both stacks
 
 pub stacks-none : (m : ℕ) (work : List ℕ) (bs : List Bin) → 4 * m ≤ length work

@@ -11,7 +11,7 @@ use lib.Dec.{T}
 use lib.Ieee.{Float, nan, inf, fin, binary32, binary64, add, lt}
 use lib.Ieee.Scale.{finite}
 use Rattle.std.specs.Float.{float_is_finite}
-use lib.ListN.{length, get_or, drop, length-map, length-replicate, get_or-map, drop_of_length-le}
+use lib.ListN.{length, get_or, drop, length-map, length-replicate, get_or-map, get_or-replicate, drop_of_length-le}
 use lib.Seq.{drop-cons}
 use Rattle.ieee.specs.Single.{single, zerof, onef}
 use Rattle.alias_table.specs.AliasTable.{bad, any_bad, sum_from}
@@ -91,3 +91,10 @@ pub weighted-length : (flat : Bool) (words : List ℕ) → length (weighted flat
 unfolding weighted
 weighted-length true words = length-replicate (length words) onef
 weighted-length false words = length-map words single
+
+-- each by its word
+pub weighted-at : (flat : Bool) (words : List ℕ) (i : ℕ) → i < length words
+    → cond flat onef (single (get_or words i 0)) ≡ get_or (weighted flat words) i zerof
+unfolding weighted
+weighted-at true words i h = sym (get_or-replicate (length words) i onef zerof h)
+weighted-at false words i h = sym (get_or-map single words i 0)

@@ -107,17 +107,14 @@ fn ones(m: usize) -> f64
     s
 }
 
-// The weight at a place; where the weights are flat each is one.
-// Weights and flat are no struct: of one with a slice in it each clause would have to say `weights.entry.words.now`.
-#[tactic(auto, unfolding(crate::specs::AsCoded::Stacks::weighted))]
-fn weight_at(weights: &[u32], flat: bool, i: usize) -> f32
-    requires { i < length weights.now }
-    ensures { result ≡ get_or (weighted flat weights.now) i zerof }
+// The weight that is played for a word: it, or one. The flag that chooses is the definition's own (`weighted`).
+fn played_weight(flat: bool, word: u32) -> f32
+    ensures { result ≡ cond flat onef (single word) }
 {
-    if flat { 1.0 } else { f32::of_word(weights[i]) }
+    if flat { 1.0 } else { f32::of_word(word) }
 }
 
-// The game, from the start to the zeroed work.
+// The game, from the start to the zeroed work. Bins and work are lent apart: each clause says what is left in one.
 fn build(weights: &[u32], flat: bool, sum: f32, bins: &mut [u32], work: &mut [u32])
     requires room { Room (length weights.now) bins.old work.old }
     requires sum_value { sum ≡ total_of (weighted flat weights.now) }
@@ -131,8 +128,8 @@ fn build(weights: &[u32], flat: bool, sum: f32, bins: &mut [u32], work: &mut [u3
     let count = weights.len();
     let first = start(weights, flat, sum, bins, work);
     let last = play(count, bins, work, first);
-    make_whole(bins, work, 0, last.under);
-    make_whole(bins, work, 2 * count, last.over);
+    make_whole(bins, &work[..2 * last.under]);
+    make_whole(bins, &work[2 * count..2 * count + 2 * last.over]);
     zero_words(work, 0, 4 * count);
 }
 
@@ -147,15 +144,16 @@ fn start(weights: &[u32], flat: bool, sum: f32, bins: &mut [u32], work: &mut [u3
     let m = weights.len();
     let count = m as f32;
     let mut heights = Heights { under: 0, over: 0 };
-    for i in 0..m {
-        let p = weight_at(weights, flat, i) / sum;
+    for (i, word) in weights.iter().enumerate() {
+        let p = played_weight(flat, *word) / sum;
         put_bin(bins, 3 * i, p);
         heights.push(m, work, p * count, i as u32);
     }
     heights
 }
 
-// A bin's three words at a place: q zero, p, no alias.
+// A bin's three words at a place: q zero, p, no alias. This, `put_entry` and `settle` write at a place of what is lent:
+// of a part of it each caller would have to say again what the rest keeps.
 fn put_bin(bins: &mut [u32], at: usize, p: f32)
     requires { at + 2 < length bins.old }
     ensures { bins.new ≡ sets bins.old at (0 ∷ to_bits binary32 p ∷ 0xffff_ffff ∷ []) }
@@ -229,13 +227,12 @@ fn settle(bins: &mut [u32], place: u32, q: u32, alias: u32)
     bins[at + 2] = alias;
 }
 
-// What is left on the stack from word `base` on is whole: q is 1.
-fn make_whole(bins: &mut [u32], work: &[u32], base: usize, n: usize)
-    requires { Left bins.old work.now base n }
-    ensures { Wholed bins.old work.now base n bins.new }
+// What is left on a stack is whole: q is 1.
+fn make_whole(bins: &mut [u32], stack: &[u32])
+    requires { Left bins.old stack.now }
+    ensures { Wholed bins.old stack.now bins.new }
 {
-    for k in 0..n {
-        let at = 3 * (work[base + 2 * k + 1] as usize);
-        bins[at] = 0x3f80_0000;
+    for entry in stack.chunks_exact(2) {
+        bins[3 * (entry[1] as usize)] = 0x3f80_0000;
     }
 }

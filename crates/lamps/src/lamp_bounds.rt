@@ -13,7 +13,7 @@ use super::lamp_list::{Lamp, TRIANGLE_WORDS};
 use light_bounds::bounds::{Bounds3, check, greater, lesser};
 use light_bounds::cones::Cone;
 use light_bounds::light_bounds::{LightBounds, are_cosines, union, validate};
-use light_bounds::vecmath::{Vec3, is_finite, is_finite_vec, normalize};
+use light_bounds::vecmath::{Vec3, Z_AXIS, is_finite, is_finite_vec, normalize};
 use light_rows::record_words::vec_at;
 use std::f32::consts::PI;
 use trig::{acos, cos};
@@ -158,11 +158,7 @@ fn point_bounds(position: Vec3, intensity: Emission) -> Result<LightBounds, Refu
     let bounds = point_box(position);
     check(bounds)?;
     let cone = Cone {
-        direction: Vec3 {
-            x: 0.0,
-            y: 0.0,
-            z: 1.0,
-        },
+        direction: Z_AXIS,
         cos_theta: -1.0,
     };
     checked(LightBounds::of_lamp(bounds, cone, intensity.point_phi(), COS_HALF_PI, false))

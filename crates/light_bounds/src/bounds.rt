@@ -16,6 +16,7 @@ pub struct Bounds3 {
 }
 
 // Every coordinate finite (5), no min above its max (6).
+#[tactic(auto, unfolding(crate::specs::Bounds::box_check))]
 pub fn check(b: Bounds3) -> Result<(), Refusal>
     ensures { answered result ≡ box_check b }
 {
@@ -42,6 +43,7 @@ fn is_inverted(b: Bounds3) -> bool
 }
 
 // The box around both, axis by axis.
+#[tactic(auto, unfolding(crate::specs::Bounds::box_union))]
 pub fn union(a: Bounds3, b: Bounds3) -> Bounds3
     ensures { result ≡ box_union a b }
 {
@@ -52,12 +54,14 @@ pub fn union(a: Bounds3, b: Bounds3) -> Bounds3
 }
 
 // The lesser of each axis, and the greater.
+#[tactic(auto, unfolding(crate::specs::Bounds::least_of))]
 pub fn lesser(a: Vec3, b: Vec3) -> Vec3
     ensures { result ≡ least_of a b }
 {
     by_axis(a, b, min)
 }
 
+#[tactic(auto, unfolding(crate::specs::Bounds::greatest_of))]
 pub fn greater(a: Vec3, b: Vec3) -> Vec3
     ensures { result ≡ greatest_of a b }
 {
@@ -70,6 +74,7 @@ pub fn diagonal(b: Bounds3) -> Vec3
     sub(b.max, b.min)
 }
 
+#[tactic(auto, unfolding(crate::specs::Bounds::centroid, crate::specs::Vecmath::plus, crate::specs::Vecmath::scaled))]
 pub fn centroid(b: Bounds3) -> Vec3
     ensures { result ≡ centroid_of b }
 {

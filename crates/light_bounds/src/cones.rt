@@ -7,9 +7,10 @@ ghost use Rattle.light_bounds.specs.Cones.{safe_sqrt, bound_subtended_directions
 ghost use Rattle.light_bounds.specs.Cones.{axis_or, joined, whole_sphere};
 
 use super::bounds::{Bounds3, centroid};
-use super::vecmath::{Vec3, angle_between, cross, dot, normalize, rotate, sub};
+use super::vecmath::{Vec3, Z_AXIS, angle_between, cross, dot, normalize, rotate, sub};
 use floats::choose::{clamp, max, min};
 use floats::sqrt::sqrt as root;
+use std::f32::consts::PI;
 use trig::{acos, cos};
 use words::floats::Float;
 use words::refusals::Refusal;
@@ -21,6 +22,7 @@ pub struct Cone {
     pub cos_theta: f32,
 }
 
+#[tactic(auto, unfolding(crate::specs::Cones::safe_sqrt))]
 pub fn safe_sqrt(value: f32) -> f32
     ensures { result ≡ safe_sqrt value }
 {
@@ -60,10 +62,10 @@ fn union_by_angles(a: Cone, b: Cone) -> Cone
     let theta_a = acos(clamp(a.cos_theta, -1.0, 1.0));
     let theta_b = acos(clamp(b.cos_theta, -1.0, 1.0));
     let theta_d = angle_between(a.direction, b.direction);
-    if min(theta_d + theta_b, 3.1415927) <= theta_a {
+    if min(theta_d + theta_b, PI) <= theta_a {
         return a;
     }
-    if min(theta_d + theta_a, 3.1415927) <= theta_b {
+    if min(theta_d + theta_a, PI) <= theta_b {
         return b;
     }
     join(
@@ -79,7 +81,7 @@ fn union_by_angles(a: Cone, b: Cone) -> Cone
 fn join(a: Vec3, b: Vec3, theta_a: f32, theta_o: f32) -> Cone
     ensures { result ≡ joined a b theta_a theta_o }
 {
-    if theta_o >= 3.1415927 {
+    if theta_o >= PI {
         return everywhere();
     }
     let axis = cross(a, b);
@@ -96,11 +98,7 @@ fn everywhere() -> Cone
     ensures { result ≡ whole_sphere }
 {
     Cone {
-        direction: Vec3 {
-            x: 0.0,
-            y: 0.0,
-            z: 1.0,
-        },
+        direction: Z_AXIS,
         cos_theta: -1.0,
     }
 }
@@ -108,12 +106,5 @@ fn everywhere() -> Cone
 fn unit_or_z(unit: Result<Vec3, Refusal>) -> Vec3
     ensures { result ≡ axis_or (answered unit) }
 {
-    match unit {
-        Ok(u) => u,
-        Err(_) => Vec3 {
-            x: 0.0,
-            y: 0.0,
-            z: 1.0,
-        },
-    }
+    unit.unwrap_or(Z_AXIS)
 }

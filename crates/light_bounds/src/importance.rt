@@ -45,6 +45,7 @@ pub struct Prepared {
     pub normal: Option<Result<Vec3, Refusal>>,
 }
 
+#[tactic(auto, unfolding(crate::specs::AsCoded::Weighing::prepared))]
 pub fn prepare(query: Query) -> Prepared
     ensures { result ≡ prepared query }
 {
@@ -102,6 +103,7 @@ enum View {
 }
 
 // The power enters here alone.
+#[tactic(auto, unfolding(crate::specs::Importance::finish))]
 fn finished(phi: f32, view: View) -> f32
     ensures { result ≡ finish phi (seen view) }
 {
@@ -184,12 +186,14 @@ fn with_unit(
 // ---- angles
 
 // The sine of an angle by its cosine.
-fn sine(c: f32) -> f32
+#[tactic(auto, unfolding(crate::specs::Importance::sine))]
+pub fn sine(c: f32) -> f32
     ensures { result ≡ sine_of c }
 {
     safe_sqrt(1.0 - c * c)
 }
 
+#[tactic(auto, unfolding(crate::specs::Importance::cos_w))]
 fn cos_w(record: LightBounds, wi: Vec3) -> f32
     ensures { result ≡ cos_w «record» wi }
 {
@@ -213,6 +217,7 @@ fn smallest_angle(record: LightBounds, wi: Vec3, cos_b: f32) -> f32
 }
 
 // The cosine of an angle less the box's.
+#[tactic(auto, unfolding(crate::specs::Cones::cos_sub_clamped))]
 fn less_the_box(sin_x: f32, cos_x: f32, cos_b: f32) -> f32
     ensures { result ≡ cos_sub_clamped sin_x cos_x (sine_of cos_b) cos_b }
 {
@@ -223,7 +228,8 @@ fn less_the_box(sin_x: f32, cos_x: f32, cos_b: f32) -> f32
     }
 }
 
-// The normal's factor, by the cosine between it and the direction.
+// The normal's factor, by the cosine between it and the direction: the same steps, but that the first sine too is taken
+// only where it is needed. As a closure it would have no value to state where it is not taken.
 fn facing(c: f32, cos_b: f32) -> f32
     ensures { result ≡ normal_factor c cos_b }
 {

@@ -67,6 +67,7 @@ pub fn validate(record: LightBounds) -> Result<(), Refusal>
     validate_cone(record)
 }
 
+#[tactic(auto, unfolding(crate::specs::LightBounds::cone_check))]
 fn validate_cone(record: LightBounds) -> Result<(), Refusal>
     ensures { answered result ≡ cone_check «record» }
 {

@@ -8,7 +8,7 @@ pub struct Side {
     pub two_sided: bool,
 }
 
-// Whether a word is a side: 0 or 1.
+// Whether a word is a side: 0 or 1. A test apart from the reading, since a record past the end is read unjudged.
 pub fn is_side(w: u32) -> bool
     ensures { result ≡ side_known w }
 {
@@ -29,7 +29,7 @@ impl From<Side> for u32 {
     ghost from_gives = { λ side w. w ≡ side_word side };
 
     fn from(side: Side) -> u32 {
-        if side.two_sided { 1 } else { 0 }
+        u32::from(side.two_sided)
     }
 }
 

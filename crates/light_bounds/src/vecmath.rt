@@ -8,6 +8,7 @@ ghost use Rattle.light_bounds.specs.Vecmath.{normalize as normalize_of, finite_v
 ghost use Rattle.light_bounds.specs.Vecmath.{rotate as rotate_of, angle_between, vec_length};
 
 use floats::sqrt::sqrt as root;
+use std::f32::consts::PI;
 use trig::{asin, cos, sin};
 use words::refusals::Refusal;
 
@@ -17,6 +18,13 @@ pub struct Vec3 {
     pub y: f32,
     pub z: f32,
 }
+
+// The direction of a record that has none of its own.
+pub const Z_AXIS: Vec3 = Vec3 {
+    x: 0.0,
+    y: 0.0,
+    z: 1.0,
+};
 
 pub fn is_finite(x: f32) -> bool
     ensures { result ≡ finite x }
@@ -30,6 +38,7 @@ pub fn is_finite_vec(v: Vec3) -> bool
     is_finite(v.x) && (is_finite(v.y) && is_finite(v.z))
 }
 
+#[tactic(auto, unfolding(crate::specs::Vecmath::dot))]
 pub fn dot(a: Vec3, b: Vec3) -> f32
     ensures { result ≡ dot_of a b }
 {
@@ -62,6 +71,7 @@ pub(crate) fn by_axis<F: Fn(f32, f32) -> f32>(a: Vec3, b: Vec3, f: F) -> Vec3
     }
 }
 
+#[tactic(auto, unfolding(crate::specs::Vecmath::cross))]
 pub fn cross(a: Vec3, b: Vec3) -> Vec3
     ensures { result ≡ cross_of a b }
 {
@@ -82,6 +92,7 @@ pub fn scale_vector(v: Vec3, scale: f32) -> Vec3
     }
 }
 
+#[tactic(auto, unfolding(crate::specs::Vecmath::divided))]
 pub fn divide_vector(v: Vec3, divisor: f32) -> Vec3
     ensures { result ≡ divided v divisor }
 {
@@ -92,6 +103,7 @@ pub fn divide_vector(v: Vec3, divisor: f32) -> Vec3
     }
 }
 
+#[tactic(auto, unfolding(crate::specs::Vecmath::vec_length))]
 pub fn length(v: Vec3) -> f32
     ensures { result ≡ vec_length v }
 {
@@ -145,7 +157,7 @@ pub fn angle_between(a: Vec3, b: Vec3) -> f32
     ensures { result ≡ angle_between a b }
 {
     if dot(a, b) < 0.0 {
-        3.1415927 - 2.0 * asin(length(add(a, b)) / 2.0)
+        PI - 2.0 * asin(length(add(a, b)) / 2.0)
     } else {
         2.0 * asin(length(sub(b, a)) / 2.0)
     }

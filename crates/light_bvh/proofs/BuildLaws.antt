@@ -1,6 +1,6 @@
 -- Laws of the build's checks and loops: which reserves are short, what the checks give and refuse, and one row or one
 -- node more in each loop. Assumes nothing.
-use Prim.Native.Nat.{ℕ, zero, suc, ◌+◌, ◌-◌, ◌≤◌, ◌<◌, zero-le}
+use Prim.Native.Nat.{ℕ, zero, suc, ◌+◌, ◌-◌, ◌/◌, ◌≤◌, ◌<◌, zero-le}
 use mathlib.Core.Path.{◌≡◌, refl, ap, subst, sym, ◌∙◌}
 use mathlib.Core.Bool.{Bool, true, false, cond, ◌&&◌, ◌||◌}
 use mathlib.Core.List.{List, [], ◌∷◌, ◌++◌, append-nil}
@@ -10,7 +10,6 @@ use native.Mathlib.Omega.{arith}
 use borrow.Author.Tests.{ltb-false, eq-eqb, ne_eqb, eqb-true}
 use lib.Dec.{T, eqb, ltb}
 use lib.ListN.{length, get_or, set, length-append, length-set}
-use lib.Seq.{set_out}
 use Rattle.words.specs.Answers.{Answer, given, refused, ◌then◌}
 use Rattle.words.specs.AsCoded.Fill.{filled}
 use Rattle.words.specs.Heads.{kind_of, handle_of}
@@ -26,7 +25,8 @@ use Rattle.light_bounds.specs.declared.bounds.Bounds3.{Bounds3}
 use Rattle.light_bounds.specs.LightBounds.{validate}
 use Rattle.light_bounds.proofs.LateLaws.{late-validate}
 use Rattle.light_rows.specs.Block.{block_words, side_at, handle_at, block_layout, block_handles}
-use Rattle.light_rows.specs.Nodes.{node_place}
+use Rattle.light_rows.specs.Nodes.{LightBVHNode, leaf, interior, node_words, node_place, node_of, node_at}
+use Rattle.light_rows.specs.Laws.TreeLaws.{node_at-room}
 use Rattle.light_split.specs.Lights.{light_of}
 use Rattle.words.specs.AsCoded.ListParts.{laid}
 use Rattle.words.proofs.ListLaws.{laid_next}
@@ -220,16 +220,31 @@ module _ (ws : List ℕ) (i : ℕ) (table : List ℕ) where
   unfolding tabled_below
   tabled-leaf e = rw (add-one i, eq-eqb (kind_of (get_or ws (node_place i) 0)) 1 e)
 
-  pub tabled-past : kind_of (get_or ws (node_place i) 0) ≡ 1 →
-      length (tabled_below ws i table) ≤ handle_of (get_or ws (node_place i) 0)
-      → tabled_below ws (i + 1) table ≡ tabled_below ws i table
-  tabled-past e h = tabled-leaf e ∙ set_out (tabled_below ws i table) (handle_of (get_or ws (node_place i) 0)) i h
-
   pub tabled-other : (kind_of (get_or ws (node_place i) 0) ≡ 1 → ⊥)
       → tabled_below ws (i + 1) table ≡ tabled_below ws i
       table
   unfolding tabled_below
   tabled-other e = rw (add-one i, ne_eqb (kind_of (get_or ws (node_place i) 0)) 1 e)
+
+-- a node more: its place at its label where it is a leaf
+abbrev pub labelled : Answer LightBVHNode → ℕ → List ℕ → List ℕ
+labelled (given (leaf h p)) i table = set table h i
+labelled (given (interior l r p)) i table = table
+labelled (refused n) i table = table
+
+by-kind : (a b : Bool) (h r p i : ℕ) (before : List ℕ) → cond a (set before h i) before ≡
+    labelled (cond a (given (leaf h p)) (cond b (given (interior h r p)) (refused 12))) i before
+by-kind true b h r p i before = refl
+by-kind false true h r p i before = refl
+by-kind false false h r p i before = refl
+
+pub tabled-node : (ws : List ℕ) (i : ℕ) (table : List ℕ) → i < length ws / node_words
+    → tabled_below ws (i + 1) table ≡ labelled (node_at ws i) i (tabled_below ws i table)
+unfolding tabled_below node_of
+tabled-node ws i table h =
+    let head = get_or ws (node_place i) 0 in
+    rw (add-one i, node_at-room ws i h)
+    (by-kind (eqb (kind_of head) 1) (eqb (kind_of head) 2) (handle_of head) _ _ i (tabled_below ws i table))
 
 -- ---- the whole
 

@@ -1,7 +1,7 @@
 -- What `build_rows` comes to and leaves, where no row is powered (`rows_none`), where there is a tree (`rows-tree`) and
 -- where a union is lost (`rows_lost`). What the code lends is the front of each slice, so what is behind the reserves
 -- stays whatever the call leaves in front (`behind`). Assumes nothing.
-use Prim.Native.Nat.{ℕ, ◌+◌, ◌*◌, ◌-◌, ◌≤◌, ◌<◌}
+use Prim.Native.Nat.{ℕ, ◌+◌, ◌*◌, ◌-◌, ◌/◌, ◌≤◌, ◌<◌}
 use mathlib.Core.Path.{◌≡◌, refl, ap, sym, ◌∙◌}
 use mathlib.Core.List.{List, [], ◌∷◌, ◌++◌, append_assoc}
 use mathlib.Core.Option.{Option, none, some}
@@ -124,14 +124,14 @@ module _ (ws : List ℕ) (m : ℕ) (t : Tree) where
       (omega (arith, length-flatten 0 invalid_index t)) (omega arith) room
 
   -- the table: what is behind the reserve stays
-  pub table-tray : (before ss : List ℕ) → Labels (λ (h : ℕ). h < m) t → m ≤ 4096
-      → tabled_below (tree_words t ++ ss) (2 * leaves t - 1) (replicate m invalid_index ++ drop m before)
+  pub table-tray : (before : List ℕ) → Labels (λ (h : ℕ). h < m) t → m ≤ 4096
+      → tabled_below (tree_words t) (2 * leaves t - 1) (replicate m invalid_index ++ drop m before)
       ≡ tray table_written m (given (tree_for ws m t)) before
   unfolding table_written
-  table-tray before ss small few =
+  table-tray before small few =
       let xs = replicate m invalid_index in
       let size : length xs ≡ m = length-replicate m invalid_index in
-      tabled-front-tree t ss (xs ++ drop m before)
+      tabled-front-tree t (xs ++ drop m before)
       (labels-map {P = λ (h : ℕ). h < m} {Q = Thirty} (λ h l. omega arith) t small)
       ∙ tabled-front m 0 t xs (drop m before) size small
       ∙ sym (tray-full table_written m before (tree_for ws m t) (length-tabled 0 t xs ∙ size))
@@ -266,7 +266,7 @@ module _ {ws : List ℕ} {m : ℕ} {nodes table work table' : List ℕ} {k : ℕ
   work-rest : drop (work_reserve m) (wx ++ drop (k - 0) work) ≡ drop (work_reserve m) work
   work-rest = let g = l.gathered in behind wx work (k - 0) work-here (work_reserve m) (omega (arith, g.within))
 
-  nodes-here : length nx ≡ end_of k - 0
+  pub nodes-here : length nx ≡ end_of k - 0
   nodes-here = l.same_nodes ∙ nodes-front l.gathered ∙ omega arith
 
   pub nodes-size : length (nx ++ drop (end_of k - 0) nodes) ≡ length nodes
@@ -323,65 +323,53 @@ module _ {ws : List ℕ} {m : ℕ} {nodes table work table' : List ℕ} {k : ℕ
         en ∙ rw (whole, z) (nodes-tray ws m t nodes (end_of k) (omega (arith, l.some)) (omega (arith, g.within))
         g.room-nodes)
 
-    -- the tree's words stand in front
-    tree-first : {nodes'' : List ℕ} → nodes'' ≡ tray nodes_written (nodes_reserve m) (given (tree_for ws m t)) nodes
-        → nodes'' ≡ tree_words t ++ (replicate (nodes_reserve m - length (tree_words t)) 0 ++ drop
-        (nodes_reserve m) nodes)
-    unfolding tray nodes_written
-    tree-first is =
-        is ∙ append_assoc (tree_words t) (replicate (nodes_reserve m - length (tree_words t)) 0)
-        (drop (nodes_reserve m) nodes)
-
-    table-left : {nodes'' table'' table''' : List ℕ} →
-        nodes'' ≡ tray nodes_written (nodes_reserve m) (given (tree_for ws m t)) nodes
+    table-left : {table'' table''' : List ℕ} → nx ≡ tree_words t
         → table'' ≡ filled (hx ++ drop (k - 0) table') 0 m invalid_index
-        → table''' ≡ tabled_below nodes''
-        (2 * k - 1) table''
+        → table''' ≡ tabled_below nx (2 * k - 1) table''
         → table''' ≡ tray table_written m (given (tree_for ws m t)) table
-    table-left en et el =
+    table-left whole et el =
         let g = l.gathered in
         let hs = bounded_handles ws m in
         let small = labels-below ws m g.checked (length hs) hs t (bounded-below ws m) e in
         let cleared = valued (hx ++ drop (k - 0) table') (drop m table) m invalid_index
         (omega (arith, table-size, g.room-table)) table-rest in
-        el ∙ rw (tree-first en, et ∙ cleared, ← size) (table-tray ws m t table _ small g.few)
+        el ∙ rw (whole, et ∙ cleared, ← size) (table-tray ws m t table small g.few)
 
     tree-left : {nodes'' table'' table''' work'' : List ℕ} → nx ≡ tree_words t
-        → nodes'' ≡ filled (nx ++ drop (end_of k - 0) nodes) (end_of k) (nodes_reserve m) 0 → table'' ≡
-        filled (hx ++ drop (k - 0) table') 0 m invalid_index
-        → table''' ≡ tabled_below nodes'' (2 * k - 1) table''
-        → work'' ≡ filled (wx ++ drop (k - 0) work) 0
-        (work_reserve m) 0
+        → table'' ≡ filled (hx ++ drop (k - 0) table') 0 m invalid_index
+        → table''' ≡ tabled_below nx (2 * k - 1) table''
+        → nodes'' ≡ filled (nx ++ drop (end_of k - 0) nodes) (end_of k) (nodes_reserve m) 0
+        → work'' ≡ filled (wx ++ drop (k - 0) work) 0 (work_reserve m) 0
         → (box : Bounds3) → some box ≡ all_bounds ws m
-        → Done ws m nodes table work (given (
-          k,
-          some box,
-        )) nodes'' table'''
-        work''
-    tree-left whole en et el ew box is =
+        → Done ws m nodes table work (given (k, some box)) nodes'' table''' work''
+    tree-left whole et el en ew box is =
         let g = l.gathered in
-        let tree = nodes-left whole en in
         let clean = tray-empty work_written (work_reserve m) work (tree_for ws m t) _ refl
         (omega (arith, work-size, g.room_work)) work-rest in
-        rw (built-tree ws m any t e) (rw (← g.count, ← is) refl, (tree, (table-left tree et el, ew ∙ clean)))
+        rw (built-tree ws m any t e)
+        (rw (← g.count, ← is) refl, (nodes-left whole en, (table-left whole et el, ew ∙ clean)))
+
+  -- the nodes that were built are read for the table
+  pub nodes-built : take (end_of k) (nx ++ drop (end_of k - 0) nodes) ≡ nx
+  nodes-built = take_at nx (drop (end_of k - 0) nodes) (end_of k) (nodes-here ∙ omega arith)
 
   pub rows-tree : given tt ≡ done (build_subtree ws (length (take (k - 0) table')) (take (k - 0) table'))
-      → nx ≡ subtree_words 0 invalid_index (build_subtree ws (length (take (k - 0) table')) (take (k - 0) table'))
-      nx → {nodes'' table'' table''' work'' : List ℕ}
-      → nodes'' ≡ filled (nx ++ drop (end_of k - 0) nodes) (end_of k) (nodes_reserve m) 0 → table'' ≡
-      filled (hx ++ drop (k - 0) table') 0 m invalid_index
-      → table''' ≡ tabled_below nodes'' (2 * k - 1) table''
-      → work'' ≡ filled (wx ++ drop (k - 0) work) 0
-      (work_reserve m) 0
-      → (box : Bounds3) → some box ≡ all_bounds ws m → Done ws m nodes table work (given (k, some box)) nodes'' table'''
-      work''
-  rows-tree told words en et el ew box is =
+      → nx ≡ subtree_words 0 invalid_index (build_subtree ws (length (take (k - 0) table')) (take (k - 0) table')) nx
+      → {nodes'' table'' table''' work'' : List ℕ}
+      → table'' ≡ filled (hx ++ drop (k - 0) table') 0 m invalid_index
+      → table''' ≡ tabled_below nx (length nx / node_words) table''
+      → nodes'' ≡ filled (nx ++ drop (end_of k - 0) nodes) (end_of k) (nodes_reserve m) 0
+      → work'' ≡ filled (wx ++ drop (k - 0) work) 0 (work_reserve m) 0
+      → (box : Bounds3) → some box ≡ all_bounds ws m
+      → Done ws m nodes table work (given (k, some box)) nodes'' table''' work''
+  rows-tree told words et el en ew box is =
       let hs = bounded_handles ws m in
       let front = front-is l.gathered in
       let (t, e) = given-of (build_subtree ws (length hs) hs) (done-moved ws (take (k - 0) table') hs _ front told) in
       let whole = words-moved ws (take (k - 0) table') hs 0 invalid_index nx front words ∙
       ap (λ (x : Answer Tree). subtree_words 0 invalid_index x nx) e in
-      tree-left t e whole en et el ew box is
+      let count : length nx / node_words ≡ 2 * k - 1 = omega (arith, nodes-here) in
+      tree-left t e whole et (rw count at el) en ew box is
 
   -- where there is a tree there is a box
   pub rows-boxed : (box : Bounds3) × (all_bounds ws m ≡ some box)

@@ -2,8 +2,8 @@
 -- label, as the definition does leaf by leaf (`tabled-tree`), and only in front of what is behind the labels
 -- (`tabled-front`). By induction on the tree, over words that are given whole. Assumes nothing.
 use Prim.Native.Nat.{ℕ, suc, ◌+◌, ◌*◌, ◌-◌, ◌<◌}
-use mathlib.Core.Path.{◌≡◌, refl, ap, ◌∙◌}
-use mathlib.Core.List.{List, [], ◌∷◌, ◌++◌, append_assoc}
+use mathlib.Core.Path.{◌≡◌, refl, ap, sym, ◌∙◌}
+use mathlib.Core.List.{List, [], ◌∷◌, ◌++◌, append_assoc, append-nil}
 use native.Mathlib.Numerals.{add-one}
 use native.Mathlib.Omega.{arith}
 use lib.ListN.{length, get_or, set, length-set}
@@ -89,12 +89,13 @@ tabled-tree ws table (fork b l r) ps ss at p is place small =
     ∙ ap (λ (i : ℕ). tabled i l (tabled_below ws at table)) (add-one at))
 
 -- from the front
-pub tabled-front-tree : (t : Tree) (ss table : List ℕ) → Labels Thirty t →
-    tabled_below (tree_words t ++ ss) (2 * leaves t - 1) table ≡ tabled 0 t table
+pub tabled-front-tree : (t : Tree) (table : List ℕ) → Labels Thirty t →
+    tabled_below (tree_words t) (2 * leaves t - 1) table ≡ tabled 0 t table
 unfolding tabled_below
-tabled-front-tree t ss table small =
+tabled-front-tree t table small =
     let e : 0 + (2 * leaves t - 1) ≡ 2 * leaves t - 1 = omega arith in
-    rw e at (tabled-tree (tree_words t ++ ss) table t [] ss 0 0xffff_ffff refl refl small)
+    let whole : tree_words t ≡ [] ++ tree_words t ++ [] = sym (append-nil (tree_words t)) in
+    rw e at (tabled-tree (tree_words t) table t [] [] 0 0xffff_ffff whole refl small)
 
 -- ---- the table's words
 

@@ -1,10 +1,11 @@
 // `build_light_bvh` (specs/Build.antt): a bounds block in, the nodes and the handle table out. The handles of the
 // powered lamps stand in the table's words while the tree is built; the work is what their stretches are parted by.
-ghost use Rattle.std.specs.Prelude.{◌≡◌, ◌≤◌, length, get_or};
+ghost use Rattle.std.specs.Prelude.{◌≡◌, ◌*◌, ◌/◌, ◌≤◌, length, get_or};
 ghost use Rattle.words.specs.Answers.{given, answered, optional};
 ghost use Rattle.words.specs.AsCoded.Fill.{filled};
 ghost use Rattle.words.specs.Tray.{tray};
 ghost use Rattle.words.specs.AsCoded.ListParts.{laid};
+ghost use Rattle.light_rows.specs.Nodes.{node_words, max_nodes};
 ghost use Rattle.light_bvh.specs.Build.{is_powered, bounded_handles, grown, all_bounds as powered_box, validated};
 ghost use Rattle.light_bvh.specs.Build.{built_bvh, nodes_reserve, work_reserve, is_short, build_check, build_light_bvh};
 ghost use Rattle.light_bvh.specs.Build.{nodes_written, table_written, work_written, summary, built};
@@ -14,9 +15,8 @@ use super::subtree::build_subtree;
 use light_bounds::bounds::{Bounds3, union};
 use light_bounds::light_bounds::validate;
 use light_rows::block::{check_handles, check_layout, light, light_box, light_phi};
-use light_rows::nodes::{INVALID_INDEX, NODE_WORDS, head_at};
+use light_rows::nodes::{INVALID_INDEX, NODE_WORDS, Node, node_at};
 use words::fill::{fill, zero_words};
-use words::heads::{handle_of, kind_of};
 use words::places::{wide, word_or_zero};
 use words::refusals::Refusal;
 
@@ -96,7 +96,8 @@ fn is_powered(block: &[u32], handle: u32) -> bool
     light_phi(block, handle) > 0.0
 }
 
-// Their handles, in order, to the front of the slice, and how many they are.
+// Their handles, in order, to the front of the slice, and how many they are. k counts what is kept and is the answer; a
+// filter's place would leave the count to a second pass.
 fn gather_handles(block: &[u32], handles: &mut [u32]) -> usize
     requires { get_or block.now 0 0 ≤ length handles.old }
     ensures value { result ≡ length (bounded_handles block.now (get_or block.now 0 0)) }
@@ -148,17 +149,17 @@ fn zero_reserves(rows: u32, nodes: &mut [u32], table: &mut [u32], work: &mut [u3
     zero_words(work, 0, work_reserve(rows));
 }
 
-// Writes each leaf's place at its label, by a pass over the first n nodes. A head's kind is two bits of its word, so it
-// is read as a number, as it is written.
-fn table_leaves(nodes: &[u32], n: u32, table: &mut [u32])
-    ensures { table.new ≡ tabled_below nodes.now n table.old }
+// Writes each leaf's place at its label, by a pass over the nodes. The length is tested, since `get_mut` of a slice
+// promises nothing of the slice but its length.
+fn table_leaves(nodes: &[u32], table: &mut [u32])
+    requires { length nodes.now ≤ node_words * max_nodes }
+    ensures { table.new ≡ tabled_below nodes.now (length nodes.now / node_words) table.old }
 {
-    for i in 0..n {
-        let head = head_at(nodes, i);
-        if kind_of(head) == 1 {
-            let handle = wide(handle_of(head));
+    for place in 0..(nodes.len() / NODE_WORDS) as u32 {
+        if let Ok(Node::Leaf { light_handle, .. }) = node_at(nodes, wide(place)) {
+            let handle = wide(light_handle);
             if handle < table.len() {
-                table[handle] = i;
+                table[handle] = place;
             }
         }
     }
@@ -201,9 +202,9 @@ fn build_rows(
         zero_reserves(m, nodes, table, work);
         return Err(why);
     }
-    zero_words(nodes, end, nodes_reserve(m));
     fill(table, 0, wide(m), INVALID_INDEX);
-    table_leaves(nodes, 2 * k as u32 - 1, table);
+    table_leaves(&nodes[..end], table);
+    zero_words(nodes, end, nodes_reserve(m));
     zero_words(work, 0, work_reserve(m));
     Ok(all_bounds(block).map(|bounds| Built { powered: k, bounds }))
 }

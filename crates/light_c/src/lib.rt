@@ -70,17 +70,17 @@ fn write_summary(answer: &mut [u32], built: Built)
     ]);
 }
 
-// The refusal's number; one after 4 zeroes the answer.
+// The refusal's number; but for the four that leave the lent words as they are, it zeroes the answer.
 fn refuse_build(answer: &mut [u32], why: Refusal) -> u32
     requires { answer_reserve ≤ length answer.old }
     ensures value { result ≡ number why }
     ensures answer_after { answer.new ≡ tray summary_list answer_reserve (refused (number why)) answer.old }
 {
-    let n = why.number();
-    if n > 4 {
-        zero_words(answer, 0, ANSWER_WORDS);
+    match why {
+        Refusal::Ragged | Refusal::Crowded | Refusal::ShortTray | Refusal::Misplaced => {}
+        _ => zero_words(answer, 0, ANSWER_WORDS),
     }
-    n
+    why.number()
 }
 
 // The number where the answer is short: the refusals before it come first.
@@ -157,9 +157,10 @@ fn draw_code(answer: Result<Option<SampledLight>, Refusal>) -> u64
     ensures { result ≡ draw_code (drawn answer) }
 {
     match answer {
-        Ok(Some(SampledLight { light, pmf })) => light as u64 * 0x1_0000_0000 + pmf.word() as u64,
+        Ok(Some(SampledLight { light, pmf })) => u64::from(light) * 0x1_0000_0000
+            + u64::from(pmf.word()),
         Ok(None) => 0x4000_0000_0000_0000,
-        Err(why) => 0x8000_0000_0000_0000 + why.number() as u64,
+        Err(why) => 0x8000_0000_0000_0000 + u64::from(why.number()),
     }
 }
 
@@ -184,8 +185,8 @@ pub fn value_code(answer: Result<f32, Refusal>) -> u64
     ensures { result ≡ value_code (answered answer) }
 {
     match answer {
-        Ok(x) => x.word() as u64,
-        Err(why) => 0x1_0000_0000 + why.number() as u64,
+        Ok(x) => u64::from(x.word()),
+        Err(why) => 0x1_0000_0000 + u64::from(why.number()),
     }
 }
 
@@ -226,7 +227,7 @@ fn packed_code(answer: Result<Option<usize>, Refusal>) -> u64
     match answer {
         Ok(Some(n)) => n as u64,
         Ok(None) => 0x1_0000_0000,
-        Err(why) => 0x2_0000_0000 + why.number() as u64,
+        Err(why) => 0x2_0000_0000 + u64::from(why.number()),
     }
 }
 

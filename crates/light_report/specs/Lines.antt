@@ -31,7 +31,7 @@ unfoldable pub named : List ℕ → List ℕ → Query → Draw → Answer Shown
 named nodes table q none = given none
 named nodes table q (some d) = pmf nodes table q d.0 then λ (chance : Float). given (some (d.0, (d.1, chance)))
 
-unfoldable pub shown : List ℕ → List ℕ → Query → Float → Answer Shown
+abbrev pub shown : List ℕ → List ℕ → Query → Float → Answer Shown
 shown nodes table q u = sample nodes q u then named nodes table q
 
 -- a group's words: p, n, u

@@ -17,8 +17,8 @@ ghost use Rattle.light_report.specs.AsCoded.Written.{powered, sizes, taken};
 ghost use Rattle.light_report.specs.AsCoded.Written.{front_bytes, first_lines, node_bytes};
 ghost use Rattle.light_report.specs.AsCoded.Written.{table_bytes, chunk_lines, Opens};
 
-use light_bvh::build::build_light_bvh;
-use light_rows::block::EXHAUSTIVE_BOUNDS_WORDS;
+use light_bvh::build::{build_light_bvh, nodes_reserve};
+use light_rows::block::{EXHAUSTIVE_BOUNDS_WORDS, block_words};
 use light_rows::nodes::NODE_WORDS;
 use lines::{GROUP_BYTES, LINE_BYTES, Tree, put_lines};
 use text::{put_refused, put_text, put_words};
@@ -31,7 +31,8 @@ use words::refusals::Refusal;
 // Lamps of a report's block.
 const REPORT_LAMPS: usize = 512;
 
-// The words that they take of a block and of a tree's nodes.
+// The words that they take of a block and of a tree's nodes. A constant's value can't call `block_words`, nor
+// `nodes_reserve`.
 const BLOCK_WORDS: usize = 1 + EXHAUSTIVE_BOUNDS_WORDS * REPORT_LAMPS;
 
 const NODES_WORDS: usize = NODE_WORDS * (2 * REPORT_LAMPS - 1);
@@ -64,7 +65,7 @@ struct WalkedTree {
 // How many lamps a tree has, and how many of them have power.
 #[derive(Clone, Copy)]
 struct Taken {
-    lamps: usize,
+    lamps: u32,
     powered: usize,
 }
 
@@ -74,26 +75,26 @@ fn front_bytes(head: &[u8]) -> usize
     ensures value { result ≡ front_bytes head.now }
     ensures lower_bound { (4 ≤ result) × (result ≤ 28676) }
 {
-    let lamps = wide(word_at(head, 0));
-    if lamps > REPORT_LAMPS {
+    let lamps = word_at(head, 0);
+    if wide(lamps) > REPORT_LAMPS {
         return 4;
     }
-    4 * (1 + EXHAUSTIVE_BOUNDS_WORDS * lamps)
+    4 * block_words(lamps)
 }
 
 // How many lamps the block has.
 #[tactic(auto, unfolding(crate::specs::Report::block_lamps))]
-fn block_lamps(input: &[u8]) -> Result<usize, Refusal>
+fn block_lamps(input: &[u8]) -> Result<u32, Refusal>
     ensures { answered result ≡ block_lamps input.now }
 {
     if input.len() < 4 {
         return Err(Refusal::Ragged);
     }
-    let lamps = wide(word_at(input, 0));
-    if REPORT_LAMPS < lamps {
+    let lamps = word_at(input, 0);
+    if REPORT_LAMPS < wide(lamps) {
         return Err(Refusal::Crowded);
     }
-    if input.len() < 4 * (1 + EXHAUSTIVE_BOUNDS_WORDS * lamps) {
+    if input.len() < 4 * block_words(lamps) {
         return Err(Refusal::Ragged);
     }
     Ok(lamps)
@@ -108,7 +109,8 @@ fn read_words(bytes: &[u8], words: &mut [u32])
 }
 
 // Builds the tree of the block's words; how many lamps have power.
-fn build_tree(lamps: usize, room: &mut Room) -> Result<usize, Refusal>
+#[tactic(auto, unfolding(crate::specs::Report::tree_of, crate::specs::AsCoded::Written::powered))]
+fn build_tree(lamps: u32, room: &mut Room) -> Result<usize, Refusal>
     requires { lamps ≤ 512 }
     ensures result_value { answered result
         ≡ powered (summary (tree_of lamps (take (block_words lamps) room.old.block))) }
@@ -119,22 +121,24 @@ fn build_tree(lamps: usize, room: &mut Room) -> Result<usize, Refusal>
         ≡ tray table_written (get_or (take (block_words lamps) room.old.block) 0 0)
         (tree_of lamps (take (block_words lamps) room.old.block)) room.old.table }
 {
-    let words = 1 + EXHAUSTIVE_BOUNDS_WORDS * lamps;
     let Room {
         block,
         nodes,
         table,
         work,
     } = room;
-    match build_light_bvh(lamps, &block[..words], nodes, table, work) {
-        Ok(Some(built)) => Ok(built.powered),
-        Ok(None) => Ok(0),
-        Err(why) => Err(why),
-    }
+    let built = build_light_bvh(
+        wide(lamps),
+        &block[..block_words(lamps)],
+        nodes,
+        table,
+        work,
+    )?;
+    Ok(built.map_or(0, |built| built.powered))
 }
 
 // The same from the block's bytes.
-fn make_tree(lamps: usize, input: &[u8], room: &mut Room) -> Result<usize, Refusal>
+fn make_tree(lamps: u32, input: &[u8], room: &mut Room) -> Result<usize, Refusal>
     requires { (lamps ≤ 512) × (block_bytes lamps ≤ length input.now) }
     ensures result_value { answered result
         ≡ powered (summary (tree_of lamps (words_of (take (block_bytes lamps) input.now)))) }
@@ -145,8 +149,7 @@ fn make_tree(lamps: usize, input: &[u8], room: &mut Room) -> Result<usize, Refus
         ≡ tray table_written (get_or (words_of (take (block_bytes lamps) input.now)) 0 0)
         (tree_of lamps (words_of (take (block_bytes lamps) input.now))) room.old.table }
 {
-    let end = 4 * (1 + EXHAUSTIVE_BOUNDS_WORDS * lamps);
-    read_words(&input[..end], &mut room.block);
+    read_words(&input[..4 * block_words(lamps)], &mut room.block);
     build_tree(lamps, room)
 }
 
@@ -163,17 +166,10 @@ fn take_tree(input: &[u8], room: &mut Room) -> Result<Taken, Refusal>
     Ok(Taken { lamps, powered })
 }
 
-// How many words the nodes of k powered lamps have.
-fn node_words(k: usize) -> usize
-    requires { k ≤ 512 }
-    ensures { result ≡ nodes_reserve k }
-{
-    if k == 0 { 0 } else { NODE_WORDS * (2 * k - 1) }
-}
-
 // ---- the first lines
 
-// How many bytes a tree's nodes and its table have.
+// How many bytes a tree's nodes and its table have. Lengths stand beside their rooms here: rooms are arrays of fixed
+// length, since there is no heap, and these say how much of each is used, from its front on.
 #[derive(Clone, Copy)]
 struct TreeEnds {
     nodes: usize,
@@ -188,7 +184,7 @@ struct Opened {
     tree: Option<TreeEnds>,
 }
 
-// Draws walk the tree's words as bytes.
+// Draws walk the tree's words as bytes. The front is lent apart from tree and lines: they are written as it is read.
 fn open_report(
     front: &[u8],
     room: &mut Room,
@@ -201,9 +197,9 @@ fn open_report(
     let header = put_text(out, 0, b"lamp drawn named\n");
     match take_tree(front, room) {
         Ok(taken) => {
-            let words = node_words(taken.powered);
+            let words = nodes_reserve(taken.powered as u32);
             let nodes = put_words(&mut tree.nodes, &room.nodes[..words]);
-            let table = put_words(&mut tree.table, &room.table[..taken.lamps]);
+            let table = put_words(&mut tree.table, &room.table[..wide(taken.lamps)]);
             Opened {
                 lines: header,
                 tree: Some(TreeEnds { nodes, table }),
@@ -244,7 +240,9 @@ fn read_front(front: &mut [u8; 4 * BLOCK_WORDS]) -> usize
     4 + io::read_full(0, &mut front[4..end])
 }
 
-// Whether all of it was written. A program has no exit status here, so one that cannot write says so.
+// Whether all of it was written. A program has no exit status here, so one that cannot write says so. No public
+// function in `text` for both programs: it could promise nothing, as `io::write_all` promises nothing, and the sentence
+// names the program.
 fn write(text: &[u8]) -> bool {
     if io::write_all(1, text) {
         return true;
@@ -267,7 +265,8 @@ fn write_lines(front: &[u8], groups: &[u8], text: &[u8]) -> bool
     write(text)
 }
 
-// Reads a chunk of groups and writes its lines; whether there may be more.
+// Reads a chunk of groups and writes its lines; whether there may be more. Front and tree are lent apart from chunk and
+// lines: these are written as those are read.
 fn write_chunk(
     front: &[u8],
     tree: Tree,

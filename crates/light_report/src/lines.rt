@@ -39,7 +39,7 @@ pub const LINE_BYTES: usize = 29;
 // ---- what a group draws
 
 // Words past a group's end are read as 0.
-#[tactic(auto, using(words::proofs::AnswerLaws::steps), unfolding(crate::specs::Lines::shown, crate::specs::Lines::named))]
+#[tactic(auto, using(words::proofs::AnswerLaws::steps), unfolding(crate::specs::Lines::named))]
 fn draw_group(tree: Tree, group: &[u8]) -> Result<Option<Line>, Refusal>
     ensures { line result ≡ group_shown tree.entry.nodes.now tree.entry.table.now (words_of group.now) }
 {
@@ -57,7 +57,8 @@ fn draw_group(tree: Tree, group: &[u8]) -> Result<Option<Line>, Refusal>
     }
 }
 
-// ---- how it is written, at a place of the lent slice, as `text` writes
+// ---- how it is written, at a place of the lent slice, as `text` writes; each asks for the room of a whole line there,
+// since how long a line is is known only when it is written
 
 // Writes a space and a float's bits; the place behind them.
 fn put_chance(out: &mut [u8], at: usize, x: f32) -> usize

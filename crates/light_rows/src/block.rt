@@ -68,6 +68,7 @@ pub fn light_phi(block: &[u32], row: u32) -> f32
 }
 
 // Writes a row, its place as its handle; where there are too few words nothing is written.
+#[tactic(auto, unfolding(crate::specs::AsCoded::BlockRow::row_written))]
 pub fn write_row(block: &mut [u32], row: u32, record: LightBounds)
     ensures { block.new ≡ row_written block.old row «record» }
 {
@@ -76,6 +77,8 @@ pub fn write_row(block: &mut [u32], row: u32, record: LightBounds)
     }
 }
 
+// By its place: the slice is the caller's, and a part of it would leave `write_row` to say what the rest keeps.
+#[tactic(auto, unfolding(crate::specs::AsCoded::RecordRow::written_at))]
 fn put_row(block: &mut [u32], row: u32, record: LightBounds)
     requires { handle_place row + bounds_words ≤ length block.old }
     ensures { block.new ≡ sets block.old (handle_place row) (bounds_row row «record») }
@@ -87,6 +90,7 @@ fn put_row(block: &mut [u32], row: u32, record: LightBounds)
 // ---- the block's checks; its records are not judged
 
 // Over the limits is refusal 2, a wrong length or an unknown side 1: how many rows there are.
+#[tactic(auto, unfolding(crate::specs::Block::block_layout))]
 pub fn check_layout(block: &[u32]) -> Result<usize, Refusal>
     ensures { answered result ≡ block_layout block.now }
 {
@@ -100,6 +104,7 @@ pub fn check_layout(block: &[u32]) -> Result<usize, Refusal>
     Err(Refusal::Ragged)
 }
 
+#[tactic(auto, unfolding(words::specs::Rows::below))]
 fn check_sides(block: &[u32], m: u32) -> Result<usize, Refusal>
     requires { length block.now ≡ block_words m }
     ensures { answered result ≡ cond (below (side_at block.now) m) (given m) (refused 1) }
@@ -113,6 +118,7 @@ fn check_sides(block: &[u32], m: u32) -> Result<usize, Refusal>
 }
 
 // A handle that is not its place is refusal 4; words past the end are read as 0.
+#[tactic(auto, unfolding(crate::specs::Block::block_handles, words::specs::Rows::below))]
 pub fn check_handles(block: &[u32]) -> Result<usize, Refusal>
     ensures { answered result ≡ block_handles block.now }
 {

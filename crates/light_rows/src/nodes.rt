@@ -1,20 +1,19 @@
 // A node as sixteen words (specs/Nodes.antt): head, right child, parent, record. Where the words of a node stand is
 // said here alone.
 ghost use Rattle.words.specs.Answers.{answered};
-ghost use Rattle.std.specs.Prelude.{◌≡◌, ◌+◌, ◌<◌, ◌≤◌, length, get_or};
+ghost use Rattle.std.specs.Prelude.{◌≡◌, ◌+◌, ◌<◌, ◌≤◌, length};
 ghost use Rattle.std.proofs.lemmas.List.Edits.{sets};
 ghost use Rattle.words.specs.LittleEndian.{words_of};
 ghost use Rattle.light_rows.specs.RecordWords.{read_record};
 ghost use Rattle.light_rows.specs.Nodes.{node_value, head_number, head_word, right_child, parent, node_list};
 ghost use Rattle.light_rows.specs.Nodes.{node, node_count, node_of, node_at, bounds_at};
-ghost use Rattle.light_rows.specs.Nodes.{node_words, node_place, bounds_place};
+ghost use Rattle.light_rows.specs.Nodes.{node_words, bounds_place};
 ghost use Rattle.light_rows.specs.AsCoded.NodeRow.{node_fits, node_written};
 
-use super::record_words::{RECORD_WORDS, read_record_bytes, record_or_zeros, write_record};
+use super::record_words::{RECORD_WORDS, Words, read_record_bytes, record_or_zeros, write_record};
 use light_bounds::light_bounds::LightBounds;
 use words::heads::{handle_of, kind_of};
-use words::little_endian::word_at;
-use words::places::{wide, word_or_zero};
+use words::places::wide;
 use words::refusals::Refusal;
 
 // The places of a node's parts behind its head.
@@ -86,15 +85,18 @@ impl Node {
         requires { head_number (node_value self) < 0x4000_0000 }
         ensures { result ≡ head_word (node_value self) }
     {
-        match self {
-            Node::Leaf { light_handle, .. } => 0x4000_0000 + light_handle,
-            Node::Interior { left_child, .. } => 0x8000_0000 + left_child,
-        }
+        let kind = match self {
+            Node::Leaf { .. } => 0x4000_0000,
+            Node::Interior { .. } => 0x8000_0000,
+        };
+        kind + self.number()
     }
 }
 
 // ---- writing
 
+// At a place: the slice is the caller's, and a part of it would leave `write_node` to say what the rest keeps.
+#[tactic(auto, unfolding(crate::specs::Nodes::node_list, crate::specs::AsCoded::RecordRow::written_at))]
 fn put_node(words: &mut [u32], at: usize, node: Node, bounds: LightBounds)
     requires head { head_number (node_value node) < 0x4000_0000 }
     requires in_bounds { at + node_words ≤ length words.old }
@@ -108,6 +110,7 @@ fn put_node(words: &mut [u32], at: usize, node: Node, bounds: LightBounds)
 
 // Writes a node at a place, or nothing where its row is not there or its head has no room for the handle or the left
 // child: whether it wrote.
+#[tactic(auto, unfolding(crate::specs::AsCoded::NodeRow::node_written, crate::specs::AsCoded::NodeRow::node_fits))]
 pub fn write_node(words: &mut [u32], place: usize, node: Node, bounds: LightBounds) -> bool
     ensures value { result ≡ node_fits words.old place (node_value node) }
     ensures words_after { words.new ≡ node_written words.old place (node_value node) bounds }
@@ -119,25 +122,17 @@ pub fn write_node(words: &mut [u32], place: usize, node: Node, bounds: LightBoun
     true
 }
 
-// ---- read back while the tree is built, from words: those past the end are 0
+// ---- reading: build reads words, the walks and the packing little-endian bytes
 
-// The head of the node at a place.
-pub fn head_at(nodes: &[u32], place: u32) -> u32
-    ensures { result ≡ get_or nodes.now (node_place place) 0 }
-{
-    word_or_zero(nodes, NODE_WORDS * wide(place))
-}
-
-// The record of the node at a place.
+// The record of the node at a place, words past the end as 0.
 pub fn bounds_in(nodes: &[u32], place: u32) -> LightBounds
     ensures { result ≡ read_record nodes.now (bounds_place place) }
 {
     record_or_zeros(nodes, NODE_WORDS * wide(place) + BOUNDS_PLACE)
 }
 
-// ---- reading, from little-endian bytes
-
 // How many nodes there are: over 8,191 are refusal 2, a part of a node is 1.
+#[tactic(auto, unfolding(crate::specs::Nodes::node_count))]
 pub fn node_count(nodes: &[u8]) -> Result<usize, Refusal>
     ensures { answered result ≡ node_count nodes.now }
 {
@@ -151,6 +146,7 @@ pub fn node_count(nodes: &[u8]) -> Result<usize, Refusal>
     Err(Refusal::Ragged)
 }
 
+#[tactic(auto, unfolding(crate::specs::Nodes::node_of))]
 fn node_of(head: u32, right_child: u32, parent: u32) -> Result<Node, Refusal>
     ensures { node result ≡ node_of head right_child parent }
 {
@@ -169,15 +165,16 @@ fn node_of(head: u32, right_child: u32, parent: u32) -> Result<Node, Refusal>
 }
 
 // The node at a place: past the end or of no kind is refusal 12.
-pub fn node_at(nodes: &[u8], place: usize) -> Result<Node, Refusal>
-    ensures { node result ≡ node_at (words_of nodes.now) place }
+#[tactic(auto, unfolding(crate::specs::Nodes::node_at))]
+pub fn node_at<W: Words>(nodes: W, place: usize) -> Result<Node, Refusal>
+    ensures { node result ≡ node_at (W.words nodes) place }
 {
-    if place < nodes.len() / 4 / NODE_WORDS {
+    if place < nodes.count() / NODE_WORDS {
         let at = NODE_WORDS * place;
         return node_of(
-            word_at(nodes, at),
-            word_at(nodes, at + RIGHT_CHILD_PLACE),
-            word_at(nodes, at + PARENT_PLACE),
+            nodes.word(at),
+            nodes.word(at + RIGHT_CHILD_PLACE),
+            nodes.word(at + PARENT_PLACE),
         );
     }
     Err(Refusal::BrokenTree)

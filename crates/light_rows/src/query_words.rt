@@ -13,6 +13,7 @@ use words::little_endian::word_at;
 pub const QUERY_WORDS: usize = 6;
 
 // The query that words begin with.
+#[tactic(auto, unfolding(crate::specs::QueryWords::query_of))]
 pub fn query_of<W: Words>(words: W) -> Query
     ensures { result ≡ query_of (W.words words) }
 {

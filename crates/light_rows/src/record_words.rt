@@ -180,6 +180,7 @@ fn judged(row: Row, unknown: Refusal) -> Result<LightBounds, Refusal>
 // ---- reading
 
 // Three words as a vector, words past the end as 0.
+#[tactic(auto, unfolding(crate::specs::RecordWords::vec_at))]
 pub fn vec_at<W: Words>(words: W, at: usize) -> Vec3
     ensures { result ≡ vec_at (W.words words) at }
 {
@@ -187,6 +188,7 @@ pub fn vec_at<W: Words>(words: W, at: usize) -> Vec3
 }
 
 // The box of the record at a place, words past the end as 0.
+#[tactic(auto, unfolding(crate::specs::RecordWords::vec_at))]
 pub fn box_at(words: &[u32], at: usize) -> Bounds3
     ensures { result ≡ box_at words.now at }
 {
@@ -209,6 +211,7 @@ pub fn phi_at(words: &[u32], at: usize) -> f32
 }
 
 // The record at a place, words past the end as 0, whatever its side word; any but 1 is one-sided.
+#[tactic(auto, unfolding(crate::specs::RecordWords::vec_at))]
 pub fn record_or_zeros(words: &[u32], at: usize) -> LightBounds
     ensures { result ≡ read_record words.now at }
 {
@@ -216,6 +219,7 @@ pub fn record_or_zeros(words: &[u32], at: usize) -> LightBounds
 }
 
 // The record at a place of a slice of words, of a list or a block: none is refusal 1.
+#[tactic(auto, unfolding(crate::specs::RecordWords::record_at, crate::specs::RecordWords::vec_at))]
 pub fn read_record(words: &[u32], at: usize) -> Result<LightBounds, Refusal>
     ensures { answered result ≡ record_at 1 words.now at }
 {
@@ -225,8 +229,9 @@ pub fn read_record(words: &[u32], at: usize) -> Result<LightBounds, Refusal>
     Err(Refusal::Ragged)
 }
 
-// The record at a place of the little-endian bytes of a tree: none is refusal 12. It is fetched from its own bytes, of
-// whose known length no word is tested: with one `read_record` over `Words` a record is weighed in 102 ns, not 94.
+// The record at a place of the little-endian bytes of a tree: none is refusal 12. Not one function with `read_record`
+// over `Words`: it was tried, and a record was then weighed in 102 ns, not 94, since the place of each word is tested.
+// Here the record's bytes are cut out first, and their length is known.
 pub fn read_record_bytes(bytes: &[u8], at: usize) -> Result<LightBounds, Refusal>
     ensures { answered result ≡ record_at 12 (words_of bytes.now) at }
 {
@@ -242,6 +247,7 @@ pub fn read_record_bytes(bytes: &[u8], at: usize) -> Result<LightBounds, Refusal
 
 // ---- writing
 
+#[tactic(auto, unfolding(crate::specs::RecordWords::record_list))]
 fn words_of_record(record: LightBounds) -> [u32; RECORD_WORDS]
     ensures { result ≡ record_list «record» }
 {
@@ -264,7 +270,9 @@ fn words_of_record(record: LightBounds) -> [u32; RECORD_WORDS]
     ]
 }
 
-// Writes the record; where there are too few words nothing is written.
+// Writes the record; where there are too few words nothing is written. At a place: the slice is the caller's, and a
+// part of it would leave each caller to say what the rest keeps.
+#[tactic(auto, unfolding(crate::specs::AsCoded::RecordRow::written_at))]
 pub fn write_record(words: &mut [u32], at: usize, record: LightBounds)
     ensures { words.new ≡ written_at words.old at «record» }
 {

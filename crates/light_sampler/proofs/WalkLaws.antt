@@ -9,7 +9,8 @@ use borrow.Author.Tests.{ltb-true, ltb-false, eq-eqb, ne_eqb}
 use lib.Dec.{eqb, leb, ltb}
 use lib.Ieee.{Float}
 use lib.ListN.{length, get_or}
-use Rattle.ieee.specs.Single.{◌⊗◌, zerof}
+use Rattle.std.specs.Prelude.{Some, None}
+use Rattle.ieee.specs.Single.{◌⊗◌, zerof, onef}
 use Rattle.words.specs.Answers.{Answer, ◌then◌, given, refused}
 use Rattle.words.specs.Heads.{kind_of}
 use Rattle.words.proofs.AnswerLaws.{not-both, refused_injective}
@@ -21,8 +22,9 @@ use Rattle.light_rows.specs.Nodes.{LightBVHNode, leaf, interior, invalid_index, 
 use Rattle.light_rows.specs.Nodes.{node_place, node_words}
 use Rattle.light_rows.specs.Laws.TreeLaws.{node_at-past}
 use Rattle.light_sampler.specs.Fork.{neither, left, right}
-use Rattle.light_sampler.specs.AsCoded.Turns.{by_prepared}
-use Rattle.light_sampler.specs.Walks.{Walked, after_check, Weighing, by_query, turn, taken}
+use Rattle.light_sampler.specs.Sampler.{leaf_of, from_leaf}
+use Rattle.light_sampler.specs.AsCoded.Turns.{by_prepared, leaf_found}
+use Rattle.light_sampler.specs.Walks.{Walked, ended, after_check, Weighing, by_query, turn, taken}
 use Rattle.light_sampler.specs.Walks.{onward, descend, nought, part, rise, risen, upward, ascend}
 
 -- a node stands within the words
@@ -57,6 +59,31 @@ module _ {A B : Type 0} (walk : A → Walked B) {check : Answer A} where
 
 -- a walk, by what its check answered
 pub ruleset checks = (check-given, check-refused)
+
+-- ---- the leaf that a walk up begins at: none is chance 0
+
+module _ (ws : List ℕ) (q : Query) (n : ℕ) (table : List ℕ) (handle : ℕ) where
+  pub from-none : None ≡ leaf_found table handle → (from_leaf ws q (leaf_of table handle) n).outcome ≡ given zerof
+  unfolding leaf_found from_leaf
+  from-none e = go (eqb (leaf_of table handle) invalid_index) (leaf_of table handle) e
+    where
+      go : (b : Bool) (place : ℕ) → None ≡ cond b None (Some place) →
+          (cond b (ended (given zerof)) (ascend ws q n place onef)).outcome ≡ given zerof
+      go true place e = refl
+      go false place e = cc
+
+  pub from-some : {i : ℕ} → Some i ≡ leaf_found table handle →
+      (from_leaf ws q (leaf_of table handle) n).outcome ≡ (ascend ws q n i onef).outcome
+  unfolding leaf_found from_leaf
+  from-some {i} e = go (eqb (leaf_of table handle) invalid_index) (leaf_of table handle) e
+    where
+      go : (b : Bool) (place : ℕ) → Some i ≡ cond b None (Some place) →
+          (cond b (ended (given zerof)) (ascend ws q n place onef)).outcome ≡ (ascend ws q n i onef).outcome
+      go true place e = cc
+      go false place e = cc
+
+-- a chance by name, by what its check answered and where its light's leaf is
+pub ruleset leaf_checks = (check-given, check-refused, from-none, from-some)
 
 -- ---- the query that is held
 

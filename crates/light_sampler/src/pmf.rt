@@ -3,13 +3,13 @@ ghost use Rattle.words.specs.Answers.{answered, given};
 ghost use Rattle.std.specs.Prelude.{◌≡◌};
 ghost use Rattle.ieee.specs.Single.{onef};
 ghost use Rattle.words.specs.LittleEndian.{words_of};
-ghost use Rattle.light_sampler.specs.Sampler.{pmf_check, leaf_of, pmf as pmf_of};
+ghost use Rattle.light_sampler.specs.Sampler.{pmf_check, pmf as pmf_of};
 ghost use Rattle.light_sampler.specs.Walks.{part_of, rise as rise_of, ascend as ascend_of};
 ghost use Rattle.light_rows.specs.Nodes.{node_value, node_at};
-ghost use Rattle.light_sampler.specs.AsCoded.Turns.{by_prepared, risen_of};
+ghost use Rattle.light_sampler.specs.AsCoded.Turns.{by_prepared, risen_of, leaf_found};
 
-use super::weigh::weigh_children;
-use light_bounds::importance::{Prepared, Query, prepare};
+use super::weigh::Walk;
+use light_bounds::importance::{Query, prepare};
 use light_rows::nodes::{INVALID_INDEX, Node, node_at, node_count};
 use words::limits::MAX_LAMPS;
 use words::little_endian::word_at;
@@ -33,24 +33,21 @@ fn part_of(place: usize, left: usize, right: usize, x: f32, y: f32) -> Result<Op
     Err(Refusal::BrokenTree)
 }
 
-// From a child to its parent, whose node is read already.
-#[tactic(auto, using(words::proofs::AnswerLaws::steps), unfolding(crate::specs::Walks::rise))]
-fn rise(
-    nodes: &[u8],
-    query: Prepared,
-    place: usize,
-    parent: u32,
-    above: Node,
-) -> Result<Option<f32>, Refusal>
-    requires { given (node_value above) ≡ node_at (words_of nodes.now) parent }
-    ensures { risen_of result ≡ rise_of (words_of nodes.now) (by_prepared query) place parent }
-{
-    match above {
-        Node::Interior { right_child, .. } => {
-            let (x, y) = weigh_children(nodes, query, parent as usize, right_child)?;
-            part_of(place, parent as usize + 1, right_child as usize, x, y)
+impl Walk<'_> {
+    // From a child to its parent, whose node is read already.
+    #[tactic(auto, using(words::proofs::AnswerLaws::steps), unfolding(crate::specs::Walks::rise))]
+    fn rise(self, place: usize, parent: u32, above: Node) -> Result<Option<f32>, Refusal>
+        requires { given (node_value above) ≡ node_at (words_of self.nodes.now) parent }
+        ensures { risen_of result
+            ≡ rise_of (words_of self.entry.nodes.now) (by_prepared self.entry.query) place parent }
+    {
+        match above {
+            Node::Interior { right_child, .. } => {
+                let (x, y) = self.weigh_children(parent as usize, right_child)?;
+                part_of(place, parent as usize + 1, right_child as usize, x, y)
+            }
+            Node::Leaf { .. } => Err(Refusal::BrokenTree),
         }
-        Node::Leaf { .. } => Err(Refusal::BrokenTree),
     }
 }
 
@@ -58,17 +55,22 @@ fn rise(
 fn ascend(nodes: &[u8], query: Query, count: usize, leaf: u32) -> Result<f32, Refusal>
     ensures { answered result ≡ (ascend_of (words_of nodes.now) query count leaf onef).outcome }
 {
-    let held = prepare(query);
+    let walk = Walk {
+        nodes,
+        query: prepare(query),
+    };
     let mut place = leaf as usize;
     let mut here = node_at(nodes, place)?;
     let mut pmf: f32 = 1.0;
     for _ in 0..count {
         let parent = here.parent();
+        // A node's parent is its word, which packing writes as it stands: an Option of it would be made and taken apart
+        // again.
         if parent == INVALID_INDEX {
             return Ok(pmf);
         }
         let above = node_at(nodes, parent as usize)?;
-        let Some(share) = rise(nodes, held, place, parent, above)? else {
+        let Some(share) = walk.rise(place, parent, above)? else {
             return Ok(0.0);
         };
         pmf *= share;
@@ -93,20 +95,25 @@ fn check_pmf(nodes: &[u8], table: &[u8]) -> Result<usize, Refusal>
     Err(Refusal::Ragged)
 }
 
-// The light's place in the table, none past its end.
-fn leaf_of(table: &[u8], handle: u32) -> u32
-    ensures { result ≡ leaf_of (words_of table.now) handle }
+// The place of the light's leaf; none past the table and of a light without a leaf.
+fn leaf_of(table: &[u8], handle: u32) -> Option<u32>
+    ensures { result ≡ leaf_found (words_of table.now) handle }
 {
-    if (handle as usize) < table.len() / 4 {
-        return word_at(table, handle as usize);
+    if table.len() / 4 <= handle as usize {
+        return None;
     }
-    INVALID_INDEX
+    let leaf = word_at(table, handle as usize);
+    if leaf == INVALID_INDEX {
+        None
+    } else {
+        Some(leaf)
+    }
 }
 
 // The chance of a light for a query, as the product of its weights' parts along the way up. Refusals: 2 over 8,191
 // nodes or 4,096 table words, 1 of a part of a node or of a word; then those that the walk meets, 12 where the words do
 // not hang together. A light past the table or without a leaf has chance 0.
-#[tactic(auto, using(crate::proofs::WalkLaws::checks), unfolding(crate::specs::Sampler::pmf_walk, crate::specs::Sampler::from_leaf))]
+#[tactic(auto, using(crate::proofs::WalkLaws::leaf_checks), unfolding(crate::specs::Sampler::pmf_walk))]
 pub fn bvh_light_sampler_pmf(
     nodes: &[u8],
     table: &[u8],
@@ -116,9 +123,8 @@ pub fn bvh_light_sampler_pmf(
     ensures { answered result ≡ pmf_of nodes.now table.now query handle }
 {
     let n = check_pmf(nodes, table)?;
-    let leaf = leaf_of(table, handle);
-    if leaf == INVALID_INDEX {
+    let Some(leaf) = leaf_of(table, handle) else {
         return Ok(0.0);
-    }
+    };
     ascend(nodes, query, n, leaf)
 }

@@ -10,27 +10,32 @@ use light_bounds::importance::{Prepared, weigh_prepared};
 use light_rows::nodes::bounds_at;
 use words::refusals::Refusal;
 
-// The weight of the node at a place: 12 past the end and of an unknown side, the record's refusals, the importance's.
-// Nodes and query are no struct: of one with a slice in it each clause would have to say `walk.entry.nodes.now`.
-#[tactic(auto, using(words::proofs::AnswerLaws::steps), unfolding(crate::specs::Walks::weigh_at))]
-pub(crate) fn weigh_at(nodes: &[u8], query: Prepared, place: usize) -> Result<f32, Refusal>
-    ensures { answered result ≡ weigh_at (words_of nodes.now) (by_prepared query) place }
-{
-    weigh_prepared(bounds_at(nodes, place)?, query)
+// What a walk weighs: a tree's node words, for the query that it holds.
+#[derive(Clone, Copy)]
+pub(crate) struct Walk<'a> {
+    pub(crate) nodes: &'a [u8],
+    pub(crate) query: Prepared,
 }
 
-// The weights of the node's children: the left one, behind the node, in full before the right one is looked for.
-#[tactic(auto, using(words::proofs::AnswerLaws::steps), unfolding(crate::specs::Walks::weights))]
-pub(crate) fn weigh_children(
-    nodes: &[u8],
-    query: Prepared,
-    place: usize,
-    right: u32,
-) -> Result<(f32, f32), Refusal>
-    requires { place < 2 ^ 60 }
-    ensures { answered result ≡ weights_of (words_of nodes.now) (by_prepared query) place right }
-{
-    let x = weigh_at(nodes, query, place + 1)?;
-    let y = weigh_at(nodes, query, right as usize)?;
-    Ok((x, y))
+impl Walk<'_> {
+    // The weight of the node at a place: 12 past the end and of an unknown side, the record's refusals, the
+    // importance's.
+    #[tactic(auto, using(words::proofs::AnswerLaws::steps), unfolding(crate::specs::Walks::weigh_at))]
+    pub(crate) fn weigh_at(self, place: usize) -> Result<f32, Refusal>
+        ensures { answered result ≡ weigh_at (words_of self.entry.nodes.now) (by_prepared self.entry.query) place }
+    {
+        weigh_prepared(bounds_at(self.nodes, place)?, self.query)
+    }
+
+    // The weights of the node's children: the left one, behind the node, in full before the right one is looked for.
+    #[tactic(auto, using(words::proofs::AnswerLaws::steps), unfolding(crate::specs::Walks::weights))]
+    pub(crate) fn weigh_children(self, place: usize, right: u32) -> Result<(f32, f32), Refusal>
+        requires { place < 2 ^ 60 }
+        ensures { answered result
+            ≡ weights_of (words_of self.entry.nodes.now) (by_prepared self.entry.query) place right }
+    {
+        let x = self.weigh_at(place + 1)?;
+        let y = self.weigh_at(right as usize)?;
+        Ok((x, y))
+    }
 }

@@ -9,7 +9,7 @@ ghost use Rattle.light_split.specs.Buckets.{m_omega as m_omega_of, kr as kr_of, 
 use super::lights::{N_BUCKETS, bucket_of, component};
 use floats::choose::{max, min};
 use light_bounds::bounds::{Bounds3, diagonal, surface_area};
-use light_bounds::cones::safe_sqrt;
+use light_bounds::importance::sine;
 use light_bounds::light_bounds::{LightBounds, union};
 use light_bounds::vecmath::Vec3;
 use light_rows::block::light;
@@ -67,14 +67,14 @@ pub(crate) fn union_range(buckets: &[Option<LightBounds>]) -> Result<Option<Ligh
 // ---- the cost; the parent's box and the axis are parameters, since beside `last` in one struct every promise of a
 // method would have to say that they stay
 
-#[tactic(auto, unfolding(crate::specs::Buckets::m_omega))]
+#[tactic(auto, unfolding(crate::specs::Buckets::m_omega, light_bounds::specs::Importance::sine))]
 fn m_omega(cos_theta_o: f32, cos_theta_e: f32) -> f32
     ensures { result ≡ m_omega_of cos_theta_o cos_theta_e }
 {
     let theta_o = acos(cos_theta_o);
     let theta_e = acos(cos_theta_e);
     let theta_w = min(theta_o + theta_e, PI);
-    let sin_theta_o = safe_sqrt(1.0 - cos_theta_o * cos_theta_o);
+    let sin_theta_o = sine(cos_theta_o);
     2.0 * PI * (1.0 - cos_theta_o)
         + PI / 2.0
             * (2.0 * theta_w * sin_theta_o

@@ -11,7 +11,8 @@ use light_rows::block::light_box;
 // Buckets along an axis.
 pub const N_BUCKETS: usize = 12;
 
-// A vector's figure along an axis.
+// A vector's figure along an axis. An axis is its number, as the Rust indexes a vector by it: an enum would be made of
+// the number that a loop counts, and matched here at once.
 #[tactic(auto, unfolding(crate::specs::Lights::component))]
 pub fn component(v: Vec3, dimension: usize) -> f32
     ensures { result ≡ component_of dimension v }
@@ -73,7 +74,8 @@ fn bucket_index(value: f32, min: f32, max: f32) -> usize
     to_usize((value - min) / (max - min) * 12.0).min(N_BUCKETS - 1)
 }
 
-// The bucket of a handle's centroid between the ends of an axis; the axis alone is in a `Split`, so it stands apart.
+// The bucket of a handle's centroid between the ends of an axis. Block, ends and axis are no struct, since a cut has
+// its axis (`Split`) and an axis that is being filled has no cut yet.
 #[tactic(auto, unfolding(crate::specs::Lights::bucket_of))]
 pub fn bucket_of(block: &[u32], ends: Bounds3, dimension: usize, handle: u32) -> usize
     ensures value { result ≡ bucket_of block.now ends dimension handle }

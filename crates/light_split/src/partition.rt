@@ -19,7 +19,7 @@ fn goes_left(block: &[u32], ends: Bounds3, split: Split, handle: u32) -> bool
 }
 
 // The handles that go left stay, in their order, in front; those that go right are put into the work, in theirs. How
-// many go left.
+// many go left. Handles and work are lent apart, since each clause says what is left in one of them.
 fn part(block: &[u32], ends: Bounds3, split: Split, handles: &mut [u32], work: &mut [u32]) -> usize
     requires { length handles.old ≤ length work.old }
     ensures value { result ≡ length (kept (goes_left block.now ends split) handles.old) }

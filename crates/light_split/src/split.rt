@@ -53,7 +53,7 @@ fn better(best: Best, split: Split, cost: f32) -> Best
 }
 
 // The eleven cuts of an axis. A cut behind an empty bucket has the sides of the cut before it, so it costs the same and
-// does not win: it is left out.
+// does not win: it is left out. It goes by the bucket's number, which the cut is told by.
 fn best_cut(
     buckets: &[Option<LightBounds>; N_BUCKETS],
     parent: Bounds3,

@@ -26,7 +26,7 @@ const CHUNK_BYTES: usize = 4 * CHUNK_WORDS;
 // The words of the longest list, and a chunk more.
 const LIST_WORDS: usize = MAX_WORDS + CHUNK_WORDS;
 
-// The words of the longest block.
+// The words of the longest block. A constant's value can't call `block_words`.
 const BLOCK_WORDS: usize = 1 + EXHAUSTIVE_BOUNDS_WORDS * MAX_LAMPS;
 
 const BLOCK_BYTES: usize = 4 * BLOCK_WORDS;
@@ -102,7 +102,8 @@ fn read_list(list: &mut [u32; LIST_WORDS], chunk: &mut [u8; CHUNK_BYTES]) -> Inp
 }
 
 // Hands the answer to standard output; the list and the stray bytes are there to say whose it is. A program has
-// no exit status here, so one that cannot write says so.
+// no exit status here, so one that cannot write says so. No public function in `text` for both programs: it could
+// promise nothing, as `io::write_all` promises nothing, and the sentence names the program.
 fn write(list: &[u32], stray: usize, text: &[u8])
     requires { text.now ≡ converted list.now stray }
 {

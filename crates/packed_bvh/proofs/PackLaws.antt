@@ -1,12 +1,12 @@
 -- What the packing writes, word behind word and node behind node, and which refusals it has. Assumes nothing.
-use Prim.Native.Nat.{ℕ, zero, suc, ◌+◌, ◌*◌, ◌/◌, ◌%◌, ◌-◌, ◌≤◌, ◌<◌, zero-le}
+use Prim.Native.Nat.{ℕ, zero, suc, ◌+◌, ◌*◌, ◌/◌, ◌%◌, ◌-◌, ◌≤◌, ◌<◌}
 use mathlib.Core.Path.{◌≡◌, refl, ap, sym, subst, ◌∙◌}
 use mathlib.Core.Bool.{Bool, true, false, cond, ◌&&◌, ◌||◌}
 use mathlib.Core.List.{List, [], ◌∷◌, ◌++◌}
 use mathlib.Core.Option.{Option, none, some}
 use native.Mathlib.Numerals.{add-one}
 use native.Mathlib.Omega.{arith}
-use borrow.Author.Tests.{lt-ltb, eq-eqb, ne_eqb, eqb-true, eqb-false, ltb-false}
+use borrow.Author.Tests.{lt-ltb, le-ltb, eq-eqb, ne_eqb, eqb-true, eqb-false, ltb-false}
 use lib.Dec.{ltb, leb, eqb}
 use lib.ListN.{length, get_or, take, drop, length-append}
 use lib.Seq.{sets, sets-eq, length-sets, length-take-le, take-suc, take_all}
@@ -194,10 +194,6 @@ pub reserve-some : (n : ℕ) → 0 < n → packed_reserve n ≡ packed_place n
 reserve-some zero h = absurd (omega arith)
 reserve-some (suc n) h = refl
 
-pub reserve-small : (n : ℕ) → n ≤ max_nodes → packed_reserve n ≤ 65536
-reserve-small zero h = zero-le
-reserve-small (suc n) h = omega arith
-
 -- ---- the loop over the nodes
 
 module _ (all : Bounds3) (ws : List ℕ) (n : ℕ) where
@@ -289,7 +285,7 @@ module _ (all : Bounds3) (ws : List ℕ) (n : ℕ) where
 
     -- every node is packed
     pub outcome-given : i ≡ n
-        → (given (some (packed_reserve n)) ≡ words_packed (packed_tree ws n (some all)))
+        → (given (some (packed_place n)) ≡ words_packed (packed_tree ws n (some all)))
         × (l ≡ tray packed_bytes (4 * packed_reserve n) (packed_tree ws n (some all)) before)
     outcome-given e =
         let count : length (header all ++ p.nodes) ≡ packed_reserve n =
@@ -306,7 +302,7 @@ module _ (all : Bounds3) (ws : List ℕ) (n : ℕ) where
         ∙ sym (ap (sets before 0) (bytes_of-append (header all) p.nodes) ∙ sets-append before 0 (bytes_of (header all))
         (bytes_of p.nodes)) in
         rw (packing-all p e) (
-          ap (λ (k : ℕ). given (some k)) (sym count),
+          ap (λ (k : ℕ). given (some k)) (sym (count ∙ reserve)),
           whole ∙ sets-eq (bytes_of (header all ++ p.nodes)) before 0 (omega (arith, at))
               ∙ ap (λ (k : ℕ). bytes_of (header all ++ p.nodes) ++ drop k before) at
               ∙ sym (tray-full packed_bytes (4 * packed_reserve n) before (some (header all ++ p.nodes)) bytes),
@@ -342,25 +338,44 @@ module _ (n k : ℕ) where
   unfolding agreed
   agreed-nothing h e = rw (eq-eqb n 0 h, eq-eqb k 0 e)
 
--- nodes that pass the first checks: few enough, and the room is lent
+-- counted nodes: the room is short, or it is enough
+module _ (nodes : List ℕ) (room : ℕ) {n : ℕ} (counted : given n ≡ node_count nodes) where
+  reserve-known : bytes_reserve nodes ≡ 4 * packed_reserve n
+  reserve-known = ap (λ (m : ℕ). 4 * packed_reserve m) (count-known nodes n (sym counted)).1
+
+  pub check-short : room < bytes_reserve nodes → refused 3 ≡ pack_check nodes room
+  unfolding pack_check ◌then◌
+  check-short h = rw (← counted, ← reserve-known, lt-ltb room (bytes_reserve nodes) h)
+
+  pub check-enough : bytes_reserve nodes ≤ room → given n ≡ pack_check nodes room
+  unfolding pack_check ◌then◌
+  check-enough h = rw (← counted, ← reserve-known, le-ltb room (bytes_reserve nodes) h)
+
+pub check_uncounted : (nodes : List ℕ) (room : ℕ) {k : ℕ} → refused k ≡ node_count nodes
+    → refused k ≡ pack_check nodes room
+unfolding pack_check ◌then◌
+check_uncounted nodes room e = rw (← e)
+
+pub ruleset room_checks = (check_uncounted, check-short, check-enough)
+
+-- nodes that pass the first checks: how many, and the room is lent
 pub check-known : (nodes before : List ℕ) (n : ℕ) → pack_check nodes (length before) ≡ given n
-    → (n ≤ max_nodes) × (4 * packed_reserve n ≤ length before) × (bytes_reserve nodes ≡ 4 * packed_reserve n)
+    → (length nodes / node_bytes ≡ n) × (bytes_reserve nodes ≤ length before)
 unfolding pack_check ◌then◌
 check-known nodes before n h =
     let (m, counted, passed) =
     then-given (node_count nodes) (λ (m : ℕ). cond (ltb (length before) (4 * packed_reserve m)) (refused 3)
     (given m)) n h in
     let (few, is) = count-known nodes m counted in
-    go m few is (ltb (length before) (4 * packed_reserve m)) refl passed
+    go m is (ltb (length before) (4 * packed_reserve m)) refl passed
   where
-    go : (m : ℕ) → m ≤ max_nodes → length nodes / node_bytes ≡ m → (b : Bool)
+    go : (m : ℕ) → length nodes / node_bytes ≡ m → (b : Bool)
         → ltb (length before) (4 * packed_reserve m) ≡ b
         → cond b (refused 3) (given m) ≡ given n
-        → (n ≤ max_nodes) × (4 * packed_reserve n ≤ length before) × (bytes_reserve nodes ≡ 4 * packed_reserve n)
-    go m few is true e g = absurd (not-both g refl)
-    go m few is false e g =
-        let same : m ≡ n = given_injective g in
-        rw (← same) (few, ltb-false (length before) (4 * packed_reserve m) e, ap (λ (z : ℕ). 4 * packed_reserve z) is)
+        → (length nodes / node_bytes ≡ n) × (bytes_reserve nodes ≤ length before)
+    go m is true e g = absurd (not-both g refl)
+    go m is false e g =
+        (is ∙ given_injective g, rw is (ltb-false (length before) (4 * packed_reserve m) e))
 
 -- what agrees has nodes where there is a box, and none without
 module _ (n k : ℕ) where
@@ -413,26 +428,31 @@ module _ (nodes : List ℕ) (k : ℕ) (all : Option Bounds3) (before : List ℕ)
 
   module _ (n : ℕ) (h : pack_check nodes (length before) ≡ given n) where
     pub outcome_late : {a : Answer (Option ℕ)} {after : List ℕ} (j : ℕ) → agreed n k all ≡ refused j → a ≡ refused j
-        → after ≡ filled before 0 (4 * packed_reserve n) 0 → Outcome a after
+        → after ≡ filled before 0 (bytes_reserve nodes) 0 → Outcome a after
     unfolding pack_light_bvh ◌then◌
     outcome_late j e refusal zeroed =
-        let (few, room, reserve) = check-known nodes before n h in
+        let (counted, room) = check-known nodes before n h in
         let is : pack_light_bvh nodes k all (length before) ≡ refused j = rw (h, e) in
-        rw (is, reserve) (
+        rw is (
           refusal,
-          zeroed ∙ tray-zeroed packed_bytes (4 * packed_reserve n) before before j room refl
+          zeroed ∙ tray-zeroed packed_bytes (bytes_reserve nodes) before before j room refl
               (only-number (late-agreed n k all) e),
         )
 
     pub outcome-agreed : {a : Answer (Option ℕ)} {after : List ℕ} (box : Option Bounds3) → agreed n k all ≡ given box
-        → a ≡ words_packed (packed_tree (words_of nodes) n box)
-        → after ≡ tray packed_bytes (4 * packed_reserve n) (packed_tree (words_of nodes) n box) before → Outcome a after
+        → a ≡ words_packed (packed_tree (words_of nodes) (length nodes / node_bytes) box)
+        → after ≡ tray packed_bytes (bytes_reserve nodes) (packed_tree (words_of nodes) (length nodes / node_bytes) box)
+        before → Outcome a after
     unfolding pack_light_bvh ◌then◌
     outcome-agreed box e words bytes =
-        let (few, room, reserve) = check-known nodes before n h in
-        let is : pack_light_bvh nodes k all (length before) ≡ packed_tree (words_of nodes) n box = rw (h, e) in
-        rw (is, reserve) (words, bytes)
+        let (counted, room) = check-known nodes before n h in
+        let is : pack_light_bvh nodes k all (length before) ≡ packed_tree (words_of nodes) (length nodes / node_bytes)
+        box = rw (h, e, counted) in
+        rw is (words, bytes)
 
     pub outcome-nothing : n ≡ 0 → agreed n k all ≡ given none → Outcome (given none) before
     unfolding packed_tree tray
-    outcome-nothing z e = outcome-agreed none e refl (rw z)
+    outcome-nothing z e =
+        let (counted, room) = check-known nodes before n h in
+        let none-there : length nodes / node_bytes ≡ 0 = counted ∙ z in
+        outcome-agreed none e refl (rw none-there)

@@ -1,13 +1,13 @@
 // `pack_light_bvh` (specs/Packed.antt): node words in, a header and packed nodes out.
-ghost use Rattle.std.specs.Prelude.{◌||◌, ◌≡◌, eqb, ltb, ◌+◌, ◌*◌, ◌≤◌, ◌<◌, length};
+ghost use Rattle.std.specs.Prelude.{◌||◌, ◌≡◌, eqb, ltb, ◌+◌, ◌*◌, ◌/◌, ◌≤◌, ◌<◌, length};
 ghost use Rattle.std.proofs.Math.Option.{some};
 ghost use Rattle.std.proofs.lemmas.List.Edits.{sets};
 ghost use Rattle.words.specs.Answers.{answered, optional};
 ghost use Rattle.words.specs.LittleEndian.{words_of, bytes_of};
 ghost use Rattle.words.specs.AsCoded.Fill.{filled};
 ghost use Rattle.words.specs.Tray.{tray};
-ghost use Rattle.light_rows.specs.Nodes.{node_value, invalid_index};
-ghost use Rattle.packed_bvh.specs.Packed.{paired, cone_word, compact_words, payload, pack_node, header, packed_reserve};
+ghost use Rattle.light_rows.specs.Nodes.{node_value, invalid_index, node_bytes};
+ghost use Rattle.packed_bvh.specs.Packed.{paired, cone_word, compact_words, payload, pack_node, header};
 ghost use Rattle.packed_bvh.specs.Packed.{pack_check, agreed};
 ghost use Rattle.packed_bvh.specs.Packed.{packed_tree, pack_light_bvh, packed_bytes, bytes_reserve, words_packed};
 ghost use Rattle.packed_bvh.specs.Packed.{packed};
@@ -17,7 +17,7 @@ use super::quantize::{octahedral, quantize_axis, quantize_cos, quantize_down, qu
 use light_bounds::bounds::{Bounds3, check};
 use light_bounds::light_bounds::{LightBounds, validate};
 use light_bounds::vecmath::{Vec3, normalize_by_division};
-use light_rows::nodes::{INVALID_INDEX, Node, bounds_at, node_at, node_count};
+use light_rows::nodes::{INVALID_INDEX, NODE_BYTES, Node, bounds_at, node_at, node_count};
 use words::fill::fill;
 use words::floats::Float;
 use words::little_endian::set_word;
@@ -38,30 +38,23 @@ const LEAF_BIT: u32 = 0x8000_0000;
 // ---- a node's words
 
 // Two numbers of sixteen bits as a word, the first one below.
-fn pair(low: u32, high: u32) -> u32
-    requires low_bound { low < 65536 }
-    requires high_bound { high < 65536 }
+fn pair(low: u16, high: u16) -> u32
     ensures { result ≡ paired low high }
 {
-    low + 0x1_0000 * high
+    u32::from(low) + 0x1_0000 * u32::from(high)
 }
 
 // Both cosines and the side.
 fn cone_word(bounds: LightBounds) -> u32
     ensures { result ≡ cone_word bounds }
 {
-    let o = quantize_cos(bounds.cos_theta_o) as u32;
-    let e = quantize_cos(bounds.cos_theta_e) as u32;
-    let cosines = o + 0x8000 * e;
-    if bounds.side.two_sided {
-        cosines + 0x4000_0000
-    } else {
-        cosines
-    }
+    let o = u32::from(quantize_cos(bounds.cos_theta_o));
+    let e = u32::from(quantize_cos(bounds.cos_theta_e));
+    o + 0x8000 * e + 0x4000_0000 * u32::from(bounds.side.two_sided)
 }
 
 // The record within the overall box, with its direction at unit length.
-#[tactic(auto, using(crate::proofs::QuantizeCuts::small_steps))]
+#[tactic(auto, unfolding(crate::specs::Packed::compact_words, crate::specs::Quantize::encode_octahedral))]
 fn compact_words(all: Bounds3, bounds: LightBounds, d: Vec3, payload: u32, parent: u32) -> [u32; 8]
     ensures { result ≡ compact_words all bounds d payload parent }
 {
@@ -110,7 +103,7 @@ fn payload(node: Node) -> u32
     }
 }
 
-// Whether a parent is one of the nodes, or the root's.
+// Whether a parent is one of the nodes, or the root's. It is the node's word, which is packed as it stands.
 fn is_parent(parent: u32, count: usize) -> bool
     ensures { result ≡ eqb parent invalid_index || ltb parent count }
 {
@@ -119,7 +112,7 @@ fn is_parent(parent: u32, count: usize) -> bool
 
 // Payload, parent and left child of the node at a place among `count` nodes.
 fn place(node: Node, count: usize, index: usize) -> Result<Placed, Refusal>
-    requires { index < 8191 }
+    requires { index < count }
     ensures { placed result ≡ placing count index (node_value node) }
 {
     if INDEX_MAX < payload(node) {
@@ -160,7 +153,7 @@ fn place(node: Node, count: usize, index: usize) -> Result<Placed, Refusal>
 // Its kind and its side, its record, its direction's length, then what `place` asks.
 #[tactic(auto, using(words::proofs::AnswerLaws::steps), unfolding(crate::specs::Packed::pack_node))]
 fn pack_node(nodes: &[u8], all: Bounds3, count: usize, index: usize) -> Result<[u32; 8], Refusal>
-    requires { index < 8191 }
+    requires { index < count }
     ensures { answered result ≡ pack_node count all (words_of nodes.now) index }
 {
     let node = node_at(nodes, index)?;
@@ -173,7 +166,8 @@ fn pack_node(nodes: &[u8], all: Bounds3, count: usize, index: usize) -> Result<[
 
 // ---- what is written
 
-// Writes words as little-endian bytes from a word's place on.
+// Writes words as little-endian bytes from a word's place on. It takes the place and not a part of the lent bytes: its
+// caller would have to say what all of them hold then.
 fn write_words(out: &mut [u8], place: usize, words: &[u32])
     requires { 4 * (place + length words.now) ≤ length out.old }
     ensures { out.new ≡ sets out.old (4 * place) (bytes_of words.now) }
@@ -198,62 +192,56 @@ fn header(all: Bounds3) -> [u32; 8]
     ]
 }
 
-// The words of n nodes, 0 without nodes. That n is at most 8,191 is what `node_count` answers; a type of its own would be
-// made and taken apart again for three functions.
-fn reserve(n: usize) -> usize
-    requires { n ≤ 8191 }
-    ensures { result ≡ packed_reserve n }
+// The bytes of the packed nodes, 0 without nodes.
+fn bytes_reserve(nodes: &[u8]) -> usize
+    ensures { result ≡ bytes_reserve nodes.now }
 {
+    let n = nodes.len() / NODE_BYTES;
     if n == 0 {
         0
     } else {
-        HEADER_WORDS + NODE_WORDS * n
+        4 * (HEADER_WORDS + NODE_WORDS * n)
     }
 }
 
-fn zero_reserve(out: &mut [u8], n: usize)
-    requires { n ≤ 8191 }
-    ensures { out.new ≡ filled out.old 0 (4 * packed_reserve n) 0 }
+fn zero_reserve(nodes: &[u8], out: &mut [u8])
+    ensures { out.new ≡ filled out.old 0 (bytes_reserve nodes.now) 0 }
 {
-    fill(out, 0, 4 * reserve(n), 0);
+    fill(out, 0, bytes_reserve(nodes), 0);
 }
 
 // Header and nodes; a refusal zeroes the reserve.
-fn pack_nodes(
-    nodes: &[u8],
-    all: Bounds3,
-    n: usize,
-    out: &mut [u8],
-) -> Result<Option<usize>, Refusal>
-    requires n_bound { n ≤ 8191 }
-    requires n_nonzero { 0 < n }
-    requires n_in_bounds { 4 * packed_reserve n ≤ length out.old }
-    ensures result_value { packed result ≡ words_packed (packed_tree (words_of nodes.now) n (some all)) }
-    ensures out_after { out.new ≡ tray packed_bytes (4 * packed_reserve n)
-        (packed_tree (words_of nodes.now) n (some all)) out.old }
+fn pack_nodes(nodes: &[u8], all: Bounds3, out: &mut [u8]) -> Result<Option<usize>, Refusal>
+    requires n_nonzero { 0 < length nodes.now / node_bytes }
+    requires n_in_bounds { bytes_reserve nodes.now ≤ length out.old }
+    ensures result_value { packed result
+        ≡ words_packed (packed_tree (words_of nodes.now) (length nodes.now / node_bytes) (some all)) }
+    ensures out_after { out.new ≡ tray packed_bytes (bytes_reserve nodes.now)
+        (packed_tree (words_of nodes.now) (length nodes.now / node_bytes) (some all)) out.old }
 {
+    let n = nodes.len() / NODE_BYTES;
     write_words(out, 0, &header(all));
     for i in 0..n {
         match pack_node(nodes, all, n, i) {
             Ok(words) => write_words(out, HEADER_WORDS + NODE_WORDS * i, &words),
             Err(why) => {
-                zero_reserve(out, n);
+                zero_reserve(nodes, out);
                 return Err(why);
             }
         }
     }
-    Ok(Some(reserve(n)))
+    Ok(Some(HEADER_WORDS + NODE_WORDS * n))
 }
 
 // ---- the checks
 
 // 2, 1, 3: how many nodes there are.
-#[tactic(auto, using(words::proofs::AnswerLaws::steps), unfolding(crate::specs::Packed::pack_check))]
+#[tactic(auto, using(crate::proofs::PackLaws::room_checks))]
 fn check_pack(nodes: &[u8], room: usize) -> Result<usize, Refusal>
     ensures { answered result ≡ pack_check nodes.now room }
 {
     let n = node_count(nodes)?;
-    if room < 4 * reserve(n) {
+    if room < bytes_reserve(nodes) {
         return Err(Refusal::ShortTray);
     }
     Ok(n)
@@ -301,10 +289,10 @@ pub fn pack_light_bvh(
 {
     let n = check_pack(nodes, out.len())?;
     match agree(n, k, all_bounds) {
-        Ok(Some(all)) => pack_nodes(nodes, all, n, out),
+        Ok(Some(all)) => pack_nodes(nodes, all, out),
         Ok(None) => Ok(None),
         Err(why) => {
-            zero_reserve(out, n);
+            zero_reserve(nodes, out);
             Err(why)
         }
     }

@@ -4,11 +4,11 @@ ghost use Rattle.packed_bvh.specs.Quantize.{steps_of, quantize_bounds, quantize_
 ghost use Rattle.packed_bvh.specs.Quantize.{octahedral as octahedral_of, quantize_axis};
 
 use floats::choose::{abs, clamp, is_sign_negative};
-use floats::whole::{to_u16, to_u32};
+use floats::whole::to_u16;
 use light_bounds::vecmath::{Vec3, divide_vector};
 
-// ---- coordinates within an axis, in 65535 steps; 0 on an axis without extent. They take value, min and max, as the
-// Rust's do.
+// ---- coordinates within an axis, in 65535 steps; 0 on an axis without extent. value, min and max are parameters of
+// their own, as in the Rust's signature.
 
 #[tactic(auto, unfolding(crate::specs::Quantize::steps_of))]
 fn steps(value: f32, min: f32, max: f32) -> f32
@@ -17,25 +17,25 @@ fn steps(value: f32, min: f32, max: f32) -> f32
     clamp((value - min) / (max - min), 0.0, 1.0) * 65535.0
 }
 
-// Up or down to a whole step. `up` is the definition's own flag: as a const parameter its goals speak of a number.
-fn quantize_bounds(up: bool, value: f32, min: f32, max: f32) -> u32
+// Down to a whole step, or up to one: `up` is the Rust's `ceil: bool`.
+fn quantize_bounds(up: bool, value: f32, min: f32, max: f32) -> u16
     ensures { result ≡ quantize_bounds up value min max }
 {
     if min == max {
         return 0;
     }
     let step = steps(value, min, max);
-    let n = to_u32(step);
-    if up && (n as f32) < step { n + 1 } else { n }
+    let n = to_u16(step);
+    if up && f32::from(n) < step { n + 1 } else { n }
 }
 
-pub fn quantize_down(value: f32, min: f32, max: f32) -> u32
+pub fn quantize_down(value: f32, min: f32, max: f32) -> u16
     ensures { result ≡ quantize_bounds false value min max }
 {
     quantize_bounds(false, value, min, max)
 }
 
-pub fn quantize_up(value: f32, min: f32, max: f32) -> u32
+pub fn quantize_up(value: f32, min: f32, max: f32) -> u16
     ensures { result ≡ quantize_bounds true value min max }
 {
     quantize_bounds(true, value, min, max)
@@ -81,13 +81,15 @@ pub fn octahedral(v: Vec3) -> Vec3
 }
 
 // To the nearest of 65535 steps from -1 to 1.
-pub fn quantize_axis(c: f32) -> u32
+#[tactic(auto, using(crate::proofs::QuantizeCuts::axis_cuts))]
+pub fn quantize_axis(c: f32) -> u16
     ensures { result ≡ quantize_axis c }
 {
     let step = (c + 1.0) * 0.5 * 65535.0;
-    let n = to_u32(step);
-    if n >= 65535 {
-        return 65535;
+    let n = to_u16(step);
+    if f32::from(n) + 0.5 <= step {
+        n.saturating_add(1)
+    } else {
+        n
     }
-    if (n as f32) + 0.5 <= step { n + 1 } else { n }
 }

@@ -81,10 +81,10 @@ pub extern "C" fn floats_to_whole(which: u32, x: f32) -> u64
     ensures { result ≡ to_whole which x }
 {
     match which {
-        0 => floats::whole::to_u16(x) as u64,
-        1 => floats::whole::to_u32(x) as u64,
+        0 => u64::from(floats::whole::to_u16(x)),
+        1 => u64::from(floats::whole::to_u32(x)),
         2 => floats::whole::to_usize(x) as u64,
-        3 => x.word() as u64,
+        3 => u64::from(x.word()),
         _ => 0,
     }
 }

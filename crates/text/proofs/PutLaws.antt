@@ -13,10 +13,12 @@ use lib.Seq.{sets, sets-eq, take_at, length-sets, length-take-le}
 use Rattle.std.proofs.lemmas.List.Edits.{paste_all}
 use Rattle.std.proofs.lemmas.Slice.{put_mid-paste}
 use Rattle.io.specs.Digits.{last_digits, hex_digit_ascii, IsDigitCount}
-use Rattle.words.specs.Answers.{Answer, given, refused}
+use Rattle.std.specs.Prelude.{Result, Ok, Err, MatchResult}
+use Rattle.words.specs.Answers.{Answer, given, refused, answered}
 use Rattle.words.specs.LittleEndian.{bytes_of}
 use Rattle.words.specs.AsCoded.WordSlices.{written_words}
 use Rattle.words.specs.Tray.{tray}
+use Rattle.words.specs.declared.refusals.Refusal.{Refusal}
 use Rattle.words.specs.Laws.TrayLaws.{tray-full, tray-early}
 use Rattle.words.proofs.AnswerLaws.{given_injective, refused_injective, not-both}
 use Rattle.words.proofs.LittleEndianLaws.{length-bytes_of}
@@ -239,7 +241,7 @@ module _ (words before : List ℕ) where
   abbrev left : Answer ℕ → List ℕ
   left answer = tray (λ (n : ℕ). bytes_of words) (4 * length words) answer before
 
-  pub words-put : {n : ℕ} {after : List ℕ} → given n ≡ written_words words (length before)
+  words-put : {n : ℕ} {after : List ℕ} → given n ≡ written_words words (length before)
       → after ≡ left (written_words words (length before))
       → (after ≡ sets before 0 (fitting before 0 (bytes_of words))) × (4 * n ≡ length (fitting before 0
       (bytes_of words)))
@@ -253,7 +255,7 @@ module _ (words before : List ℕ) where
       rw (fitting-all before 0 (bytes_of words) fits)
       (rw (← e) at is ∙ full ∙ sym (rw end at put), rw (long, same))
 
-  pub words_left : {m : ℕ} {after : List ℕ} → refused m ≡ written_words words (length before)
+  words_left : {m : ℕ} {after : List ℕ} → refused m ≡ written_words words (length before)
       → after ≡ left (written_words words (length before))
       → (after ≡ sets before 0 (fitting before 0 (bytes_of words))) × (0 ≡ length (fitting before 0 (bytes_of words)))
   words_left {m} {after} e is =
@@ -261,6 +263,15 @@ module _ (words before : List ℕ) where
       let none : length before < 0 + length (bytes_of words) = rw (length-bytes_of words) (omega (arith, short)) in
       let kept = tray-early (λ (n : ℕ). bytes_of words) (4 * length words) before m (omega (arith, three)) in
       rw (fitting-none before 0 (bytes_of words) none) (rw (← e) at is ∙ kept, refl)
+
+  -- four bytes a word, or none where they were refused
+  pub words-answered : {count : ℕ} {after : List ℕ} (r : Result ℕ Refusal)
+      → answered r ≡ written_words words (length before) → after ≡ left (written_words words (length before))
+      → MatchResult r (λ (n : ℕ). count ≡ 4 * n) (λ _. count ≡ 0)
+      → (after ≡ sets before 0 (fitting before 0 (bytes_of words))) × (count ≡ length (fitting before 0
+      (bytes_of words)))
+  words-answered (Ok n) e is count = let h = words-put e is in (h.0, count ∙ h.1)
+  words-answered (Err why) e is count = let h = words_left e is in (h.0, count ∙ h.1)
 
   -- words that are known by their bytes, where there is room
   pub words-fit : (text : List ℕ) {after : List ℕ} {count : ℕ} → bytes_of words ≡ text → length text ≤ length before

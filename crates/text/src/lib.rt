@@ -1,6 +1,7 @@
 // What the programs write, laid into a lent slice (specs/Text.antt): text, a word in decimal or in hexadecimal
 // digits, a refusal's line, words as bytes. Each function writes all of its bytes and answers how many they are;
-// where the slice has no room for all, it writes none and answers 0.
+// where the slice has no room for all, it writes none and answers 0. The answer is a count of bytes, which callers add
+// to a place: an `Option` of it would be `unwrap_or(0)` at each call.
 #![tactic(auto)]
 
 ghost use Rattle.std.specs.Prelude.{◌≡◌, length};
@@ -75,8 +76,5 @@ pub fn put_words(out: &mut [u8], words: &[u32]) -> usize
         ≡ sets out.old 0 (fitting out.old 0 (bytes_of words.now)) }
     ensures value { result ≡ length (fitting out.old 0 (bytes_of words.now)) }
 {
-    match bytes_of_words(words, out) {
-        Ok(n) => 4 * n,
-        Err(_) => 0,
-    }
+    bytes_of_words(words, out).map_or(0, |n| 4 * n)
 }

@@ -56,10 +56,7 @@ pub fn words_of_bytes(bytes: &[u8], words: &mut [u32]) -> Result<usize, Refusal>
         tray (λ (n : ℕ). words_of bytes.now) (length bytes.now / 4)
         (read_words bytes.now (length words.old)) words.old }
 {
-    if bytes.len() % 4 != 0 {
-        return Err(Refusal::Ragged);
-    }
-    let count = bytes.len() / 4;
+    let count = word_count(bytes)?;
     if words.len() < count {
         return Err(Refusal::ShortTray);
     }

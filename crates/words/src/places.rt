@@ -8,7 +8,7 @@ pub fn word_or_zero(words: &[u32], place: usize) -> u32
     if place < words.len() { words[place] } else { 0 }
 }
 
-// A word as a count or a place: Rust has no `From` of it, and the cast has a name for those who read words.
+// A word as a count or a place, where words are counted: Rust has no `From` of it.
 pub fn wide(w: u32) -> usize
     ensures { result ≡ w }
 {

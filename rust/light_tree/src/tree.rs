@@ -186,7 +186,7 @@ fn node_count(lamps: usize) -> usize {
     (2 * lamps).saturating_sub(1)
 }
 
-/// Of so many lamps the deepest tree is built in 57 kB of stack: 400 bytes a fork, and 5 kB besides.
+/// Of so many lamps the deepest tree takes 37 kB of stack, 288 bytes a fork.
 const LAMPS_IN_PLACE: usize = 128;
 /// More than twice what the deepest tree of 4,096 lamps takes.
 const BUILD_STACK: usize = 4 << 20;
@@ -227,7 +227,7 @@ impl LightTree {
     /// The tree of lamps' bounds. A lamp's handle is its place; one whose phi is 0 is not in the tree.
     ///
     /// Two allocations, both returned: nodes and table. The block and build's work stand behind the nodes, and their
-    /// room is given back. Build calls itself, 400 bytes of stack for each fork on the way down, 1.7 MB for the
+    /// room is given back. Build calls itself, 288 bytes of stack for each fork on the way down, 1.2 MB for the
     /// deepest tree. So more than 128 lamps are built on a thread of their own with 4 MiB, and a caller needs no more
     /// than 64 KiB; what the thread allocates is freed with it.
     ///

@@ -1,14 +1,15 @@
 -- `alias_table::make_whole`: the bins of the entries passed are whole, whichever bins the words are those of. Assumes
 -- nothing.
-use Prim.Native.Nat.{◌-◌, ◌≤◌}
+use Prim.Native.Nat.{◌*◌}
 use mathlib.Core.Path.{◌≡◌}
-use lib.ListN.{length}
-use Rattle.alias_table.specs.AsCoded.Stacks.{Wholed}
+use lib.ListN.{length, drop}
+use Rattle.std.specs.Slice.Iter.{chunks_exact_rest, chunks_exact_size}
+use Rattle.alias_table.proofs.LoopLaws.{Wholing}
 use Rattle.alias_table.proofs.make_whole.Given as goal
 
-abbrev pub invariant-loop-k : goal.invariant-loop-k
-invariant-loop-k l =
-    (l.k ≤ l.n) × (length l.bins ≡ length l.initial.bins) × Wholed l.initial.bins l.work l.base l.k l.bins
-
-abbrev pub decreases-loop-k : goal.decreases-loop-k
-decreases-loop-k l = l.n - l.k
+abbrev pub invariant-loop-entry : goal.invariant-loop-entry
+invariant-loop-entry l = record {
+  size : chunks_exact_size l.entry-iterator ≡ 2;
+  rest : chunks_exact_rest l.entry-iterator ≡ drop (2 * length l.yielded) l.stack;
+  wholing : Wholing l.initial.bins l.stack l.bins (length l.yielded);
+}

@@ -1,7 +1,8 @@
 -- `alias_table::start`: the bins passed are written and pushed, and pushing the others leads to the start's state.
 -- Assumes nothing.
 use Rattle.alias_table.proofs.LoopLaws.{starting-none, starting-next, starting-all}
-use Rattle.alias_table.proofs.WeightLaws.{weighted-length}
+use Rattle.alias_table.proofs.WeightLaws.{weighted-length, weighted-at}
+use mathlib.Core.Path.{◌∙◌}
 use native.Mathlib.Omega.{arith}
 use Rattle.alias_table.proofs.start.Goals as goal
 
@@ -11,7 +12,8 @@ loop-i-init c = starting-none _ c.args.sum (weighted-length c.args.flat c.args.w
 
 pub loop-i-preserved : goal.loop-i-preserved
 loop-i-preserved c = let pushed = c.push.ensures in
-    starting-next c.loop-i.invariant (omega arith) c.weight_at.ensures c.put_bin.ensures
+    let weight = weighted-at c.args.flat c.args.weights.now c.loop-i.i (omega arith) in
+    starting-next c.loop-i.invariant (omega arith) (c.played_weight.ensures ∙ weight) c.put_bin.ensures
     pushed.under_after pushed.over_after pushed.work_after
 
 pub returns : goal.returns

@@ -1,7 +1,7 @@
 -- The game of AliasTable.antt in words: how the two stacks stand in the lent work, and what each step of the code does
 -- to the words. Definitions only. Assumes nothing.
 use Rattle.std.specs.Prelude.{Option, Some, None}
-use Rattle.std.specs.Prelude.{ℕ, zero, suc, ◌+◌, ◌*◌, ◌≤◌, ◌<◌, ◌≡◌, Bool, cond, List, [], ◌∷◌, ◌++◌, map, Float}
+use Rattle.std.specs.Prelude.{ℕ, zero, suc, ◌+◌, ◌*◌, ◌/◌, ◌≤◌, ◌<◌, ◌≡◌, Bool, cond, List, [], ◌∷◌, ◌++◌, map, Float}
 use Rattle.std.specs.Prelude.{length, get_or, set, drop, replicate}
 use Rattle.std.specs.Float.{binary32, binary64}
 use Rattle.std.specs.Float.Ieee.{to_bits}
@@ -101,12 +101,14 @@ Played m bins₀ work₀ under₀ over₀ bins work under over =
     (bins_rest work_rest : List ℕ) (s : State) → Game m bins_rest work_rest s bins₀ work₀ under₀ over₀
     → Game m bins_rest work_rest (turns m s) bins work under over
 
-abbrev pub Left : List ℕ → List ℕ → ℕ → ℕ → Type 0
-Left bins work base n =
-    (bs : List Bin) × (bins_rest : List ℕ) × (bins ≡ bin_words bs ++ bins_rest) × Sound (length bs) base work n ×
-    (base + 2 * n ≤ length work)
+-- what is left on a stack, of the words that it stands in
+abbrev pub Left : List ℕ → List ℕ → Type 0
+Left bins stack =
+    (bs : List Bin) × (bins_rest : List ℕ) × (bins ≡ bin_words bs ++ bins_rest) ×
+    Sound (length bs) 0 stack (length stack / 2)
 
-abbrev pub Wholed : List ℕ → List ℕ → ℕ → ℕ → List ℕ → Type 0
-Wholed bins₀ work base n bins =
-    (bs : List Bin) (bins_rest : List ℕ) → bins₀ ≡ bin_words bs ++ bins_rest → Sound (length bs) base work n
-    → bins ≡ bin_words (leftover (stack_at base work n) bs) ++ bins_rest
+abbrev pub Wholed : List ℕ → List ℕ → List ℕ → Type 0
+Wholed bins₀ stack bins =
+    (bs : List Bin) (bins_rest : List ℕ) → bins₀ ≡ bin_words bs ++ bins_rest
+    → Sound (length bs) 0 stack (length stack / 2)
+    → bins ≡ bin_words (leftover (stack_at 0 stack (length stack / 2)) bs) ++ bins_rest

@@ -1,21 +1,60 @@
--- The number against 4 is the tray's own test: past it the reserve is zeroed, up to it left. Assumes nothing.
-use Prim.Native.Nat.{ℕ, ◌≤◌, ◌<◌}
-use mathlib.Core.Path.{refl, sym, subst, ◌∙◌}
+-- By the refusal: four leave the tray, and the others zero its reserve. Assumes nothing.
+use Prim.Native.Nat.{◌≤◌, ◌<◌}
+use mathlib.Core.Path.{◌≡◌, refl, sym, ◌∙◌}
+use mathlib.Core.Logic.{◌⊎◌, inl, inr}
+use native.Mathlib.Omega.{arith}
+use Rattle.words.specs.Refusals.{number}
+use Rattle.words.specs.declared.refusals.Refusal.{Refusal}
+use Rattle.words.specs.declared.refusals.Refusal.TheVariants.{
+  Ragged,
+  Crowded,
+  ShortTray,
+  Misplaced,
+  NotFinite,
+  Inverted,
+  NoDirection,
+  OutOfRange,
+  NoArea,
+  LostUnion,
+  BadU,
+  BrokenTree,
+  TooWide,
+}
 use Rattle.words.specs.Laws.TrayLaws.{tray-early}
 use Rattle.words.proofs.Reserves.{tray-zeroed}
 use Rattle.light_c.specs.Codes.{answer_reserve, summary_list}
 use Rattle.light_c.proofs.refuse_build.Goals as goal
+use Rattle.light_c.proofs.refuse_build.Goals.{in-Ragged, in_default}
 
-pub returns-then-n-gt4 : goal.returns-then-n-gt4
-returns-then-n-gt4 c = let answer = c.args.answer.now in
-    let late = subst (λ (n : ℕ). 4 < n) c.number-n.ensures c.if-n-gt4.true in
-    let left = tray-zeroed summary_list answer_reserve answer answer _ c.requires refl late in
-    record { value = c.number-n.ensures; answer_after = c.zero_words.ensures ∙ left }
+early : (why : Refusal) → (why ≡ Ragged) ⊎ (why ≡ Crowded) ⊎ (why ≡ ShortTray) ⊎ (why ≡ Misplaced) → number why ≤ 4
+early why (inl e) = rw e (omega arith)
+early why (inr (inl e)) = rw e (omega arith)
+early why (inr (inr (inl e))) = rw e (omega arith)
+early why (inr (inr (inr e))) = rw e (omega arith)
 
-pub returns-else-n-gt4 : goal.returns-else-n-gt4
-returns-else-n-gt4 c = let early = subst (λ (n : ℕ). n ≤ 4) c.number-n.ensures c.if-n-gt4.false in
-    let answer = c.args.answer.now in
-    record {
-      value = c.number-n.ensures;
-      answer_after = sym (tray-early summary_list answer_reserve answer _ early);
-    }
+late : (why : Refusal) → (why ≡ Ragged → ⊥) → (why ≡ Crowded → ⊥) → (why ≡ ShortTray → ⊥) → (why ≡ Misplaced → ⊥) →
+    4 < number why
+late Ragged a b c d = absurd (a refl)
+late Crowded a b c d = absurd (b refl)
+late ShortTray a b c d = absurd (c refl)
+late Misplaced a b c d = absurd (d refl)
+late NotFinite a b c d = omega arith
+late Inverted a b c d = omega arith
+late NoDirection a b c d = omega arith
+late OutOfRange a b c d = omega arith
+late NoArea a b c d = omega arith
+late LostUnion a b c d = omega arith
+late BadU a b c d = omega arith
+late BrokenTree a b c d = omega arith
+late TooWide a b c d = omega arith
+
+pub returns-clause-answer_after : goal.returns-clause-answer_after
+returns-clause-answer_after c = let answer = c.args.answer.now in
+    elim c.match-why.branch [
+      | in-Ragged w ↦ let n = early c.args.why w.in-Ragged.is in
+          w.answer-is ∙ sym (tray-early summary_list answer_reserve answer _ n)
+      | in_default w ↦ let d = w.in_default in
+          w.answer-is ∙ w.zero_words.ensures
+          ∙ tray-zeroed summary_list answer_reserve answer answer _ c.requires refl
+          (late c.args.why d.not-Ragged d.not-Crowded d.not-ShortTray d.not-Misplaced)
+    ]

@@ -42,7 +42,7 @@ nodes : (c : After-put_words-nodes)
     × (c.put_words-nodes.result ≡ length (node_bytes (report_tree c.args.front.now)))
 nodes c tree =
     let front = c.args.front.now in
-    let words = ap (λ (n : ℕ). bytes_of (take n c.take_tree.new.room.nodes)) c.node_words-words.ensures in
+    let words = ap (λ (n : ℕ). bytes_of (take n c.take_tree.new.room.nodes)) c.nodes_reserve-words.ensures in
     let room : length (node_bytes (report_tree front)) ≤ length c.args.tree.now.nodes =
     omega (arith, (tree-room front (report_tree front) refl).0) in
     words-fit _ _ (node_bytes (report_tree front))
@@ -63,7 +63,8 @@ table c tree =
     let room : length (table_bytes (report_tree front)) ≤ length c.args.tree.now.table =
     omega (arith, (tree-room front (report_tree front) refl).1) in
     words-fit _ _ (table_bytes (report_tree front))
-    (table-front front c.in-Ok.taken.lamps c.in-Ok.taken.powered tree _ _ _ c.take_tree.ensures.table_after)
+    (rw c.wide.ensures
+    (table-front front c.in-Ok.taken.lamps c.in-Ok.taken.powered tree _ _ _ c.take_tree.ensures.table_after))
     room (c.put_words-table.ensures.out_after, c.put_words-table.ensures.value)
 
 -- of a bad block
@@ -80,13 +81,15 @@ module _ (c : After-put_refused) where
       (omega arith) said
       (c.put_refused.ensures.out_after, c.put_refused.ensures.value)
 
-pub node_words-words-requires : goal.node_words-words-requires
-node_words-words-requires c = omega (arith, (few c).0, (few c).1)
+pub overflow_cast-taken : goal.overflow_cast-taken
+overflow_cast-taken c =
+    let tree = few (goal.at.overflow_cast-taken c).In-Ok in
+    record { fits = omega (arith, tree.0, tree.1) }
 
 pub shared_ref_as_front-put_words : goal.shared_ref_as_front-put_words
 shared_ref_as_front-put_words c =
     let tree = few (goal.at.shared_ref_as_front-put_words c).In-Ok in
-    omega (arith, c.node_words-words.ensures, tree.0, tree.1)
+    omega (arith, c.nodes_reserve-words.ensures, tree.0, tree.1)
 
 pub shared_ref_as_front-put_words-in-Ok : goal.shared_ref_as_front-put_words-in-Ok
 shared_ref_as_front-put_words-in-Ok c =

@@ -11,7 +11,7 @@ use lib.ListN.{length, get_or}
 use Rattle.light_bvh.proofs.BuildLaws.{rows-fit}
 use Rattle.light_bvh.proofs.RowsLaws.{labels-fit}
 use Rattle.light_bvh.proofs.RowTrays.{Gathered, gathered, end_of, table-front, Lent}
-use Rattle.light_bvh.proofs.RowTrays.{rows_none, rows_lost, rows-tree, rows-boxed}
+use Rattle.light_bvh.proofs.RowTrays.{rows_none, rows_lost, rows-tree, rows-boxed, nodes-here, nodes-built}
 use Rattle.light_bvh.proofs.build.build_rows.Goals as goal
 use Rattle.light_bvh.proofs.build.build_rows.Goals.{After-gather_handles-k, After-build_subtree}
 
@@ -78,13 +78,11 @@ build_subtree-requires-clause-by_index c =
     let g = got (goal.at.build_subtree-requires-clause-by_index c).After-gather_handles-k in
     labels-fit _ _ g.checked g.few g.long
 
-pub overflow_cast-k : goal.overflow_cast-k
-overflow_cast-k c =
-    let g = got (goal.at.overflow_cast-k c).After-gather_handles-k in omega (arith, g.within, g.few)
-
-pub overflow_mul-k : goal.overflow_mul-k
-overflow_mul-k c =
-    let g = got (goal.at.overflow_mul-k c).After-gather_handles-k in omega (arith, g.within, g.few)
+pub table_leaves-requires : goal.table_leaves-requires
+table_leaves-requires c =
+    let l = lent (goal.at.table_leaves-requires c).After-build_subtree in
+    let g = l.gathered in
+    rw (nodes-built l) (omega (arith, nodes-here l, g.within, g.few))
 
 pub returns-in-Err : goal.returns-in-Err
 returns-in-Err c =
@@ -102,7 +100,7 @@ returns c =
     let answer : built (Ok c.map.result) ≡ given (c.gather_handles-k.result, some box) =
     grind (arith, common_steps, there) in
     let told = c.in_default.ensures in
-    let h = rows-tree l told.result_value told.nodes_after
-    (rw (c.nodes_reserve.ensures, m) at c.zero_words.ensures) (rw (c.wide-2.ensures, m) at c.fill-2.ensures)
-    c.table_leaves.ensures (rw (c.work_reserve.ensures, m) at c.zero_words-2.ensures) box (sym is) in
+    let h = rows-tree l told.result_value told.nodes_after (rw (c.wide-2.ensures, m) at c.fill-2.ensures)
+    (rw (nodes-built l) at c.table_leaves.ensures) (rw (c.nodes_reserve.ensures, m) at c.zero_words.ensures)
+    (rw (c.work_reserve.ensures, m) at c.zero_words-2.ensures) box (sym is) in
     record { result_value = answer ∙ h.0; nodes_after = h.1.0; table_after = h.1.1.0; work_after = h.1.1.1 }

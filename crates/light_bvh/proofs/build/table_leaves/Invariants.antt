@@ -3,5 +3,5 @@ use mathlib.Core.Path.{◌≡◌}
 use Rattle.light_bvh.specs.AsCoded.Tables.{tabled_below}
 use Rattle.light_bvh.proofs.build.table_leaves.Given as goal
 
-abbrev pub invariant-loop-i : goal.invariant-loop-i
-invariant-loop-i l = l.table ≡ tabled_below l.nodes l.i l.initial.table
+abbrev pub invariant-loop-place : goal.invariant-loop-place
+invariant-loop-place l = l.table ≡ tabled_below l.nodes l.place l.initial.table

@@ -20,7 +20,3 @@ returns-then-fits c = let ws = c.args.words.now in
       c.words_of_record.ensures,
       Post-is at (at + record_words) ws (omega arith),
     ) (sym (sets-eq r ws at room ∙ append_assoc _ r _))
-
-pub returns-else-fits : goal.returns-else-fits
-unfolding written_at
-returns-else-fits c = rw (← c.fits.ensures, c.if-fits.false)

@@ -1,14 +1,10 @@
 -- `packed_bvh::pack::pack_light_bvh`: the first checks leave the lent bytes as they are; then box, nodes and lamps
 -- agree and the nodes are packed, or the reserve is zeroed. Assumes nothing.
-use Prim.Native.Nat.{◌*◌, ◌≤◌}
 use mathlib.Core.Path.{refl, sym}
 use mathlib.Core.Option.{some}
-use lib.ListN.{length}
 use borrow.Author.Rules.{rules}
 use Rattle.words.specs.Answers.{optional}
 use Rattle.words.specs.Refusals.{number}
-use Rattle.light_rows.specs.Nodes.{max_nodes}
-use Rattle.packed_bvh.specs.Packed.{packed_reserve}
 use Rattle.packed_bvh.proofs.PackLaws.{check-known, agreed-some, agreed-none, outcome-early, outcome_late}
 use Rattle.packed_bvh.proofs.PackLaws.{outcome-agreed, outcome-nothing}
 use Rattle.packed_bvh.proofs.pack.pack_light_bvh.Goals as goal
@@ -21,23 +17,14 @@ returns-in_err-n c =
     (sym c.in_err-n.ensures) in
     record { result_value = rw (← h.0) (search rules); out_after = h.1 }
 
--- few enough nodes, and their words fit
-fits : (c : In_ok-n) → (c.in_ok-n.n ≤ max_nodes) × (4 * packed_reserve c.in_ok-n.n ≤ length c.args.out.now)
-fits c =
-    let (few, room, reserve) = check-known c.args.nodes.now c.args.out.now c.in_ok-n.n (sym c.in_ok-n.ensures) in
-    (few, room)
-
 pub pack_nodes-requires : goal.pack_nodes-requires
 pack_nodes-requires c =
-    let h = fits (goal.at.pack_nodes-requires c).In_ok-n in
+    let at = (goal.at.pack_nodes-requires c).In_ok-n in
+    let (counted, room) = check-known c.args.nodes.now c.args.out.now at.in_ok-n.n (sym at.in_ok-n.ensures) in
     record {
-      n_bound = h.0;
-      n_nonzero = agreed-some _ _ _ (sym (rw c.in-Ok-Some.field-0-is at c.in-Ok-Some.ensures));
-      n_in_bounds = h.1;
+      n_nonzero = rw counted (agreed-some _ _ _ (sym (rw c.in-Ok-Some.field-0-is at c.in-Ok-Some.ensures)));
+      n_in_bounds = room;
     }
-
-pub zero_reserve-requires : goal.zero_reserve-requires
-zero_reserve-requires c = (fits (goal.at.zero_reserve-requires c).In_ok-n).0
 
 pub returns-in-Ok-Some : goal.returns-in-Ok-Some
 returns-in-Ok-Some c =

@@ -1,7 +1,0 @@
--- `light_bounds::bounds::greater`: axis by axis. Assumes nothing.
-use Rattle.light_bounds.specs.Bounds.{greatest_of}
-use Rattle.light_bounds.proofs.bounds.greater.Goals as goal
-
-pub returns : goal.returns
-unfolding greatest_of
-returns c = λ i. record { x = c.by_axis.ensures.x i; y = c.by_axis.ensures.y i; z = c.by_axis.ensures.z i }
