@@ -5,16 +5,18 @@ use Rattle.std.proofs.Common.{ap, ◌∙◌, arith}
 use Rattle.std.specs.Float.Ieee.{eq}
 use Rattle.ieee.specs.Single.{◌⊘◌, zerof, onef}
 use Rattle.words.proofs.AnswerLaws.{given_injective, refused_injective, not-both}
-use Rattle.words.specs.Answers.{given, refused, ◌then◌, answered}
+use Rattle.words.specs.Answers.{Answer, given, refused, ◌then◌, answered}
 use Rattle.words.specs.Refusals.{number}
 use Rattle.words.specs.declared.refusals.Refusal.{Refusal}
 use Rattle.words.specs.declared.refusals.Refusal.TheVariants.{Ragged, Crowded, ShortTray, Misplaced, NotFinite}
 use Rattle.words.specs.declared.refusals.Refusal.TheVariants.{Inverted, NoDirection, OutOfRange, NoArea}
 use Rattle.words.specs.declared.refusals.Refusal.TheVariants.{LostUnion, BadU, BrokenTree, TooWide}
 use Rattle.light_bounds.specs.Importance.{NormalStep, lit, facing, normal_factor, with_normal, importance_by}
-use Rattle.light_bounds.specs.Importance.{finite_query, importance, weigh}
+use Rattle.light_bounds.specs.Importance.{finite_query, checked_importance, importance, weigh}
+use Rattle.light_bounds.specs.LightBounds.{validate}
 use Rattle.light_bounds.specs.Vecmath.{dot, normalize, dividing, scaled, vec_length}
-use Rattle.light_bounds.specs.AsCoded.Weighing.{Normal, of_length, unit_normal, prepared, with_held, weigh_held}
+use Rattle.light_bounds.specs.AsCoded.Weighing.{Normal, of_length, unit_normal, finite_point, prepared, with_held}
+use Rattle.light_bounds.specs.AsCoded.Weighing.{held_importance, weigh_held}
 use Rattle.light_bounds.specs.declared.vecmath.Vec3.{Vec3}
 use Rattle.light_bounds.specs.declared.light_bounds.LightBounds.{LightBounds}
 use Rattle.light_bounds.specs.declared.importance.Query.{Query}
@@ -33,11 +35,23 @@ with-held n wi cos_b p d2 = go (eq (dot n n) zerof) (dividing (vec_length n)) (s
     go false true unit = refl
     go false false unit = refl
 
+-- the point that is held says whether the query is finite
+point-held : (r : LightBounds) (q : Query) (normal : NormalStep)
+    → held_importance r (finite_point q) normal ≡ checked_importance r q.p (finite_query q) normal
+unfolding checked_importance
+point-held r q normal = go (finite_query q)
+  where
+    go : (finite : Bool)
+        → held_importance r (cond finite (Some q.p) None) normal ≡ checked_importance r q.p finite normal
+    go true = refl
+    go false = refl
+
 pub weigh-held : (r : LightBounds) (q : Query) → weigh_held r (prepared q) ≡ weigh r q
-unfolding weigh_held prepared weigh importance
+unfolding weigh_held prepared weigh importance importance_by
 weigh-held r q =
-    ap (λ (normal : NormalStep). importance_by r q.p (finite_query q) normal)
+    ap (λ (normal : NormalStep). validate r then λ _. held_importance r (finite_point q) normal)
     (λ i wi cos_b p d2. with-held q.n wi cos_b p d2 i)
+    ∙ ap (λ (x : Answer Float). validate r then λ _. x) (point-held r q (with_normal q.n))
 
 pub weigh-prepared : (r : LightBounds) (h : Prepared) (q : Query) → h ≡ prepared q → weigh_held r h ≡ weigh r q
 weigh-prepared r h q e = ap (λ (x : Prepared). weigh_held r x) e ∙ weigh-held r q

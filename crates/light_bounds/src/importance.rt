@@ -5,12 +5,13 @@
 ghost use Rattle.words.specs.Answers.{answered};
 ghost use Rattle.std.specs.Prelude.{◌≡◌};
 ghost use Rattle.light_bounds.specs.Cones.{cos_sub_clamped};
-ghost use Rattle.light_bounds.specs.Importance.{importance as importance_of, checked_importance, finite_query};
+ghost use Rattle.light_bounds.specs.Importance.{importance as importance_of, finite_query};
 ghost use Rattle.light_bounds.specs.Importance.{geometry as geometry_of, toward as toward_of};
 ghost use Rattle.light_bounds.specs.Importance.{distance2 as distance2_of};
 ghost use Rattle.light_bounds.specs.Importance.{finish, normal_factor, cos_p, cos_w, sine as sine_of};
 ghost use Rattle.light_bounds.specs.AsCoded.Views.{seen, viewed};
-ghost use Rattle.light_bounds.specs.AsCoded.Weighing.{prepared, unit_normal, with_held, weigh_held, is_plain};
+ghost use Rattle.light_bounds.specs.AsCoded.Weighing.{prepared, finite_point, unit_normal, with_held};
+ghost use Rattle.light_bounds.specs.AsCoded.Weighing.{held_importance, weigh_held, is_plain};
 
 use super::bounds::{centroid, diagonal};
 use super::cones::{safe_sqrt, subtended};
@@ -36,12 +37,11 @@ pub fn importance(record: LightBounds, query: Query) -> Result<f32, Refusal>
 
 // ---- the query as a walk holds it
 
-// The point, whether all of the query is finite (a record's own refusals come before that of the query), and its normal
-// where there is one: at length 1, or why it has no length to divide by.
+// The point, none where the query is not finite (a record's own refusals come before that), and its normal where there
+// is one: at length 1, or why it has no length to divide by.
 #[derive(Clone, Copy)]
 pub struct Prepared {
-    pub p: Vec3,
-    pub is_finite: bool,
+    pub p: Option<Vec3>,
     pub normal: Option<Result<Vec3, Refusal>>,
 }
 
@@ -49,11 +49,19 @@ pub struct Prepared {
 pub fn prepare(query: Query) -> Prepared
     ensures { result ≡ prepared query }
 {
-    let p = query.p;
     Prepared {
-        p,
-        is_finite: is_finite_query(query),
+        p: finite_point(query),
         normal: unit_normal(query.n),
+    }
+}
+
+fn finite_point(query: Query) -> Option<Vec3>
+    ensures { result ≡ finite_point query }
+{
+    if is_finite_query(query) {
+        Some(query.p)
+    } else {
+        None
     }
 }
 
@@ -84,13 +92,12 @@ pub fn weigh_prepared(record: LightBounds, query: Prepared) -> Result<f32, Refus
 
 // Of a record that passed its check.
 fn weigh_valid(record: LightBounds, query: Prepared) -> Result<f32, Refusal>
-    ensures { answered result
-        ≡ checked_importance «record» query.p query.is_finite (with_held query.normal) }
+    ensures { answered result ≡ held_importance «record» query.p (with_held query.normal) }
 {
-    if query.is_finite {
-        return Ok(finished(record.phi, geometry(record, query)?));
-    }
-    Err(Refusal::NotFinite)
+    let Some(p) = query.p else {
+        return Err(Refusal::NotFinite);
+    };
+    Ok(finished(record.phi, geometry(record, p, query.normal)?))
 }
 
 // How a query sees a record: `Dark` weighs nothing; `Lit` has a cosine and a squared distance, `Facing` the
@@ -114,16 +121,20 @@ fn finished(phi: f32, view: View) -> f32
     }
 }
 
-fn geometry(record: LightBounds, query: Prepared) -> Result<View, Refusal>
-    ensures { viewed result ≡ geometry_of «record» query.p (with_held query.normal) }
+fn geometry(
+    record: LightBounds,
+    p: Vec3,
+    normal: Option<Result<Vec3, Refusal>>,
+) -> Result<View, Refusal>
+    ensures { viewed result ≡ geometry_of «record» p (with_held normal) }
 {
-    let delta = sub(query.p, centroid(record.bounds));
+    let delta = sub(p, centroid(record.bounds));
     let d2 = distance2(record, delta);
     if d2 <= 0.0 {
         return Ok(View::Dark);
     }
     let wi = normalize(delta)?;
-    toward(record, query, d2, wi)
+    toward(record, p, normal, d2, wi)
 }
 
 // The squared distance to the centre, at least half the diagonal's length. From far enough the length is not
@@ -140,14 +151,19 @@ fn distance2(record: LightBounds, delta: Vec3) -> f32
 }
 
 // Without a normal the box's cosine is needed outside the cone alone: inside it the smallest angle is none.
-fn toward(record: LightBounds, query: Prepared, d2: f32, wi: Vec3) -> Result<View, Refusal>
-    ensures { viewed result ≡ toward_of «record» query.p (with_held query.normal) d2 wi }
+fn toward(
+    record: LightBounds,
+    p: Vec3,
+    normal: Option<Result<Vec3, Refusal>>,
+    d2: f32,
+    wi: Vec3,
+) -> Result<View, Refusal>
+    ensures { viewed result ≡ toward_of «record» p (with_held normal) d2 wi }
 {
-    let normal = query.normal;
     if is_plain(record, normal, wi) {
         return Ok(View::Lit { cos_p: 1.0, d2 });
     }
-    let cos_b = subtended(record.bounds, query.p, length(diagonal(record.bounds)));
+    let cos_b = subtended(record.bounds, p, length(diagonal(record.bounds)));
     let cos_p = smallest_angle(record, wi, cos_b);
     if cos_p <= record.cos_theta_e {
         return Ok(View::Dark);

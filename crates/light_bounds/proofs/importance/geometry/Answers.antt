@@ -11,10 +11,10 @@ use Rattle.light_bounds.proofs.importance.geometry.Goals as goal
 use Rattle.light_bounds.proofs.importance.geometry.Goals.{After-sub-delta}
 
 -- from the centre to the point
-delta : (c : After-sub-delta) → (let s = c.args in minus s.query.p (centroid s.record.bounds)) ≡
+delta : (c : After-sub-delta) → (let s = c.args in minus s.p (centroid s.record.bounds)) ≡
     c.sub-delta.result
 delta c =
-    sym (c.sub-delta.ensures ∙ ap (λ (v : Vec3). minus c.args.query.p v)
+    sym (c.sub-delta.ensures ∙ ap (λ (v : Vec3). minus c.args.p v)
     c.centroid.ensures)
 
 pub returns-then-d2 : goal.returns-then-d2

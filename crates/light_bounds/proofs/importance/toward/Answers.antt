@@ -8,7 +8,7 @@ use Rattle.light_bounds.proofs.importance.toward.Goals as goal
 pub returns-then-is_plain : goal.returns-then-is_plain
 returns-then-is_plain c = let a = c.args in
     let told = sym c.is_plain.ensures ∙ c.if-is_plain.true in
-    sym (plain a.record a.query.p a.wi a.d2 a.query.normal told)
+    sym (plain a.record a.p a.wi a.d2 a.normal told)
 
 pub returns-then-cos_p-record : goal.returns-then-cos_p-record
 unfolding toward
