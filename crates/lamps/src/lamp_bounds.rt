@@ -11,9 +11,9 @@ ghost use Rattle.lamps.specs.LampBounds.{group_bounds, spot_record, faced_record
 
 use super::lamp_list::{Lamp, TRIANGLE_WORDS};
 use light_bounds::bounds::{Bounds3, check, greater, lesser};
-use light_bounds::cones::Cone;
+use light_bounds::cones::{Cone, EVERYWHERE};
 use light_bounds::light_bounds::{LightBounds, are_cosines, union, validate};
-use light_bounds::vecmath::{Vec3, Z_AXIS, is_finite, is_finite_vec, normalize};
+use light_bounds::vecmath::{Vec3, is_finite, is_finite_vec, normalize};
 use light_rows::record_words::vec_at;
 use std::f32::consts::PI;
 use trig::{acos, cos};
@@ -157,11 +157,13 @@ fn point_bounds(position: Vec3, intensity: Emission) -> Result<LightBounds, Refu
     intensity.validate()?;
     let bounds = point_box(position);
     check(bounds)?;
-    let cone = Cone {
-        direction: Z_AXIS,
-        cos_theta: -1.0,
-    };
-    checked(LightBounds::of_lamp(bounds, cone, intensity.point_phi(), COS_HALF_PI, false))
+    checked(LightBounds::of_lamp(
+        bounds,
+        EVERYWHERE,
+        intensity.point_phi(),
+        COS_HALF_PI,
+        false,
+    ))
 }
 
 // The cosine of the falloff's angle; where that rounds to 1 and there is a falloff, 0.999.

@@ -29,7 +29,7 @@ pub struct Cursor {
     pub at: usize,
 }
 
-// `LightBoundInput`, a group's triangles beside it.
+// `LightBoundInput`; a group's triangles stay beside it, where the list has them.
 #[derive(Clone, Copy)]
 pub enum Lamp {
     Point {
@@ -191,7 +191,7 @@ fn group_fits(list: &[u32], at: usize) -> bool
         && wide(list[at + 4]) <= (list.len() - (at + GROUP_WORDS)) / TRIANGLE_WORDS
 }
 
-// Whether a group's side word is known: the list's own test, beside that of a record's side word.
+// Whether a group's side word is known. List and record are two layouts, so each has its own test.
 fn is_list_side(w: u32) -> bool
     ensures { result ≡ list_side_known w }
 {

@@ -4,7 +4,7 @@ ghost use Rattle.std.specs.Prelude.{◌≡◌};
 ghost use Rattle.light_bounds.specs.Bounds.{diagonal as diagonal_of};
 ghost use Rattle.light_bounds.specs.Vecmath.{vec_length};
 ghost use Rattle.light_bounds.specs.Cones.{safe_sqrt, bound_subtended_directions, union_direction_cones};
-ghost use Rattle.light_bounds.specs.Cones.{axis_or, joined, whole_sphere};
+ghost use Rattle.light_bounds.specs.Cones.{axis_or, joined};
 
 use super::bounds::{Bounds3, centroid};
 use super::vecmath::{Vec3, Z_AXIS, angle_between, cross, dot, normalize, rotate, sub};
@@ -21,6 +21,12 @@ pub struct Cone {
     pub direction: Vec3,
     pub cos_theta: f32,
 }
+
+// Every direction.
+pub const EVERYWHERE: Cone = Cone {
+    direction: Z_AXIS,
+    cos_theta: -1.0,
+};
 
 #[tactic(auto, unfolding(crate::specs::Cones::safe_sqrt))]
 pub fn safe_sqrt(value: f32) -> f32
@@ -82,24 +88,15 @@ fn join(a: Vec3, b: Vec3, theta_a: f32, theta_o: f32) -> Cone
     ensures { result ≡ joined a b theta_a theta_o }
 {
     if theta_o >= PI {
-        return everywhere();
+        return EVERYWHERE;
     }
     let axis = cross(a, b);
     if dot(axis, axis) == 0.0 {
-        return everywhere();
+        return EVERYWHERE;
     }
     Cone {
         direction: rotate(a, unit_or_z(normalize(axis)), theta_o - theta_a),
         cos_theta: cos(theta_o),
-    }
-}
-
-fn everywhere() -> Cone
-    ensures { result ≡ whole_sphere }
-{
-    Cone {
-        direction: Z_AXIS,
-        cos_theta: -1.0,
     }
 }
 

@@ -1,7 +1,7 @@
 // The importance of a record for a point and a normal (specs/Importance.antt, specs/AsCoded/Weighing.antt), as
 // pbrt-r4's LightBounds has it. A walk weighs many records for one query, so what hangs on the query alone is worked
-// out once (`prepare`), and a root that decides nothing is not taken. In an archive `weigh_prepared` belongs into the
-// walk: the compiler lays a function that is called in one place into its caller.
+// out once (`prepare`), and a root that decides nothing is not taken. `weigh_prepared` has one caller in an archive, so
+// that the compiler lays it into the walk.
 ghost use Rattle.words.specs.Answers.{answered};
 ghost use Rattle.std.specs.Prelude.{◌≡◌};
 ghost use Rattle.light_bounds.specs.Cones.{cos_sub_clamped};
@@ -245,7 +245,7 @@ fn less_the_box(sin_x: f32, cos_x: f32, cos_b: f32) -> f32
 }
 
 // The normal's factor, by the cosine between it and the direction: the same steps, but that the first sine too is taken
-// only where it is needed. As a closure it would have no value to state where it is not taken.
+// only where it is needed. Not `less_the_box` with a closure for it: a closure that is not called promises no value.
 fn facing(c: f32, cos_b: f32) -> f32
     ensures { result ≡ normal_factor c cos_b }
 {

@@ -1,5 +1,5 @@
 // The side of a record (specs/Side.antt): what its last word says. It is judged, read, written and joined here alone,
-// so that another word is a change of this file and of its definitions.
+// but that packing writes it as one bit (packed_bvh `cone_word`).
 ghost use Rattle.std.specs.Prelude.{◌≡◌};
 ghost use Rattle.light_bounds.specs.Side.{side_known, side_of, side_word, lamp_side, either as either_of};
 

@@ -1,4 +1,5 @@
-// Vectors of three f32, by value (specs/Vecmath.antt). Sums run left to right, each step rounded once.
+// Vectors of three f32, by value (specs/Vecmath.antt). Sums run left to right, each step rounded once. They are free
+// functions under the Rust's names, and no `Add` or `Sub`, which it has not.
 ghost use Rattle.words.specs.Answers.{answered};
 ghost use Rattle.std.specs.Prelude.{◌≡◌};
 ghost use Rattle.std.specs.Float.Ieee.Scale.{finite};
@@ -26,6 +27,7 @@ pub const Z_AXIS: Vec3 = Vec3 {
     z: 1.0,
 };
 
+// By a name, since its promise is the definition's `finite`.
 pub fn is_finite(x: f32) -> bool
     ensures { result ≡ finite x }
 {
@@ -82,6 +84,7 @@ pub fn cross(a: Vec3, b: Vec3) -> Vec3
     }
 }
 
+// This and `divide_vector` are written out: for `by_axis` a vector of one number three times would be made first.
 pub fn scale_vector(v: Vec3, scale: f32) -> Vec3
     ensures { result ≡ scaled v scale }
 {

@@ -2,8 +2,8 @@
 ghost use Rattle.std.specs.Prelude.{◌≡◌};
 ghost use Rattle.words.specs.AsCoded.Fill.{filled};
 
-// Writes v from place `from` up to, not including, place `to`, as far as the slice goes. By a `for`: std's `fill` asks
-// of T that its clones never fail, which this function would have to ask in turn.
+// Writes v from place `from` up to, not including, place `to`, as far as the slice goes. By a `for`: std's `fill`
+// requires that cloning a T cannot fail, and this function would have to require it too.
 pub fn fill<T: Copy>(s: &mut [T], from: usize, to: usize, v: T)
     ensures { s.new ≡ filled s.old from to v }
 {

@@ -4,7 +4,7 @@ ghost use Rattle.words.specs.Limits.{crowded as crowded_of};
 
 use super::places::word_or_zero;
 
-// Lamps of a list or a block, and weights.
+// Lamps of a list or a block, weights, words of a handle table.
 pub const MAX_LAMPS: usize = 4096;
 
 // Words of a list or a block: 2^20.

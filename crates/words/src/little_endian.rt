@@ -49,7 +49,7 @@ pub fn set_word(bytes: &mut [u8], place: usize, w: u32)
 }
 
 // Reads the words of bytes into a lent slice. A length that is no multiple of four is refusal 1, a slice that is too
-// short for the words 3.
+// short for the words 3. By places, since `word_in` and `set_word` alone say where the bytes of a word stand.
 pub fn words_of_bytes(bytes: &[u8], words: &mut [u32]) -> Result<usize, Refusal>
     ensures result_value { answered result ≡ read_words bytes.now (length words.old) }
     ensures words_after { words.new ≡

@@ -5,10 +5,10 @@ ghost use Rattle.std.specs.Prelude.{◌≡◌, get_or};
 pub fn word_or_zero(words: &[u32], place: usize) -> u32
     ensures { result ≡ get_or words.now place 0 }
 {
-    if place < words.len() { words[place] } else { 0 }
+    words.get(place).copied().unwrap_or(0)
 }
 
-// A word as a count or a place, where words are counted: Rust has no `From` of it.
+// A u32 as a usize: Rust has no `From` of it. Where no proof cites its promise by name, it is cast with `as`.
 pub fn wide(w: u32) -> usize
     ensures { result ≡ w }
 {

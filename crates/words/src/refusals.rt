@@ -35,7 +35,7 @@ pub enum Refusal {
 }
 
 impl Refusal {
-    // The refusal's number.
+    // The refusal's number, under the name that its definition has.
     pub fn number(self) -> u32
         ensures { result ≡ number self }
     {

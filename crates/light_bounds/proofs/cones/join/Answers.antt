@@ -1,5 +1,6 @@
 -- `light_bounds::cones::join`: every direction, or the turned axis. Assumes nothing.
-use mathlib.Core.Path.{◌≡◌, sym, ◌∙◌, ap}
+use mathlib.Core.Path.{◌≡◌, refl, sym, ◌∙◌, ap}
+use lib.Ieee.{neg, of_bits}
 use Rattle.ieee.specs.Single.{◌⊖◌}
 use Rattle.light_bounds.specs.Cones.{axis_or, joined}
 use Rattle.light_bounds.specs.Vecmath.{dot, cross, normalize, rotate}
@@ -11,14 +12,13 @@ parallel : (c : After-dot) → (let s = c.args in dot (cross s.a s.b) (cross s.a
 parallel c = sym (c.dot.ensures ∙ ap (λ (v : Vec3). dot v v) c.cross-axis.ensures)
 
 pub returns-then-theta_o : goal.returns-then-theta_o
-unfolding joined
-returns-then-theta_o c = rw c.if-theta_o.true c.everywhere.ensures
+unfolding joined neg of_bits
+returns-then-theta_o c = rw c.if-theta_o.true refl
 
 pub returns-then-dot : goal.returns-then-dot
-unfolding joined
+unfolding joined neg of_bits
 returns-then-dot c =
-    rw (c.if-theta_o.false, parallel (goal.at.returns-then-dot c).After-dot, c.if-dot.true)
-    c.everywhere-then-dot.ensures
+    rw (c.if-theta_o.false, parallel (goal.at.returns-then-dot c).After-dot, c.if-dot.true) refl
 
 pub returns : goal.returns
 unfolding joined
