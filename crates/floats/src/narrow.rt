@@ -11,7 +11,7 @@ use words::floats::Float;
 pub fn widen(x: f32) -> f64
     ensures { result ≡ x }
 {
-    if x.is_nan() { f64::NAN } else { x as f64 }
+    f64::from(x)
 }
 
 // The f32 nearest to x, ties to even.

@@ -20,7 +20,7 @@ fn series_step<const S: u32>(z: f64, m: u32, q: f64) -> f64
     requires m_bound { m ≤ 20 }
     ensures { result ≡ series_step S z m q }
 {
-    let divisor = ((2 * m - S) * (2 * m + 1 - S)) as f64;
+    let divisor = f64::from((2 * m - S) * (2 * m + 1 - S));
     1.0 - z / divisor * q
 }
 
@@ -44,8 +44,8 @@ fn arc_step(z: f64, m: u32, p: f64) -> f64
     requires m_bound { m ≤ 16 }
     ensures { result ≡ arc_step z m p }
 {
-    let odd = ((2 * m - 1) * (2 * m - 1)) as f64;
-    let divisor = (2 * m * (2 * m + 1)) as f64;
+    let odd = f64::from((2 * m - 1) * (2 * m - 1));
+    let divisor = f64::from(2 * m * (2 * m + 1));
     1.0 + p * (z * odd / divisor)
 }
 
