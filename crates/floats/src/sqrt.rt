@@ -108,8 +108,8 @@ struct Scaled {
     half: u64,
 }
 
-// The number d * 2^e so: d is shifted until its leading digit is at place 52, and once more where the exponent is then
-// odd.
+// d * 2^e as scaled digits: d is shifted until its leading digit is at place 52, and once more where the exponent is
+// then odd.
 fn normalised(d: u64, e: u64) -> Scaled
     requires d_nonzero { 0 < d }
     requires d_bound { d < 2 ^ 53 }
