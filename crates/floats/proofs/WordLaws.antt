@@ -1,8 +1,7 @@
 -- Functions on floats that are taken by their words, as grind takes them: a word is read back as the value that it was
 -- made of, and the root of a word goes by the tests that part the words. Assumes nothing.
-use Rattle.std.proofs.Common.{◌≡◌, ℕ, refl, sym, subst, inl, inr, not, cond, leb, ltb, suc}
+use Rattle.std.proofs.Common.{◌≡◌, ℕ, refl, sym, subst, inl, inr, cond, suc}
 use Rattle.std.proofs.Common.{◌+◌, ◌*◌, ◌/◌, ◌%◌, ◌^◌, ◌<◌, ◌≤◌, ◌≢◌}
-use Rattle.std.proofs.lemmas.Bool.Decides.{leb_tells}
 use Rattle.std.specs.Prelude.{T, Float, true}
 use Rattle.std.specs.Float.{Format, binary32, binary64}
 use Rattle.std.specs.Float.Ieee.{of_bits, to_bits, fits, lt, sub}
@@ -10,13 +9,10 @@ use Rattle.std.specs.Float.Ieee.Bits.{of_bits-to_bits}
 use Rattle.ieee.specs.Choose.{fabs}
 use Rattle.ieee.specs.Narrow.{narrow}
 use Rattle.ieee.specs.Sqrt.{sqrt, root_of}
-use Rattle.ieee.specs.Whole.{floor, ceil, round_away, next_whole}
 use Rattle.ieee.specs.Laws.AbsLaws.{abs_greater}
 use Rattle.ieee.specs.Laws.FormatLaws.{sqrt-fits}
 use Rattle.ieee.specs.Laws.NarrowLaws.{narrow-fits}
 use Rattle.ieee.specs.Laws.SqrtWords.{sqrt-own, sqrt-none, sqrt_subnormal, sqrt-normal}
-use Rattle.ieee.specs.Laws.WholeLaws.{floor-fits, floor-word, ceil-fits, ceil-word, round_away-fits}
-use borrow.Author.Tests.{lt-ltb, le-ltb}
 use lib.Ieee.{top, hid, ones, low}
 
 -- ---- words read back
@@ -24,29 +20,13 @@ use lib.Ieee.{top, hid, ones, low}
 pub read_back : (f : Format) (x : Float) → fits f x ≡ true → of_bits f (to_bits f x) ≡ x
 read_back f x h = of_bits-to_bits f x (subst T (sym h) tt)
 
-pub floor_back : (x : Float) → of_bits binary32 (to_bits binary32 (floor binary32 x)) ≡ floor binary32 x
-floor_back x = of_bits-to_bits binary32 _ (floor-fits binary32 x)
-
-pub ceil_back : (x : Float) → of_bits binary32 (to_bits binary32 (ceil binary32 x)) ≡ ceil binary32 x
-ceil_back x = of_bits-to_bits binary32 _ (ceil-fits binary32 x)
-
-pub round_back : (x : Float) → of_bits binary32 (to_bits binary32 (round_away binary32 x)) ≡ round_away binary32 x
-round_back x = of_bits-to_bits binary32 _ (round_away-fits binary32 x)
-
 pub narrow_back : (x : Float) → of_bits binary32 (to_bits binary32 (narrow x)) ≡ narrow x
 narrow_back x = of_bits-to_bits binary32 _ (narrow-fits x)
 
 pub root_back : (f : Format) (x : Float) → fits f x ≡ true → of_bits f (to_bits f (sqrt f x)) ≡ sqrt f x
 root_back f x h = of_bits-to_bits f (sqrt f x) (sqrt-fits f x (subst T (sym h) tt))
 
--- `ceil` asks whether a word is below its sign's bit, and not whether it fails to be at it
-pub ceil_word : (f : Format) (w : ℕ) → next_whole f (ltb w (top f)) (of_bits f w) ≡ ceil f (of_bits f w)
-ceil_word f w = rw (← not_leb (top f) w) (ceil-word f w)
-  where
-    not_leb : (a b : ℕ) → not (leb a b) ≡ ltb b a
-    not_leb a b = elim (leb_tells a b) [ inl h ↦ rw (h.0, le-ltb b a h.1) | inr h ↦ rw (h.0, lt-ltb b a h.1) ]
-
-pub ruleset backs = (read_back, floor_back, floor-word, ceil_back, ceil_word, round_back, narrow_back, root_back)
+pub ruleset backs = (read_back, narrow_back, root_back)
 
 -- ---- the size of a float, as `abs` takes it
 

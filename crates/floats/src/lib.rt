@@ -1,7 +1,10 @@
 // The library functions of docs/REQUIREMENTS.md R2 on floats, at every bit pattern: NaN, infinities, both zeros and
 // subnormals included. Each promise is an equation with a definition of crates/ieee/specs, which reads as its line
-// there. They are written out here and are not the library's methods (`f32::min`, `sqrt`, `floor`, casts and the like),
-// because R2 states each of them itself, and each is proved here, step by step, to keep its line.
+// there. `floor`, `ceil`, `round` and `widen` are the library's. The others are written out:
+// - `min`, `max`: the library's leave open which of two equal values is given, as 0 and -0; R2.4 asks for the first.
+// - `clamp`, `is_sign_negative`: the library's ask their caller for ends in order, and for no NaN; by R1.6 nothing is.
+// - `sqrt`: R2.3 and R16.5 fix its steps, and the library's is one operation of the processor.
+// - `abs`, `narrow` and the casts to whole numbers: the library's are slower, by the figures beside them.
 #![tactic(auto)]
 
 pub mod choose;

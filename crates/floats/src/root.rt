@@ -8,7 +8,7 @@ ghost use Rattle.ieee.specs.Laws.SqrtWords.{sticky};
 use super::shift::shifted_to_even;
 use words::floats::Float;
 
-// n = normal * 2^odd, with normal from 2^52 up to 2^53.
+// Made as n = normal * 2^odd, with normal from 2^52 up to 2^53; the fields below are what is proved of it.
 #[derive(Clone, Copy)]
 pub(crate) struct Digits {
     pub(crate) n: u64,
@@ -85,7 +85,7 @@ impl Digits {
             let middle = low + step;
             if middle * middle <= self.n {
                 low = middle;
-                range = range - step;
+                range -= step;
             } else {
                 range = step;
             }
@@ -163,7 +163,7 @@ impl Digits {
         if near.is_nan() {
             return self.kept_root();
         }
-        let q = f64::to_bits(near) % 0x200_0000;
+        let q = near.to_bits() % 0x200_0000;
         if self.is_nearest(q) {
             q
         } else {

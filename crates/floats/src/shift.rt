@@ -1,4 +1,4 @@
-// Powers of two, and rounding, by a shift.
+// Rounding by a shift.
 ghost use Rattle.std.specs.Prelude.{◌≡◌, ◌^◌, ◌≤◌, ◌<◌};
 ghost use Rattle.std.specs.Float.Ieee.Nearest.{closest};
 
@@ -11,12 +11,4 @@ pub(crate) fn shifted_to_even(a: u64, gone: u64) -> u64
 {
     let half = 1u64 << (gone - 1);
     (a + (half - 1) + (a >> gone) % 2) >> gone
-}
-
-// 2 to the k.
-pub(crate) fn power(k: u32) -> u32
-    requires { k < 32 }
-    ensures { result ≡ 2 ^ k }
-{
-    1u32 << k
 }

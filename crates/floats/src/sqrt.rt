@@ -70,12 +70,12 @@ fn sqrt_word(w: u32) -> u32
     }
     // subnormal: the digits as they are, with the exponent of a field of 1
     if w < 0x80_0000 {
-        return digits_root(w as u64, 151, |x| x.kept_root());
+        return digits_root(u64::from(w), 151, |x| x.kept_root());
     }
     // normal, as most are: by a float near the root
     digits_root(
-        (0x80_0000 + w % 0x80_0000) as u64,
-        (w / 0x80_0000 + 150) as u64,
+        u64::from(0x80_0000 + w % 0x80_0000),
+        u64::from(w / 0x80_0000 + 150),
         |x| x.nearest_root(),
     )
 }
@@ -108,8 +108,8 @@ struct Scaled {
     half: u64,
 }
 
-// The number d * 2^e so: d is shifted until its leading digit is at place 52, and once more where the exponent is then
-// odd.
+// d * 2^e as scaled digits: d is shifted until its leading digit is at place 52, and once more where the exponent is
+// then odd.
 fn normalised(d: u64, e: u64) -> Scaled
     requires d_nonzero { 0 < d }
     requires d_bound { d < 2 ^ 53 }
@@ -118,7 +118,7 @@ fn normalised(d: u64, e: u64) -> Scaled
     ensures half_bound { 2 * result.half ≤ e }
     ensures e_bound { e ≤ 2 * result.half + 53 }
 {
-    let shift = (u64::leading_zeros(d) - 11) as u64;
+    let shift = u64::from(d.leading_zeros() - 11);
     let normal = d << shift;
     let exponent = e - shift;
     let odd = exponent % 2;

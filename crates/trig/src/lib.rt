@@ -20,7 +20,7 @@ fn series_step<const S: u32>(z: f64, m: u32, q: f64) -> f64
     requires m_bound { m ≤ 20 }
     ensures { result ≡ series_step S z m q }
 {
-    let divisor = ((2 * m - S) * (2 * m + 1 - S)) as f64;
+    let divisor = f64::from((2 * m - S) * (2 * m + 1 - S));
     1.0 - z / divisor * q
 }
 
@@ -44,8 +44,8 @@ fn arc_step(z: f64, m: u32, p: f64) -> f64
     requires m_bound { m ≤ 16 }
     ensures { result ≡ arc_step z m p }
 {
-    let odd = ((2 * m - 1) * (2 * m - 1)) as f64;
-    let divisor = (2 * m * (2 * m + 1)) as f64;
+    let odd = f64::from((2 * m - 1) * (2 * m - 1));
+    let divisor = f64::from(2 * m * (2 * m + 1));
     1.0 + p * (z * odd / divisor)
 }
 
@@ -70,7 +70,7 @@ fn twice_arc(y: f64) -> f64
     2.0 * arc(sqrt((1.0 - y) / 2.0))
 }
 
-// NaN beyond 8 on either side.
+// The cosine of x, and NaN beyond 8 on either side.
 #[tactic(auto, using(crate::proofs::Cases::turns_cases))]
 pub fn cos(x: f32) -> f32
     ensures { result ≡ cos_of x }
@@ -83,6 +83,7 @@ pub fn cos(x: f32) -> f32
     }
 }
 
+// The sine of x, likewise.
 #[tactic(auto, using(crate::proofs::Cases::turns_cases))]
 pub fn sin(x: f32) -> f32
     ensures { result ≡ sin_of x }
@@ -95,8 +96,8 @@ pub fn sin(x: f32) -> f32
     }
 }
 
-// NaN beyond 1 on either side. Cones are often a point, a half or a whole sphere, whose arcs are known; a quarter
-// turn's cosine is rounded to -4.3711388e-8.
+// The arc whose cosine is x, and NaN beyond 1 on either side. Cones are often a point, a half or a whole sphere, whose
+// arcs are known; a quarter turn's cosine is rounded to -4.3711388e-8.
 #[tactic(auto, using(crate::proofs::KnownArcs::known))]
 pub fn acos(x: f32) -> f32
     ensures { result ≡ acos_of x }
@@ -129,7 +130,8 @@ fn acos_steps(x: f32) -> f32
     }
 }
 
-// NaN beyond 1 on either side. Directions are often the same, and then the arc between them is of 0.
+// The arc whose sine is x, and NaN beyond 1 on either side. Directions are often the same, and then the arc between
+// them is of 0.
 #[tactic(auto, using(crate::proofs::KnownArcs::known))]
 pub fn asin(x: f32) -> f32
     ensures { result ≡ asin_of x }
@@ -140,6 +142,7 @@ pub fn asin(x: f32) -> f32
     asin_steps(x)
 }
 
+// The same for every argument.
 #[tactic(auto, using(crate::proofs::Cases::arc_cases))]
 fn asin_steps(x: f32) -> f32
     ensures { result ≡ asin_of x }

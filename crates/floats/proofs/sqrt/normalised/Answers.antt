@@ -41,17 +41,18 @@ bounds c =
 twice-shifted : (c : Start) → last c % 2 ^ 64 ≡ last c
 twice-shifted c = mod-eq_of_lt (lt_of_lt_of_le (bounds c).to (lit≤ tt))
 
-pub overflow_sub-shift : goal.overflow_sub-shift
-overflow_sub-shift c = (found c).enough
+pub overflow_sub-d : goal.overflow_sub-d
+overflow_sub-d c = (found c).enough
 
 pub invariant_of-result : goal.invariant_of-result
 invariant_of-result c =
-    let n = found c in
-    let b = bounds c in
+    let s = (goal.at.invariant_of-result c).Start in
+    let n = found s in
+    let b = bounds s in
     record {
-      n_from = rw (shifted c, twice-shifted c) b.from;
-      n_bound = rw (shifted c, twice-shifted c) b.to;
-      normal_bound = rw (shifted c) n.to;
+      n_from = rw (c.from-shift.ensures, shifted s, twice-shifted s) b.from;
+      n_bound = rw (c.from-shift.ensures, shifted s, twice-shifted s) b.to;
+      normal_bound = rw (c.from-shift.ensures, shifted s) n.to;
       odd_bound = omega arith;
     }
 
@@ -61,7 +62,7 @@ returns c =
     let n = found s in
     let l : shift s ≤ s.args.e = omega arith in
     record {
-      half_value = rw (shifted s, twice-shifted s) (normal-same s.args.d (shift s) s.args.e l);
+      half_value = rw (c.from-shift.ensures, shifted s, twice-shifted s) (normal-same s.args.d (shift s) s.args.e l);
       half_bound = omega arith;
       e_bound = omega arith;
     }
