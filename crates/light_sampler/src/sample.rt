@@ -7,7 +7,7 @@ ghost use Rattle.light_sampler.specs.Sampler.{sample_check, sample, drawn};
 ghost use Rattle.light_sampler.specs.Walks.{turn as turn_of, descend as descend_of};
 ghost use Rattle.light_sampler.specs.AsCoded.Turns.{by_prepared, turn_answer};
 
-use super::fork::{MOST, Turn, fork};
+use super::fork::{Branch, MOST, Turn, fork};
 use super::weigh::Walk;
 use floats::choose::min;
 use light_bounds::importance::{Query, prepare};
@@ -62,18 +62,12 @@ fn descend(
                 let Some(to) = walk.turn(place, right_child, u)? else {
                     return Ok(None);
                 };
-                match to {
-                    Turn::Left { share, u: next } => {
-                        pmf *= share;
-                        u = next;
-                        place += 1;
-                    }
-                    Turn::Right { share, u: next } => {
-                        pmf *= share;
-                        u = next;
-                        place = right_child as usize;
-                    }
-                }
+                pmf *= to.share;
+                u = to.u;
+                place = match to.branch {
+                    Branch::Left => place + 1,
+                    Branch::Right => right_child as usize,
+                };
             }
         }
     }

@@ -71,10 +71,10 @@ loop-preserved c = let at = goal.at.loop-preserved c in
     let to = rw c.in-Some.is at c.in_ok-to-in-Interior.ensures in
     elim c.match-to.branch [
       | in-Left w ↦
-          rw (w.place-is, w.pmf-is, w.u-is)
+          rw w.place-is
           (sym (descend-left _ _ _ _ _ _ node c.prepare.ensures (rw w.in-Left.is at to)) ∙ going at.In-loop)
       | in-Right w ↦
-          rw (w.place-is, w.pmf-is, w.u-is)
+          rw w.place-is
           (sym (descend-right _ _ _ _ _ _ node c.prepare.ensures (rw w.in-Right.is at to)) ∙ going at.In-loop)
     ]
 
