@@ -10,7 +10,7 @@ ghost use Rattle.light_sampler.specs.AsCoded.Turns.{by_prepared, turn_answer};
 use super::fork::{Branch, MOST, Turn, fork};
 use super::weigh::Walk;
 use floats::choose::min;
-use light_bounds::importance::{Query, prepare};
+use light_bounds::importance::Query;
 use light_rows::nodes::{Node, node_at, node_count};
 use words::refusals::Refusal;
 
@@ -43,10 +43,7 @@ fn descend(
 ) -> Result<Option<SampledLight>, Refusal>
     ensures { drawn result ≡ (descend_of (words_of nodes.now) query count 0 onef u).outcome }
 {
-    let walk = Walk {
-        nodes,
-        query: prepare(query),
-    };
+    let walk = Walk::new(nodes, query);
     let mut place: usize = 0;
     let mut pmf: f32 = 1.0;
     let mut u = u;
@@ -74,12 +71,13 @@ fn descend(
     Err(Refusal::BrokenTree)
 }
 
-// 2 and 1 of the nodes, 11 of u: how many nodes there are.
+// Crowded and Ragged of the nodes, BadU; else how many nodes there are.
 #[tactic(auto, using(words::proofs::AnswerLaws::steps), unfolding(crate::specs::Sampler::sample_check))]
 fn check_sample(nodes: &[u8], u: f32) -> Result<usize, Refusal>
     ensures { answered result ≡ sample_check nodes.now u }
 {
     let n = node_count(nodes)?;
+    // `(0.0..=1.0).contains(&u)` was tried (docs/WORKLOG.md): its fact speaks of `float_partial_cmp`.
     if 0.0 <= u && u <= 1.0 {
         return Ok(n);
     }
