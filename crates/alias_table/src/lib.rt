@@ -22,6 +22,12 @@ use words::floats::Float;
 use words::limits::MAX_LAMPS;
 use words::refusals::Refusal;
 
+// The word of no alias, as a bin has it.
+const NO_ALIAS: u32 = 0xffff_ffff;
+
+// The word of 1, as a bin's q has it.
+const ONE: u32 = 0x3f80_0000;
+
 // The sum of the weights as f32 and as f64.
 #[derive(Clone, Copy)]
 struct Sums {
@@ -64,6 +70,7 @@ pub fn build_power_alias_table(
         zero_words(work, 0, 4 * m);
         return Err(Refusal::OutOfRange);
     };
+    // The definition's own flag (`weighted flat words`): a sum of 0 makes every weight one.
     let flat = sums.single == 0.0;
     build(weights, flat, total(flat, sums.double, m), bins, work);
     Ok(m)
@@ -97,6 +104,7 @@ fn total(flat: bool, double: f64, m: usize) -> f32
     }
 }
 
+// The Rust's own sum, one step a weight. That it is `m as f64` would be one lemma more.
 fn ones(m: usize) -> f64
     ensures { result ≡ sum_from binary64 zerof (replicate m onef) }
 {
@@ -158,7 +166,7 @@ fn put_bin(bins: &mut [u32], at: usize, p: f32)
     requires { at + 2 < length bins.old }
     ensures { bins.new ≡ sets bins.old at (0 ∷ to_bits binary32 p ∷ 0xffff_ffff ∷ []) }
 {
-    bins[at..at + 3].copy_from_slice(&[0, p.word(), 0xffff_ffff]);
+    bins[at..at + 3].copy_from_slice(&[0, p.word(), NO_ALIAS]);
 }
 
 impl Heights {
@@ -196,7 +204,7 @@ fn play(m: usize, bins: &mut [u32], work: &mut [u32], first: Heights) -> Heights
         result.under result.over }
 {
     let mut heights = first;
-    'turns: while 0 < heights.under && 0 < heights.over {
+    while 0 < heights.under && 0 < heights.over {
         heights.under -= 1;
         heights.over -= 1;
         let u = 2 * heights.under;
@@ -233,6 +241,6 @@ fn make_whole(bins: &mut [u32], stack: &[u32])
     ensures { Wholed bins.old stack.now bins.new }
 {
     for entry in stack.chunks_exact(2) {
-        bins[3 * (entry[1] as usize)] = 0x3f80_0000;
+        bins[3 * (entry[1] as usize)] = ONE;
     }
 }

@@ -8,11 +8,18 @@ use floats::choose::min;
 // The greatest u that a walk goes on with, 3f7ffffe: 1 - 2^-23.
 pub const MOST: f32 = 0.99999988;
 
+#[derive(Clone, Copy)]
+pub enum Branch {
+    Left,
+    Right,
+}
+
 // The branch that a fork sends u into, with its share and the u within it.
 #[derive(Clone, Copy)]
-pub enum Turn {
-    Left { share: f32, u: f32 },
-    Right { share: f32, u: f32 },
+pub struct Turn {
+    pub branch: Branch,
+    pub share: f32,
+    pub u: f32,
 }
 
 #[tactic(auto, unfolding(crate::specs::Fork::parted))]
@@ -20,13 +27,15 @@ fn part(share: f32, u: f32) -> Turn
     ensures { turned (Some result) ≡ parted_of share u }
 {
     if u < share {
-        return Turn::Left {
+        return Turn {
+            branch: Branch::Left,
             share,
             u: min(u / share, MOST),
         };
     }
     let rest = 1.0 - share;
-    Turn::Right {
+    Turn {
+        branch: Branch::Right,
         share: rest,
         u: min((u - share) / rest, MOST),
     }

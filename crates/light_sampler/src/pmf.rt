@@ -9,7 +9,7 @@ ghost use Rattle.light_rows.specs.Nodes.{node_value, node_at};
 ghost use Rattle.light_sampler.specs.AsCoded.Turns.{by_prepared, risen_of, leaf_found};
 
 use super::weigh::Walk;
-use light_bounds::importance::{Query, prepare};
+use light_bounds::importance::Query;
 use light_rows::nodes::{INVALID_INDEX, Node, node_at, node_count};
 use words::limits::MAX_LAMPS;
 use words::little_endian::word_at;
@@ -55,10 +55,7 @@ impl Walk<'_> {
 fn ascend(nodes: &[u8], query: Query, count: usize, leaf: u32) -> Result<f32, Refusal>
     ensures { answered result ≡ (ascend_of (words_of nodes.now) query count leaf onef).outcome }
 {
-    let walk = Walk {
-        nodes,
-        query: prepare(query),
-    };
+    let walk = Walk::new(nodes, query);
     let mut place = leaf as usize;
     let mut here = node_at(nodes, place)?;
     let mut pmf: f32 = 1.0;
@@ -80,7 +77,7 @@ fn ascend(nodes: &[u8], query: Query, count: usize, leaf: u32) -> Result<f32, Re
     Err(Refusal::BrokenTree)
 }
 
-// 2 of the nodes or of the table, then 1: how many nodes there are.
+// Crowded of the table or the nodes, then Ragged; else how many nodes there are.
 #[tactic(auto, using(words::proofs::AnswerLaws::steps), unfolding(crate::specs::Sampler::pmf_check))]
 fn check_pmf(nodes: &[u8], table: &[u8]) -> Result<usize, Refusal>
     ensures { answered result ≡ pmf_check nodes.now table.now }

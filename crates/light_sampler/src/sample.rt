@@ -7,10 +7,10 @@ ghost use Rattle.light_sampler.specs.Sampler.{sample_check, sample, drawn};
 ghost use Rattle.light_sampler.specs.Walks.{turn as turn_of, descend as descend_of};
 ghost use Rattle.light_sampler.specs.AsCoded.Turns.{by_prepared, turn_answer};
 
-use super::fork::{MOST, Turn, fork};
+use super::fork::{Branch, MOST, Turn, fork};
 use super::weigh::Walk;
 use floats::choose::min;
-use light_bounds::importance::{Query, prepare};
+use light_bounds::importance::Query;
 use light_rows::nodes::{Node, node_at, node_count};
 use words::refusals::Refusal;
 
@@ -43,10 +43,7 @@ fn descend(
 ) -> Result<Option<SampledLight>, Refusal>
     ensures { drawn result ≡ (descend_of (words_of nodes.now) query count 0 onef u).outcome }
 {
-    let walk = Walk {
-        nodes,
-        query: prepare(query),
-    };
+    let walk = Walk::new(nodes, query);
     let mut place: usize = 0;
     let mut pmf: f32 = 1.0;
     let mut u = u;
@@ -62,30 +59,25 @@ fn descend(
                 let Some(to) = walk.turn(place, right_child, u)? else {
                     return Ok(None);
                 };
-                match to {
-                    Turn::Left { share, u: next } => {
-                        pmf *= share;
-                        u = next;
-                        place += 1;
-                    }
-                    Turn::Right { share, u: next } => {
-                        pmf *= share;
-                        u = next;
-                        place = right_child as usize;
-                    }
-                }
+                pmf *= to.share;
+                u = to.u;
+                place = match to.branch {
+                    Branch::Left => place + 1,
+                    Branch::Right => right_child as usize,
+                };
             }
         }
     }
     Err(Refusal::BrokenTree)
 }
 
-// 2 and 1 of the nodes, 11 of u: how many nodes there are.
+// Crowded and Ragged of the nodes, BadU; else how many nodes there are.
 #[tactic(auto, using(words::proofs::AnswerLaws::steps), unfolding(crate::specs::Sampler::sample_check))]
 fn check_sample(nodes: &[u8], u: f32) -> Result<usize, Refusal>
     ensures { answered result ≡ sample_check nodes.now u }
 {
     let n = node_count(nodes)?;
+    // `(0.0..=1.0).contains(&u)` was tried (docs/WORKLOG.md): its fact speaks of `float_partial_cmp`.
     if 0.0 <= u && u <= 1.0 {
         return Ok(n);
     }

@@ -4,9 +4,10 @@ ghost use Rattle.words.specs.Answers.{answered};
 ghost use Rattle.std.specs.Prelude.{◌≡◌, ◌<◌, ◌^◌};
 ghost use Rattle.words.specs.LittleEndian.{words_of};
 ghost use Rattle.light_sampler.specs.Walks.{weigh_at, weights as weights_of};
+ghost use Rattle.light_bounds.specs.AsCoded.Weighing.{prepared};
 ghost use Rattle.light_sampler.specs.AsCoded.Turns.{by_prepared};
 
-use light_bounds::importance::{Prepared, weigh_prepared};
+use light_bounds::importance::{Prepared, Query, prepare, weigh_prepared};
 use light_rows::nodes::bounds_at;
 use words::refusals::Refusal;
 
@@ -15,6 +16,19 @@ use words::refusals::Refusal;
 pub(crate) struct Walk<'a> {
     pub(crate) nodes: &'a [u8],
     pub(crate) query: Prepared,
+}
+
+impl<'a> Walk<'a> {
+    // A walk for a query, which is prepared once and not at every weighing.
+    pub(crate) fn new(nodes: &'a [u8], query: Query) -> Walk<'a>
+        ensures nodes_value { result.nodes.now ≡ nodes.now }
+        ensures query_value { result.query ≡ prepared query }
+    {
+        Walk {
+            nodes,
+            query: prepare(query),
+        }
+    }
 }
 
 impl Walk<'_> {

@@ -13,7 +13,7 @@ ghost use Rattle.packed_bvh.specs.Packed.{packed_tree, pack_light_bvh, packed_by
 ghost use Rattle.packed_bvh.specs.Packed.{packed};
 ghost use Rattle.packed_bvh.specs.AsCoded.PackedParts.{placing, placed, agreement};
 
-use super::quantize::{octahedral, quantize_axis, quantize_cos, quantize_down, quantize_up};
+use super::quantize::{Axis, octahedral, quantize_axis, quantize_cos};
 use light_bounds::bounds::{Bounds3, check};
 use light_bounds::light_bounds::{LightBounds, validate};
 use light_bounds::vecmath::{Vec3, normalize_by_division};
@@ -55,24 +55,33 @@ fn cone_word(bounds: LightBounds) -> u32
 
 // The record within the overall box, with its direction at unit length.
 #[tactic(auto, unfolding(crate::specs::Packed::compact_words, crate::specs::Quantize::encode_octahedral))]
-fn compact_words(all: Bounds3, bounds: LightBounds, d: Vec3, payload: u32, parent: u32) -> [u32; 8]
+fn compact_words(
+    all: Bounds3,
+    bounds: LightBounds,
+    d: Vec3,
+    payload: u32,
+    parent: u32,
+) -> [u32; NODE_WORDS]
     ensures { result ≡ compact_words all bounds d payload parent }
 {
     let inner = bounds.bounds;
+    let x = Axis {
+        min: all.min.x,
+        max: all.max.x,
+    };
+    let y = Axis {
+        min: all.min.y,
+        max: all.max.y,
+    };
+    let z = Axis {
+        min: all.min.z,
+        max: all.max.z,
+    };
     let octahedral_direction = octahedral(d);
     [
-        pair(
-            quantize_down(inner.min.x, all.min.x, all.max.x),
-            quantize_down(inner.min.y, all.min.y, all.max.y),
-        ),
-        pair(
-            quantize_down(inner.min.z, all.min.z, all.max.z),
-            quantize_up(inner.max.x, all.min.x, all.max.x),
-        ),
-        pair(
-            quantize_up(inner.max.y, all.min.y, all.max.y),
-            quantize_up(inner.max.z, all.min.z, all.max.z),
-        ),
+        pair(x.quantize_down(inner.min.x), y.quantize_down(inner.min.y)),
+        pair(z.quantize_down(inner.min.z), x.quantize_up(inner.max.x)),
+        pair(y.quantize_up(inner.max.y), z.quantize_up(inner.max.z)),
         pair(
             quantize_axis(octahedral_direction.x),
             quantize_axis(octahedral_direction.y),
@@ -110,7 +119,7 @@ fn is_parent(parent: u32, count: usize) -> bool
     parent == INVALID_INDEX || (parent as usize) < count
 }
 
-// Payload, parent and left child of the node at a place among `count` nodes.
+// A node's payload and parent, once its payload's size, its parent and its left child are checked.
 fn place(node: Node, count: usize, index: usize) -> Result<Placed, Refusal>
     requires { index < count }
     ensures { placed result ≡ placing count index (node_value node) }
@@ -152,7 +161,12 @@ fn place(node: Node, count: usize, index: usize) -> Result<Placed, Refusal>
 
 // Its kind and its side, its record, its direction's length, then what `place` asks.
 #[tactic(auto, using(words::proofs::AnswerLaws::steps), unfolding(crate::specs::Packed::pack_node))]
-fn pack_node(nodes: &[u8], all: Bounds3, count: usize, index: usize) -> Result<[u32; 8], Refusal>
+fn pack_node(
+    nodes: &[u8],
+    all: Bounds3,
+    count: usize,
+    index: usize,
+) -> Result<[u32; NODE_WORDS], Refusal>
     requires { index < count }
     ensures { answered result ≡ pack_node count all (words_of nodes.now) index }
 {
@@ -177,7 +191,7 @@ fn write_words(out: &mut [u8], place: usize, words: &[u32])
     }
 }
 
-fn header(all: Bounds3) -> [u32; 8]
+fn header(all: Bounds3) -> [u32; HEADER_WORDS]
     ensures { result ≡ header all }
 {
     [
@@ -192,7 +206,7 @@ fn header(all: Bounds3) -> [u32; 8]
     ]
 }
 
-// The bytes of the packed nodes, 0 without nodes.
+// The bytes of the packed tree, header and nodes; 0 without nodes.
 fn bytes_reserve(nodes: &[u8]) -> usize
     ensures { result ≡ bytes_reserve nodes.now }
 {
@@ -235,7 +249,7 @@ fn pack_nodes(nodes: &[u8], all: Bounds3, out: &mut [u8]) -> Result<Option<usize
 
 // ---- the checks
 
-// 2, 1, 3: how many nodes there are.
+// Crowded, Ragged, ShortTray; else how many nodes there are.
 #[tactic(auto, using(crate::proofs::PackLaws::room_checks))]
 fn check_pack(nodes: &[u8], room: usize) -> Result<usize, Refusal>
     ensures { answered result ≡ pack_check nodes.now room }

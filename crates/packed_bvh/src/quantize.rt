@@ -7,38 +7,47 @@ use floats::choose::{abs, clamp, is_sign_negative};
 use floats::whole::to_u16;
 use light_bounds::vecmath::{Vec3, divide_vector};
 
-// ---- coordinates within an axis, in 65535 steps; 0 on an axis without extent. value, min and max are parameters of
-// their own, as in the Rust's signature.
+// ---- coordinates within an axis, in 65535 steps; 0 on an axis without extent
 
-#[tactic(auto, unfolding(crate::specs::Quantize::steps_of))]
-fn steps(value: f32, min: f32, max: f32) -> f32
-    ensures { result ≡ steps_of value min max }
-{
-    clamp((value - min) / (max - min), 0.0, 1.0) * 65535.0
+// The extent of the overall box along one axis.
+#[derive(Clone, Copy)]
+pub struct Axis {
+    pub min: f32,
+    pub max: f32,
 }
 
-// Down to a whole step, or up to one: `up` is the Rust's `ceil: bool`.
-fn quantize_bounds(up: bool, value: f32, min: f32, max: f32) -> u16
-    ensures { result ≡ quantize_bounds up value min max }
-{
-    if min == max {
-        return 0;
+impl Axis {
+    #[tactic(auto, unfolding(crate::specs::Quantize::steps_of))]
+    fn steps(self, value: f32) -> f32
+        ensures { result ≡ steps_of value self.min self.max }
+    {
+        clamp((value - self.min) / (self.max - self.min), 0.0, 1.0) * 65535.0
     }
-    let step = steps(value, min, max);
-    let n = to_u16(step);
-    if up && f32::from(n) < step { n + 1 } else { n }
-}
 
-pub fn quantize_down(value: f32, min: f32, max: f32) -> u16
-    ensures { result ≡ quantize_bounds false value min max }
-{
-    quantize_bounds(false, value, min, max)
-}
+    // Down to a whole step, or up to one. `up` is the definition's own flag (`quantize_bounds up`), the Rust's `ceil`:
+    // one body goes both ways.
+    fn quantize_bounds(self, up: bool, value: f32) -> u16
+        ensures { result ≡ quantize_bounds up value self.min self.max }
+    {
+        if self.min == self.max {
+            return 0;
+        }
+        let step = self.steps(value);
+        let n = to_u16(step);
+        if up && f32::from(n) < step { n + 1 } else { n }
+    }
 
-pub fn quantize_up(value: f32, min: f32, max: f32) -> u16
-    ensures { result ≡ quantize_bounds true value min max }
-{
-    quantize_bounds(true, value, min, max)
+    pub fn quantize_down(self, value: f32) -> u16
+        ensures { result ≡ quantize_bounds false value self.min self.max }
+    {
+        self.quantize_bounds(false, value)
+    }
+
+    pub fn quantize_up(self, value: f32) -> u16
+        ensures { result ≡ quantize_bounds true value self.min self.max }
+    {
+        self.quantize_bounds(true, value)
+    }
 }
 
 // ---- cosines, in 32767 steps from -1 to 1

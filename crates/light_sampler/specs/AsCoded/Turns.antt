@@ -11,17 +11,21 @@ use Rattle.light_sampler.specs.Fork.{Turn as Turned, neither, left, right}
 use Rattle.light_rows.specs.Nodes.{invalid_index}
 use Rattle.light_sampler.specs.Sampler.{leaf_of}
 use Rattle.light_sampler.specs.Walks.{Weighing, Rise, nought, part}
+use Rattle.light_sampler.specs.declared.fork.Branch.{Branch}
 use Rattle.light_sampler.specs.declared.fork.Turn.{Turn}
-use Rattle.light_sampler.specs.declared.fork.Turn.TheVariants.{Left, Right}
+use Rattle.light_sampler.specs.declared.fork.Branch.TheVariants.{Left, Right}
 
 -- for the query that is held; of `prepared q` it is `by_query q` (proofs WalkLaws `by-held`)
 abbrev pub by_prepared : Prepared → Weighing
 by_prepared h = λ (b : LightBounds). weigh_held b h
 
+abbrev pub into : Branch → Float → Float → Turned
+into Left s u = left s u
+into Right s u = right s u
+
 -- none: neither branch
 abbrev pub turned : Option Turn → Turned
-turned (Some (Left s u)) = left s u
-turned (Some (Right s u)) = right s u
+turned (Some to) = into to.branch to.share to.u
 turned None = neither
 
 abbrev pub turn_answer : Result (Option Turn) Refusal → Answer Turned
