@@ -1,6 +1,6 @@
 // A lamp list on standard input, its bounds block on standard output (specs/ListToBlock.antt): little-endian words in,
-// little-endian words out; or `refused N` and a line's end. Bytes that are no whole word make the list ragged (1),
-// unless it is over the limits (2). A must-fail edit needs the checked modules of a library, so all of the program stands
+// little-endian words out; or `refused N` and a line's end. Bytes that are no whole word make the list Ragged, unless it
+// is over the limits: Crowded. A must-fail edit needs the checked modules of a library, so all of the program stands
 // here and `lamps_to_block` only calls it.
 #![tactic(auto)]
 
@@ -85,6 +85,7 @@ struct Counts {
 fn read_list(list: &mut [u32; LIST_WORDS], chunk: &mut [u8; CHUNK_BYTES]) -> Counts
     ensures { result.words ≤ LIST_WORDS }
 {
+    // Not `step_by(CHUNK_WORDS)`: tried, it asks for a measure and an invariant where chunks by number ask for none.
     for i in 0..LIST_WORDS / CHUNK_WORDS {
         let start = CHUNK_WORDS * i;
         let n = io::read_full(0, chunk);
@@ -104,9 +105,9 @@ fn read_list(list: &mut [u32; LIST_WORDS], chunk: &mut [u8; CHUNK_BYTES]) -> Cou
     }
 }
 
-// Hands the answer to standard output; what was read is there to say whose it is. A program has
-// no exit status here, so one that cannot write says so. No public function in `text` for both programs: it could
-// promise nothing, as `io::write_all` promises nothing, and the sentence names the program.
+// Hands the answer to standard output; what was read is there to say whose it is. A program has no exit status here, so
+// one that cannot write says so. No public function in `text` for both programs: it could promise nothing, as
+// `io::write_all` promises nothing, and the sentence names the program.
 fn write(input: Input, text: &[u8])
     requires { text.now ≡ converted input.words.now input.stray }
 {
