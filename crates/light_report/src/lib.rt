@@ -1,7 +1,7 @@
 // The light report (docs/REQUIREMENTS.md R13; specs/Report.antt): a bounds block of at most 512 lamps and seven-word
 // groups p, n, u on standard input, little-endian; the report on standard output. Its lines are in lines.rt. The input
-// is read as a stream, a chunk of groups at a time, so a longer report takes no more memory. A program leaves no
-// checked modules for its wrong programs, so all of it stands in this library and `columns` only calls it.
+// is read as a stream, a chunk of groups at a time, so a longer report takes no more memory. A must-fail edit needs the
+// checked modules of a library, so all of the program stands here and `columns` only calls it.
 #![tactic(auto)]
 
 mod lines;
@@ -251,22 +251,23 @@ fn write(text: &[u8]) -> bool {
     false
 }
 
-// Each write is told of which bytes its text is to be the lines: of the block's,
+// Writes the block's lines; the contract says of which bytes.
 fn write_first(front: &[u8], text: &[u8]) -> bool
     requires { text.now ≡ first_lines (report_tree front.now) }
 {
     write(text)
 }
 
-// and of a chunk of groups behind them.
+// Writes a chunk's lines, likewise.
 fn write_lines(front: &[u8], groups: &[u8], text: &[u8]) -> bool
     requires { text.now ≡ chunk_lines (report_tree front.now) groups.now }
 {
     write(text)
 }
 
-// Reads a chunk of groups and writes its lines; whether there may be more. Front and tree are lent apart from chunk and
-// lines: these are written as those are read.
+// Reads a chunk of groups and writes its lines; whether there may be more. Chunk and lines are lent apart from front and
+// tree: they are written as these are read. Front and tree are no struct: `front` is there for the contract alone, whose
+// lines these are, and `tree` is what draws walk.
 fn write_chunk(
     front: &[u8],
     tree: Tree,
@@ -281,7 +282,8 @@ fn write_chunk(
     write_lines(front, &chunk[..n], &out[..end]) && n == chunk.len()
 }
 
-// A proved loop has to end, and nothing says that the input does: no run comes to the last turn.
+// The lines of all chunks, what is lent as in `write_chunk`. A proved loop has to end, and nothing says that the input
+// does: no run comes to the last turn.
 fn write_groups(
     front: &[u8],
     tree: Tree,
@@ -300,7 +302,7 @@ fn write_groups(
 
 // ---- the report
 
-// Behind a front that was read. It is lent apart from chunk and lines, which are written while it is read.
+// Behind a front that was read. It is lent apart from tree, chunk and lines, which are written while it is read.
 fn write_report(
     front: &[u8],
     tree: &mut WalkedTree,

@@ -8,7 +8,7 @@ ghost use Rattle.text.specs.AsCoded.Puts.{Put};
 ghost use Rattle.light_report.specs.Lines.{line, line_bytes, chance_bytes, group_shown};
 ghost use Rattle.light_report.specs.Lines.{group_line, report_lines};
 
-use light_rows::query_words::{QUERY_WORDS, float_at, query_of_bytes};
+use light_rows::query_words::{QUERY_WORDS, float_at, query_of};
 use light_sampler::pmf::bvh_light_sampler_pmf;
 use light_sampler::sample::{SampledLight, bvh_light_sampler_sample};
 use text::{put_decimal, put_hex, put_refused, put_text};
@@ -43,22 +43,23 @@ pub const LINE_BYTES: usize = 29;
 fn draw_group(tree: Tree, group: &[u8]) -> Result<Option<Line>, Refusal>
     ensures { line result ≡ group_shown tree.entry.nodes.now tree.entry.table.now (words_of group.now) }
 {
-    let query = query_of_bytes(group);
-    match bvh_light_sampler_sample(tree.nodes, query, float_at(group, QUERY_WORDS))? {
-        Some(SampledLight { light, pmf }) => {
-            let named = bvh_light_sampler_pmf(tree.nodes, tree.table, query, light)?;
-            Ok(Some(Line {
-                handle: light,
-                drawn: pmf,
-                named,
-            }))
-        }
-        None => Ok(None),
-    }
+    let query = query_of(group);
+    let u = float_at(group, QUERY_WORDS);
+    let Some(SampledLight { light, pmf }) = bvh_light_sampler_sample(tree.nodes, query, u)? else {
+        return Ok(None);
+    };
+    let named = bvh_light_sampler_pmf(tree.nodes, tree.table, query, light)?;
+    Ok(Some(Line {
+        handle: light,
+        drawn: pmf,
+        named,
+    }))
 }
 
-// ---- how it is written, at a place of the lent slice, as `text` writes; each asks for the room of a whole line there,
-// since how long a line is is known only when it is written
+// ---- how it is written, at a place of the lent slice, as `text` writes
+
+// Each asks for the room of a whole line at its place, since how long a line is is known only when it is written. No
+// type asks that: a struct of slice and place would have to promise of each call that it keeps the slice.
 
 // Writes a space and a float's bits; the place behind them.
 fn put_chance(out: &mut [u8], at: usize, x: f32) -> usize

@@ -24,7 +24,8 @@ pub const EXHAUSTIVE_BOUNDS_WORDS: usize = 1 + RECORD_WORDS;
 
 // ---- places
 
-// The words of a block of m rows; a next row's handle stands behind them.
+// The words of a block of m rows; a next row's handle stands behind them. m is a word, so that the sum can't overflow;
+// callers that have a usize cast it back, which is proved lossless.
 pub fn block_words(m: u32) -> usize
     ensures { result ≡ block_words m }
 {
@@ -89,7 +90,7 @@ fn put_row(block: &mut [u32], row: u32, record: LightBounds)
 
 // ---- the block's checks; its records are not judged
 
-// Over the limits is refusal 2, a wrong length or an unknown side 1: how many rows there are.
+// Over the limits is Crowded, a wrong length or an unknown side Ragged: how many rows there are.
 #[tactic(auto, unfolding(crate::specs::Block::block_layout))]
 pub fn check_layout(block: &[u32]) -> Result<usize, Refusal>
     ensures { answered result ≡ block_layout block.now }
@@ -117,7 +118,7 @@ fn check_sides(block: &[u32], m: u32) -> Result<usize, Refusal>
     Ok(wide(m))
 }
 
-// A handle that is not its place is refusal 4; words past the end are read as 0.
+// A handle that is not its place is Misplaced; words past the end are read as 0.
 #[tactic(auto, unfolding(crate::specs::Block::block_handles, words::specs::Rows::below))]
 pub fn check_handles(block: &[u32]) -> Result<usize, Refusal>
     ensures { answered result ≡ block_handles block.now }

@@ -13,6 +13,7 @@ ghost use Rattle.light_rows.specs.AsCoded.NodeRow.{node_fits, node_written};
 use super::record_words::{RECORD_WORDS, Words, read_record_bytes, record_or_zeros, write_record};
 use light_bounds::light_bounds::LightBounds;
 use words::heads::{handle_of, kind_of};
+use words::limits::MAX_LAMPS;
 use words::places::wide;
 use words::refusals::Refusal;
 
@@ -29,11 +30,16 @@ pub const NODE_WORDS: usize = BOUNDS_PLACE + RECORD_WORDS;
 // The bytes of a node.
 pub const NODE_BYTES: usize = 4 * NODE_WORDS;
 
-// The nodes of 4,096 lamps: no walk takes more.
-pub const MAX_NODES: usize = 8191;
+// The nodes of the most lamps: no walk takes more.
+pub const MAX_NODES: usize = 2 * MAX_LAMPS - 1;
 
-// A head's thirty bits: a handle and a left child are below it.
+// Handles and left children are below this: a head has thirty bits for them.
 pub const HEAD_ROOM: u32 = 0x4000_0000;
+
+// A head's two bits above them: which kind of node it is.
+const LEAF_KIND: u32 = 1;
+
+const INTERIOR_KIND: u32 = 2;
 
 // The right child of a leaf, the parent of the root.
 pub const INVALID_INDEX: u32 = 0xffff_ffff;
@@ -86,10 +92,10 @@ impl Node {
         ensures { result ≡ head_word (node_value self) }
     {
         let kind = match self {
-            Node::Leaf { .. } => 0x4000_0000,
-            Node::Interior { .. } => 0x8000_0000,
+            Node::Leaf { .. } => LEAF_KIND,
+            Node::Interior { .. } => INTERIOR_KIND,
         };
-        kind + self.number()
+        kind * HEAD_ROOM + self.number()
     }
 }
 
@@ -109,7 +115,7 @@ fn put_node(words: &mut [u32], at: usize, node: Node, bounds: LightBounds)
 }
 
 // Writes a node at a place, or nothing where its row is not there or its head has no room for the handle or the left
-// child: whether it wrote.
+// child: whether it wrote. Build drops the answer: its labels and places fit. It is for callers that can't know that.
 #[tactic(auto, unfolding(crate::specs::AsCoded::NodeRow::node_written, crate::specs::AsCoded::NodeRow::node_fits))]
 pub fn write_node(words: &mut [u32], place: usize, node: Node, bounds: LightBounds) -> bool
     ensures value { result ≡ node_fits words.old place (node_value node) }
@@ -124,14 +130,15 @@ pub fn write_node(words: &mut [u32], place: usize, node: Node, bounds: LightBoun
 
 // ---- reading: build reads words, the walks and the packing little-endian bytes
 
-// The record of the node at a place, words past the end as 0.
+// The record of the node at a place, words past the end as 0. The place is a word, so that no sum overflows; build has
+// a usize and casts it back, which is proved lossless.
 pub fn bounds_in(nodes: &[u32], place: u32) -> LightBounds
     ensures { result ≡ read_record nodes.now (bounds_place place) }
 {
     record_or_zeros(nodes, NODE_WORDS * wide(place) + BOUNDS_PLACE)
 }
 
-// How many nodes there are: over 8,191 are refusal 2, a part of a node is 1.
+// How many nodes there are: over 8,191 are Crowded, a part of a node is Ragged.
 #[tactic(auto, unfolding(crate::specs::Nodes::node_count))]
 pub fn node_count(nodes: &[u8]) -> Result<usize, Refusal>
     ensures { answered result ≡ node_count nodes.now }
@@ -151,11 +158,11 @@ fn node_of(head: u32, right_child: u32, parent: u32) -> Result<Node, Refusal>
     ensures { node result ≡ node_of head right_child parent }
 {
     match kind_of(head) {
-        1 => Ok(Node::Leaf {
+        LEAF_KIND => Ok(Node::Leaf {
             light_handle: handle_of(head),
             parent,
         }),
-        2 => Ok(Node::Interior {
+        INTERIOR_KIND => Ok(Node::Interior {
             left_child: handle_of(head),
             right_child,
             parent,
@@ -164,7 +171,7 @@ fn node_of(head: u32, right_child: u32, parent: u32) -> Result<Node, Refusal>
     }
 }
 
-// The node at a place: past the end or of no kind is refusal 12.
+// The node at a place: past the end or of no kind is BrokenTree.
 #[tactic(auto, unfolding(crate::specs::Nodes::node_at))]
 pub fn node_at<W: Words>(nodes: W, place: usize) -> Result<Node, Refusal>
     ensures { node result ≡ node_at (W.words nodes) place }
@@ -180,7 +187,7 @@ pub fn node_at<W: Words>(nodes: W, place: usize) -> Result<Node, Refusal>
     Err(Refusal::BrokenTree)
 }
 
-// The record of the node at a place: past the end or of an unknown side is refusal 12.
+// The record of the node at a place: past the end or of an unknown side is BrokenTree.
 pub fn bounds_at(nodes: &[u8], place: usize) -> Result<LightBounds, Refusal>
     ensures { answered result ≡ bounds_at (words_of nodes.now) place }
 {

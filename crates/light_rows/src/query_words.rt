@@ -22,13 +22,6 @@ pub fn query_of<W: Words>(words: W) -> Query
     Query { p, n }
 }
 
-// The query that little-endian bytes begin with.
-pub fn query_of_bytes(bytes: &[u8]) -> Query
-    ensures { result ≡ query_of (words_of bytes.now) }
-{
-    query_of(bytes)
-}
-
 // The float of the word at a place of little-endian bytes.
 pub fn float_at(bytes: &[u8], place: usize) -> f32
     ensures { result ≡ single (get_or (words_of bytes.now) place 0) }

@@ -38,7 +38,7 @@ const COS_THETA_E_PLACE: usize = 11;
 
 pub const SIDE_PLACE: usize = 12;
 
-// A vector's words.
+// A vector's words, which `vec_of` makes floats of.
 #[derive(Clone, Copy)]
 struct Triple {
     x: u32,
@@ -46,7 +46,8 @@ struct Triple {
     z: u32,
 }
 
-// A record's words.
+// A record's words, fetched by name, those past the end as 0: the compiler lays the row into registers
+// (docs/DECISIONS.md). A record is written only where there is room for all its words, so they are copied from an array.
 #[derive(Drop)]
 struct Row {
     min: Triple,
@@ -218,7 +219,7 @@ pub fn record_or_zeros(words: &[u32], at: usize) -> LightBounds
     record_of(row_at(words, at))
 }
 
-// The record at a place of a slice of words, of a list or a block: none is refusal 1.
+// The record at a place of lent words: none, or an unknown side, is Ragged.
 #[tactic(auto, unfolding(crate::specs::RecordWords::record_at, crate::specs::RecordWords::vec_at))]
 pub fn read_record(words: &[u32], at: usize) -> Result<LightBounds, Refusal>
     ensures { answered result ≡ record_at 1 words.now at }
@@ -229,9 +230,9 @@ pub fn read_record(words: &[u32], at: usize) -> Result<LightBounds, Refusal>
     Err(Refusal::Ragged)
 }
 
-// The record at a place of the little-endian bytes of a tree: none is refusal 12. Not one function with `read_record`
-// over `Words`: it was tried, and a record was then weighed in 102 ns, not 94, since the place of each word is tested.
-// Here the record's bytes are cut out first, and their length is known.
+// The record at a place of the little-endian bytes of a tree: none, or an unknown side, is BrokenTree. Not one function
+// with `read_record` over `Words`: it was tried, and a record was then weighed in 102 ns, not 94, since the place of each
+// word is tested. Here the record's bytes are cut out first, and their length is known.
 pub fn read_record_bytes(bytes: &[u8], at: usize) -> Result<LightBounds, Refusal>
     ensures { answered result ≡ record_at 12 (words_of bytes.now) at }
 {

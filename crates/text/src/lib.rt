@@ -17,8 +17,7 @@ use words::refusals::Refusal;
 
 // ---- at a place
 
-// The places are numbers, and no writer keeps them beside the lent slice: its methods' contracts would say of each call
-// that it kept that slice, besides what these say.
+// No struct holds slice and place: each method would also have to promise that it keeps the slice.
 
 pub fn put_text(out: &mut [u8], at: usize, text: &[u8]) -> usize
     ensures out_after { out.new
@@ -40,7 +39,7 @@ pub fn put_decimal(out: &mut [u8], at: usize, n: u32) -> usize
     ensures value { result ≡ length (fitting out.old at (decimal_bytes n)) }
 {
     let mut digits = [0u8; 20];
-    let count = io::decimal(n as u64, &mut digits);
+    let count = io::decimal(u64::from(n), &mut digits);
     put_text(out, at, &digits[..count])
 }
 
@@ -51,7 +50,7 @@ pub fn put_hex(out: &mut [u8], at: usize, n: u32) -> usize
     ensures value { result ≡ length (fitting out.old at (hex_bytes n)) }
 {
     let mut digits = [0u8; 16];
-    let count = io::hex(n as u64, 8, &mut digits);
+    let count = io::hex(u64::from(n), 8, &mut digits);
     put_text(out, at, &digits[..count])
 }
 

@@ -12,14 +12,14 @@ use Rattle.list_to_block.proofs.AnswerBytes.{converted-room, block-bytes, block_
 use Rattle.list_to_block.proofs.answer.Goals as goal
 use Rattle.list_to_block.proofs.answer.Goals.{After-build, In-Ok}
 
-room : (c : After-build) → 0 + length (converted c.args.list.now c.args.stray) ≤ length c.args.out.now
-room c = omega (arith, converted-room c.args.list.now c.args.stray, c.told-out)
+room : (c : After-build) → 0 + length (converted c.args.input.words.now c.args.input.stray) ≤ length c.args.out.now
+room c = omega (arith, converted-room c.args.input.words.now c.args.input.stray, c.told-out)
 
 block : (c : In-Ok)
     → (c.in-Ok.m ≤ max_lamps)
-    × (bytes_of (take (block_words c.in-Ok.m) c.build.new.block) ≡ converted c.args.list.now c.args.stray)
+    × (bytes_of (take (block_words c.in-Ok.m) c.build.new.block) ≡ converted c.args.input.words.now c.args.input.stray)
 block c =
-    block-bytes c.args.list.now c.args.stray _ _ c.in-Ok.m c.in-Ok.ensures.result_value c.build.ensures.block_after
+    block-bytes c.args.input.words.now c.args.input.stray _ _ c.in-Ok.m c.in-Ok.ensures.result_value c.build.ensures.block_after
 
 pub overflow_cast-m : goal.overflow_cast-m
 overflow_cast-m c = record { fits = omega (arith, (block (goal.at.overflow_cast-m c).In-Ok).0) }
@@ -36,7 +36,7 @@ returns-in-Ok c =
 pub returns-in-Err : goal.returns-in-Err
 returns-in-Err c =
     rw (
-      block_refused c.args.list.now c.args.stray _ c.in-Err.ensures.result_value,
+      block_refused c.args.input.words.now c.args.input.stray _ c.in-Err.ensures.result_value,
       fitting-all _ 0 _ (room (goal.at.returns-in-Err c).After-build),
     ) at
     c.put_refused.ensures

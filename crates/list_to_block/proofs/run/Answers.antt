@@ -17,9 +17,9 @@ module _ (c : After-answer-end) where
   room : length text ≤ 229380
   room = converted-room (take c.read_list-words.result.words c.read_list-words.new.list) c.read_list-words.result.stray
 
-pub shared_ref_as_front-write-2 : goal.shared_ref_as_front-write-2
-shared_ref_as_front-write-2 c =
-    omega (arith, room (goal.at.shared_ref_as_front-write-2 c).After-answer-end, c.answer-end.ensures.value)
+pub shared_ref_as_front-write : goal.shared_ref_as_front-write
+shared_ref_as_front-write c =
+    omega (arith, room (goal.at.shared_ref_as_front-write c).After-answer-end, c.answer-end.ensures.value)
 
 pub write-requires : goal.write-requires
 write-requires c =

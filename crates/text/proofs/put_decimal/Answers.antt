@@ -5,4 +5,5 @@ use Rattle.text.proofs.put_decimal.Goals as goal
 
 pub returns : goal.returns
 returns c =
-    rw (decimal-laid (omega arith) c.decimal-count.ensures.len c.decimal-count.ensures.digits) at c.put_text.ensures
+    rw (decimal-laid (omega arith) c.decimal-count.ensures.len c.decimal-count.ensures.digits, c.from.ensures) at
+    c.put_text.ensures

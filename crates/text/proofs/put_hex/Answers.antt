@@ -4,4 +4,6 @@ use Rattle.text.proofs.PutLaws.{hex-laid}
 use Rattle.text.proofs.put_hex.Goals as goal
 
 pub returns : goal.returns
-returns c = rw (hex-laid (omega arith) c.hex-count.ensures.len c.hex-count.ensures.digits) at c.put_text.ensures
+returns c =
+    rw (hex-laid (omega arith) c.hex-count.ensures.len c.hex-count.ensures.digits, c.from.ensures) at
+    c.put_text.ensures
