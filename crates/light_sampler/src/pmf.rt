@@ -8,8 +8,8 @@ ghost use Rattle.light_sampler.specs.Walks.{part_of, rise as rise_of, ascend as 
 ghost use Rattle.light_rows.specs.Nodes.{node_value, node_at};
 ghost use Rattle.light_sampler.specs.AsCoded.Turns.{by_prepared, risen_of, leaf_found};
 
-use super::weigh::Walk;
-use light_bounds::importance::Query;
+use super::weigh::weigh_children;
+use light_bounds::importance::{Prepared, Query, prepare};
 use light_rows::nodes::{INVALID_INDEX, Node, node_at, node_count};
 use words::limits::MAX_LAMPS;
 use words::little_endian::word_at;
@@ -33,21 +33,24 @@ fn part_of(place: usize, left: usize, right: usize, x: f32, y: f32) -> Result<Op
     Err(Refusal::BrokenTree)
 }
 
-impl Walk<'_> {
-    // From a child to its parent, whose node is read already.
-    #[tactic(auto, using(words::proofs::AnswerLaws::steps), unfolding(crate::specs::Walks::rise))]
-    fn rise(self, place: usize, parent: u32, above: Node) -> Result<Option<f32>, Refusal>
-        requires { given (node_value above) ≡ node_at (words_of self.nodes.now) parent }
-        ensures { risen_of result
-            ≡ rise_of (words_of self.entry.nodes.now) (by_prepared self.entry.query) place parent }
-    {
-        match above {
-            Node::Interior { right_child, .. } => {
-                let (x, y) = self.weigh_children(parent as usize, right_child)?;
-                part_of(place, parent as usize + 1, right_child as usize, x, y)
-            }
-            Node::Leaf { .. } => Err(Refusal::BrokenTree),
+// From a child to its parent, whose node is read already.
+#[tactic(auto, using(words::proofs::AnswerLaws::steps), unfolding(crate::specs::Walks::rise))]
+fn rise(
+    nodes: &[u8],
+    query: Prepared,
+    place: usize,
+    parent: u32,
+    above: Node,
+) -> Result<Option<f32>, Refusal>
+    requires { given (node_value above) ≡ node_at (words_of nodes.now) parent }
+    ensures { risen_of result ≡ rise_of (words_of nodes.now) (by_prepared query) place parent }
+{
+    match above {
+        Node::Interior { right_child, .. } => {
+            let (x, y) = weigh_children(nodes, query, parent as usize, right_child)?;
+            part_of(place, parent as usize + 1, right_child as usize, x, y)
         }
+        Node::Leaf { .. } => Err(Refusal::BrokenTree),
     }
 }
 
@@ -55,7 +58,7 @@ impl Walk<'_> {
 fn ascend(nodes: &[u8], query: Query, count: usize, leaf: u32) -> Result<f32, Refusal>
     ensures { answered result ≡ (ascend_of (words_of nodes.now) query count leaf onef).outcome }
 {
-    let walk = Walk::new(nodes, query);
+    let held = prepare(query);
     let mut place = leaf as usize;
     let mut here = node_at(nodes, place)?;
     let mut pmf: f32 = 1.0;
@@ -67,7 +70,7 @@ fn ascend(nodes: &[u8], query: Query, count: usize, leaf: u32) -> Result<f32, Re
             return Ok(pmf);
         }
         let above = node_at(nodes, parent as usize)?;
-        let Some(share) = walk.rise(place, parent, above)? else {
+        let Some(share) = rise(nodes, held, place, parent, above)? else {
             return Ok(0.0);
         };
         pmf *= share;

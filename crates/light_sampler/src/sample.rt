@@ -8,9 +8,9 @@ ghost use Rattle.light_sampler.specs.Walks.{turn as turn_of, descend as descend_
 ghost use Rattle.light_sampler.specs.AsCoded.Turns.{by_prepared, turn_answer};
 
 use super::fork::{Branch, MOST, Turn, fork};
-use super::weigh::Walk;
+use super::weigh::weigh_children;
 use floats::choose::min;
-use light_bounds::importance::Query;
+use light_bounds::importance::{Prepared, Query, prepare};
 use light_rows::nodes::{Node, node_at, node_count};
 use words::refusals::Refusal;
 
@@ -21,17 +21,20 @@ pub struct SampledLight {
     pub pmf: f32,
 }
 
-impl Walk<'_> {
-    // Where the node at a place sends u.
-    #[tactic(auto, using(words::proofs::AnswerLaws::steps), unfolding(crate::specs::Walks::turn))]
-    fn turn(self, place: usize, right: u32, u: f32) -> Result<Option<Turn>, Refusal>
-        requires { place < 2 ^ 60 }
-        ensures { turn_answer result
-            ≡ turn_of (words_of self.entry.nodes.now) (by_prepared self.entry.query) place right u }
-    {
-        let (x, y) = self.weigh_children(place, right)?;
-        Ok(fork(x, y, u))
-    }
+// Where the node at a place sends u.
+#[tactic(auto, using(words::proofs::AnswerLaws::steps), unfolding(crate::specs::Walks::turn))]
+fn turn(
+    nodes: &[u8],
+    query: Prepared,
+    place: usize,
+    right: u32,
+    u: f32,
+) -> Result<Option<Turn>, Refusal>
+    requires { place < 2 ^ 60 }
+    ensures { turn_answer result ≡ turn_of (words_of nodes.now) (by_prepared query) place right u }
+{
+    let (x, y) = weigh_children(nodes, query, place, right)?;
+    Ok(fork(x, y, u))
 }
 
 // The walk: at most `count` nodes are entered.
@@ -43,7 +46,7 @@ fn descend(
 ) -> Result<Option<SampledLight>, Refusal>
     ensures { drawn result ≡ (descend_of (words_of nodes.now) query count 0 onef u).outcome }
 {
-    let walk = Walk::new(nodes, query);
+    let held = prepare(query);
     let mut place: usize = 0;
     let mut pmf: f32 = 1.0;
     let mut u = u;
@@ -56,7 +59,7 @@ fn descend(
                 }));
             }
             Node::Interior { right_child, .. } => {
-                let Some(to) = walk.turn(place, right_child, u)? else {
+                let Some(to) = turn(nodes, held, place, right_child, u)? else {
                     return Ok(None);
                 };
                 pmf *= to.share;

@@ -46,7 +46,7 @@ pub returns-in_err-above : goal.returns-in_err-above
 returns-in_err-above c = let at = goal.at.returns-in_err-above c in
     let why = c.in_err-above in
     let refusal : answered c.from_residual-in_err-above.result ≡ refused (number why.field-0.0) = search rules in
-    refusal ∙ sym (ascend-past _ _ _ _ _ c.loop.invariant.stands c.parent-parent.ensures c.new-walk.ensures.query_value
+    refusal ∙ sym (ascend-past _ _ _ _ _ c.loop.invariant.stands c.parent-parent.ensures c.prepare-held.ensures
     (inner at.Else-parent) why.ensures)
     ∙ going at.In-loop
 
@@ -54,25 +54,23 @@ pub returns-in_err-share : goal.returns-in_err-share
 returns-in_err-share c = let at = goal.at.returns-in_err-share c in
     let why = c.in_err-share in
     let refusal : answered c.from_residual-in_err-share.result ≡ refused (number why.field-0.0) = search rules in
-    let step = rw c.new-walk.ensures.nodes_value at why.ensures in
-    refusal
-    ∙ sym (ascend-refused _ _ _ _ _ c.loop.invariant.stands c.parent-parent.ensures c.new-walk.ensures.query_value
-    (inner at.Else-parent) step)
+    refusal ∙ sym (ascend-refused _ _ _ _ _ c.loop.invariant.stands c.parent-parent.ensures c.prepare-held.ensures
+    (inner at.Else-parent) why.ensures)
     ∙ going at.In-loop
 
 pub returns-in_default : goal.returns-in_default
 unfolding of_bits
 returns-in_default c = let at = goal.at.returns-in_default c in
-    sym (ascend-nought _ _ _ _ _ c.loop.invariant.stands c.parent-parent.ensures c.new-walk.ensures.query_value
-    (inner at.Else-parent) (rw (c.new-walk.ensures.nodes_value, c.in_default.is) at c.in_ok-share.ensures))
+    sym (ascend-nought _ _ _ _ _ c.loop.invariant.stands c.parent-parent.ensures c.prepare-held.ensures
+    (inner at.Else-parent) (rw c.in_default.is at c.in_ok-share.ensures))
     ∙ going at.In-loop
 
 pub loop-preserved : goal.loop-preserved
 loop-preserved c = let at = goal.at.loop-preserved c in record {
   stands = c.in_ok-above.ensures;
   walk =
-      sym (ascend-part _ _ _ _ _ c.loop.invariant.stands c.parent-parent.ensures c.new-walk.ensures.query_value
-      (inner at.Else-parent) (rw (c.new-walk.ensures.nodes_value, c.in-Some.is) at c.in_ok-share.ensures))
+      sym (ascend-part _ _ _ _ _ c.loop.invariant.stands c.parent-parent.ensures c.prepare-held.ensures
+      (inner at.Else-parent) (rw c.in-Some.is at c.in_ok-share.ensures))
       ∙ going at.In-loop;
 }
 

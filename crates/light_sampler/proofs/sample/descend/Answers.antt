@@ -57,27 +57,25 @@ pub returns-in_err-to-in-Interior : goal.returns-in_err-to-in-Interior
 returns-in_err-to-in-Interior c = let at = goal.at.returns-in_err-to-in-Interior c in
     let why = c.in_err-to-in-Interior in
     let refusal : drawn c.from_residual-in_err-to-in-Interior.result ≡ refused (number why.field-0.0) = search rules in
-    refusal ∙ sym (descend-refused _ _ _ _ _ _ (stands at.In-Interior) c.new-walk.ensures.query_value
-    (rw c.new-walk.ensures.nodes_value at why.ensures))
+    refusal ∙ sym (descend-refused _ _ _ _ _ _ (stands at.In-Interior) c.prepare-held.ensures why.ensures)
     ∙ going at.In-loop
 
 pub returns-in_default : goal.returns-in_default
 returns-in_default c = let at = goal.at.returns-in_default c in
-    let nowhere = rw (c.new-walk.ensures.nodes_value, c.in_default.is) at c.in_ok-to-in-Interior.ensures in
-    sym (descend-neither _ _ _ _ _ _ (stands at.In-Interior) c.new-walk.ensures.query_value nowhere) ∙ going at.In-loop
+    let nowhere = rw c.in_default.is at c.in_ok-to-in-Interior.ensures in
+    sym (descend-neither _ _ _ _ _ _ (stands at.In-Interior) c.prepare-held.ensures nowhere) ∙ going at.In-loop
 
 pub loop-preserved : goal.loop-preserved
 loop-preserved c = let at = goal.at.loop-preserved c in
     let node = stands at.In-Interior in
-    let held = c.new-walk.ensures.query_value in
-    let to = rw (c.new-walk.ensures.nodes_value, c.in-Some.is) at c.in_ok-to-in-Interior.ensures in
+    let to = rw c.in-Some.is at c.in_ok-to-in-Interior.ensures in
     elim c.match-to.branch [
       | in-Left w ↦
           rw w.place-is
-          (sym (descend-left _ _ _ _ _ _ node held (rw w.in-Left.is at to)) ∙ going at.In-loop)
+          (sym (descend-left _ _ _ _ _ _ node c.prepare-held.ensures (rw w.in-Left.is at to)) ∙ going at.In-loop)
       | in-Right w ↦
           rw w.place-is
-          (sym (descend-right _ _ _ _ _ _ node held (rw w.in-Right.is at to)) ∙ going at.In-loop)
+          (sym (descend-right _ _ _ _ _ _ node c.prepare-held.ensures (rw w.in-Right.is at to)) ∙ going at.In-loop)
     ]
 
 pub returns : goal.returns
