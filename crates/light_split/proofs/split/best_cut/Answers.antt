@@ -40,7 +40,7 @@ returns-in_err-join_to c =
     let bs = args.buckets.now in
     let twelve : length bs ≡ 12 = omega arith in
     let p = err_from_is_err_and c.from_residual.result c.from_residual.ensures.1 in
-    rw (p.1, p.2) (left_lost bs args.parent args.dimension twelve args.best loop.bucket _ loop.best
+    rw (p.1, p.2) (left_lost bs args.axis.parent args.axis.dimension twelve args.best loop.bucket _ loop.best
     loop.invariant.best_is
     (c.in_err-join_to.ensures ∙ sym (joined-some bs loop.bucket loop.left c.in-Some.bounds (omega arith) c.in-Some.is
     loop.invariant.left_is)) c.loop-bucket-test.true)
@@ -52,7 +52,7 @@ returns-in_err-right c =
     let bs = args.buckets.now in
     let twelve : length bs ≡ 12 = omega arith in
     let p = err_from_is_err_and c.from_residual-in_err-right.result c.from_residual-in_err-right.ensures.1 in
-    rw (p.1, p.2) (right_lost bs args.parent args.dimension twelve args.best loop.bucket _ loop.best
+    rw (p.1, p.2) (right_lost bs args.axis.parent args.axis.dimension twelve args.best loop.bucket _ loop.best
     c.match-buckets-bucket.left loop.invariant.best_is (side (goal.at.returns-in_err-right c).Joined-buckets-bucket)
     c.in_err-right.ensures c.loop-bucket-test.true)
 
@@ -67,8 +67,8 @@ loop-bucket-preserved c =
       left_is = joined;
       best_is =
           elim c.if-bucket-eq0.branch [
-            | then-bucket-eq0+in_ok-right w ↦ cut-next bs args.parent args.dimension twelve args.best loop.bucket
-                loop.best
+            | then-bucket-eq0+in_ok-right w ↦ cut-next bs args.axis.parent args.axis.dimension twelve args.best
+                loop.bucket loop.best
                 c.match-buckets-bucket.left _ loop.invariant.best_is joined w.in_ok-right.ensures h
                 ∙ rw (
                   w.best-is,
@@ -77,8 +77,7 @@ loop-bucket-preserved c =
                   w.side_cost-then-bucket-eq0.ensures,
                 )
             | else-bucket-eq0+else-is_some w ↦ rw w.best-is
-                (cut-empty bs args.parent args.dimension twelve args.best
-                loop.bucket
-                loop.best loop.invariant.best_is h w.if-bucket-eq0.false (sym w.is_some.ensures ∙ w.if-is_some.false))
+                (cut-empty bs args.axis.parent args.axis.dimension twelve args.best
+                loop.bucket loop.best loop.invariant.best_is h w.if-bucket-eq0.false (sym w.is_some.ensures ∙ w.if-is_some.false))
           ];
     }
