@@ -78,6 +78,7 @@ loop-bucket-preserved c =
                 )
             | else-bucket-eq0+else-is_some w ↦ rw w.best-is
                 (cut-empty bs args.axis.parent args.axis.dimension twelve args.best
-                loop.bucket loop.best loop.invariant.best_is h w.if-bucket-eq0.false (sym w.is_some.ensures ∙ w.if-is_some.false))
+                loop.bucket
+                loop.best loop.invariant.best_is h w.if-bucket-eq0.false (sym w.is_some.ensures ∙ w.if-is_some.false))
           ];
     }
