@@ -53,7 +53,7 @@ fn better(best: Best, split: Split, cost: f32) -> Best
 }
 
 // The eleven cuts of an axis. A cut behind an empty bucket has the sides of the cut before it, so it costs the same and
-// does not win: it is left out. It goes by the bucket's number, which the cut is told by.
+// does not win: it is left out.
 fn best_cut(
     buckets: &[Option<LightBounds>; N_BUCKETS],
     axis: Axis,
@@ -63,11 +63,11 @@ fn best_cut(
 {
     let mut left = None;
     let mut last = None;
-    for bucket in 0..N_BUCKETS - 1 {
-        if let Some(bounds) = buckets[bucket] {
+    for (bucket, here) in buckets[..N_BUCKETS - 1].iter().enumerate() {
+        if let Some(bounds) = *here {
             left = Some(join_to(left, bounds)?);
         }
-        if bucket == 0 || buckets[bucket].is_some() {
+        if bucket == 0 || here.is_some() {
             let right = union_range(&buckets[bucket + 1..])?;
             let cost = axis.side_cost(left, &mut last) + axis.side_cost(right, &mut last);
             let split = Split {
