@@ -25,9 +25,10 @@ side c =
     let here = sym (get_or-take 11 bs loop.bucket None (omega arith)) in
     elim c.match-here.branch [
       | in-Some+in_ok-join_to w ↦ rw w.left-is
-          (joined-some bs loop.bucket loop.left w.in-Some.bounds (omega arith) (here ∙ w.in-Some.is) loop.invariant.left_is ∙
-          sym w.in_ok-join_to.ensures)
-      | in_default w ↦ rw w.left-is (joined-none bs loop.bucket (omega arith) (here ∙ w.in_default.is) ∙ loop.invariant.left_is)
+          (joined-some bs loop.bucket loop.left w.in-Some.bounds (omega arith) (here ∙ w.in-Some.is)
+          loop.invariant.left_is ∙ sym w.in_ok-join_to.ensures)
+      | in_default w ↦ rw w.left-is
+          (joined-none bs loop.bucket (omega arith) (here ∙ w.in_default.is) ∙ loop.invariant.left_is)
     ]
 
 pub loop-bucket-init : goal.loop-bucket-init
@@ -45,8 +46,8 @@ returns-in_err-join_to c =
     let p = err_from_is_err_and c.from_residual.result c.from_residual.ensures.1 in
     rw (p.1, p.2) (left_lost bs args.axis.parent args.axis.dimension twelve args.best loop.bucket _ loop.best
     loop.invariant.best_is
-    (c.in_err-join_to.ensures ∙ sym (joined-some bs loop.bucket loop.left c.in-Some.bounds (omega arith) (here ∙ c.in-Some.is)
-    loop.invariant.left_is)) (omega arith))
+    (c.in_err-join_to.ensures ∙ sym (joined-some bs loop.bucket loop.left c.in-Some.bounds (omega arith)
+    (here ∙ c.in-Some.is) loop.invariant.left_is)) (omega arith))
 
 pub returns-in_err-right : goal.returns-in_err-right
 returns-in_err-right c =
@@ -83,6 +84,7 @@ loop-bucket-preserved c =
             | else-bucket-eq0+else-is_some w ↦ rw w.best-is
                 (cut-empty bs args.axis.parent args.axis.dimension twelve args.best
                 loop.bucket
-                loop.best loop.invariant.best_is h w.if-bucket-eq0.false (rw here at (sym w.is_some.ensures ∙ w.if-is_some.false)))
+                loop.best loop.invariant.best_is h w.if-bucket-eq0.false
+                (rw here at (sym w.is_some.ensures ∙ w.if-is_some.false)))
           ];
     }
