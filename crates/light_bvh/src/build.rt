@@ -36,7 +36,7 @@ fn row_count(block: &[u32]) -> u32
 
 // ---- the reserves of m rows
 
-// Counts and places are words (u32), so that no product or sum of them as usize overflows; casts back are proved lossless.
+// Counts and places are words (u32), so that sums of them as usize cannot overflow; casts back are proved lossless.
 pub fn nodes_reserve(m: u32) -> usize
     ensures { result ≡ nodes_reserve m }
 {
