@@ -36,6 +36,7 @@ fn row_count(block: &[u32]) -> u32
 
 // ---- the reserves of m rows
 
+// Counts and places are words (u32), so that sums of them as usize cannot overflow; casts back are proved lossless.
 pub fn nodes_reserve(m: u32) -> usize
     ensures { result ≡ nodes_reserve m }
 {
@@ -48,9 +49,9 @@ fn work_reserve(m: u32) -> usize
     2 * wide(m)
 }
 
-// ---- the checks that leave the lent words alone: 2, 1, 4, 3
+// ---- the checks that leave the lent words alone: Crowded, Ragged, Misplaced, ShortTray
 
-// Whether a lent slice is under its reserve.
+// Whether a slice is under its reserve. Told by the lengths, since the slices are lent on only behind the checks.
 fn is_short(m: u32, nodes: usize, table: usize, work: usize) -> bool
     ensures { result ≡ is_short m nodes table work }
 {
@@ -96,8 +97,8 @@ fn is_powered(block: &[u32], handle: u32) -> bool
     light_phi(block, handle) > 0.0
 }
 
-// Their handles, in order, to the front of the slice, and how many they are. k counts what is kept and is the answer; a
-// filter's place would leave the count to a second pass.
+// Their handles, in order, to the front of the slice, and how many they are. k is the place and the answer; an iterator
+// chain would need a second pass to count.
 fn gather_handles(block: &[u32], handles: &mut [u32]) -> usize
     requires { get_or block.now 0 0 ≤ length handles.old }
     ensures value { result ≡ length (bounded_handles block.now (get_or block.now 0 0)) }
@@ -149,8 +150,8 @@ fn zero_reserves(rows: u32, nodes: &mut [u32], table: &mut [u32], work: &mut [u3
     zero_words(work, 0, work_reserve(rows));
 }
 
-// Writes each leaf's place at its label, by a pass over the nodes. The length is tested, since `get_mut` of a slice
-// promises nothing of the slice but its length.
+// Writes each leaf's place at its label, by a pass over the nodes. By index: `get_mut` has no clause on what a write
+// leaves in the slice.
 fn table_leaves(nodes: &[u32], table: &mut [u32])
     requires { length nodes.now ≤ node_words * max_nodes }
     ensures { table.new ≡ tabled_below nodes.now (length nodes.now / node_words) table.old }
@@ -209,8 +210,9 @@ fn build_rows(
     Ok(all_bounds(block).map(|bounds| Built { powered: k, bounds }))
 }
 
-// The tree of a block of m rows: 16(2m - 1) words of nodes, m of the handle table, 2m of work are lent. Refusals 2, 1,
-// 4, 3 leave the lent words as they are, later ones zero the reserves; acceptance zeroes what it does not use of them.
+// The tree of a block of m rows: 16(2m - 1) words of nodes, m of the handle table, 2m of work are lent. Crowded,
+// Ragged, Misplaced and ShortTray leave the lent words as they are, later refusals zero the reserves; acceptance zeroes
+// what it does not use of them.
 pub fn build_light_bvh(
     lights: usize,
     block: &[u32],

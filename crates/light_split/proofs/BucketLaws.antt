@@ -5,7 +5,8 @@ use mathlib.Core.Bool.{true}
 use mathlib.Core.List.{List, ◌∷◌}
 use native.Mathlib.Numerals.{add-one}
 use lib.Dec.{T}
-use lib.Ieee.{Float, binary32, fits, of_bits, to_bits}
+use lib.Ieee.{Float, binary32, fits, of_bits, of_int, to_bits}
+use lib.IntN.{pos}
 use lib.Ieee.Bits.{of_bits-to_bits}
 use lib.ListN.{length, get_or, set, drop, drop_of_length-le}
 use lib.Seq.{drop-cons}
@@ -59,3 +60,9 @@ pub ruleset joins = (union_next, union_some, union_none, union_end, then_is, the
 
 pub of_its_word : (x : Float) (w : ℕ) → fits binary32 x ≡ true → w ≡ to_bits binary32 x → of_bits binary32 w ≡ x
 of_its_word x w f e = ap (of_bits binary32) e ∙ of_bits-to_bits binary32 x (subst T (sym f) tt)
+
+-- ---- twelve as a float is that of its word
+
+pub twelve : of_int binary32 (pos 12) ≡ of_bits binary32 0x4140_0000
+unfolding of_int of_bits
+twelve = refl

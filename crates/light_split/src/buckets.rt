@@ -64,8 +64,7 @@ pub(crate) fn union_range(buckets: &[Option<LightBounds>]) -> Result<Option<Ligh
     Ok(result)
 }
 
-// ---- the cost; the parent's box and the axis are parameters, since beside `last` in one struct every promise of a
-// method would have to say that they stay
+// ---- the cost
 
 #[tactic(auto, unfolding(crate::specs::Buckets::m_omega, light_bounds::specs::Importance::sine))]
 fn m_omega(cos_theta_o: f32, cos_theta_e: f32) -> f32
@@ -114,35 +113,34 @@ fn omega_for(last: &mut Option<Omega>, cos_theta_o: f32, cos_theta_e: f32) -> f3
     m_omega
 }
 
-#[tactic(auto, unfolding(crate::specs::Buckets::evaluate_cost))]
-fn evaluate_cost(
-    bounds: LightBounds,
-    parent: Bounds3,
-    dimension: usize,
-    last: &mut Option<Omega>,
-) -> f32
-    ensures { result ≡ evaluate_cost bounds parent dimension }
-{
-    let sides = diagonal(parent);
-    if component(sides, dimension) == 0.0 {
-        return 0.0;
-    }
-    let m_omega = omega_for(last, bounds.cos_theta_o, bounds.cos_theta_e);
-    bounds.phi * m_omega * kr(sides, dimension) * surface_area(bounds.bounds)
+// An axis, and the box that is cut along it.
+#[derive(Clone, Copy)]
+pub(crate) struct Axis {
+    pub(crate) parent: Bounds3,
+    pub(crate) dimension: usize,
 }
 
-// A side with nothing in it costs 0.
-#[tactic(auto, unfolding(crate::specs::Buckets::side_cost))]
-pub(crate) fn side_cost(
-    parent: Bounds3,
-    dimension: usize,
-    side: Option<LightBounds>,
-    last: &mut Option<Omega>,
-) -> f32
-    ensures { result ≡ side_cost parent dimension side }
-{
-    match side {
-        Some(bounds) => evaluate_cost(bounds, parent, dimension, last),
-        None => 0.0,
+impl Axis {
+    #[tactic(auto, unfolding(crate::specs::Buckets::evaluate_cost))]
+    fn evaluate_cost(self, bounds: LightBounds, last: &mut Option<Omega>) -> f32
+        ensures { result ≡ evaluate_cost bounds self.parent self.dimension }
+    {
+        let sides = diagonal(self.parent);
+        if component(sides, self.dimension) == 0.0 {
+            return 0.0;
+        }
+        let m_omega = omega_for(last, bounds.cos_theta_o, bounds.cos_theta_e);
+        bounds.phi * m_omega * kr(sides, self.dimension) * surface_area(bounds.bounds)
+    }
+
+    // A side with nothing in it costs 0.
+    #[tactic(auto, unfolding(crate::specs::Buckets::side_cost))]
+    pub(crate) fn side_cost(self, side: Option<LightBounds>, last: &mut Option<Omega>) -> f32
+        ensures { result ≡ side_cost self.parent self.dimension side }
+    {
+        match side {
+            Some(bounds) => self.evaluate_cost(bounds, last),
+            None => 0.0,
+        }
     }
 }

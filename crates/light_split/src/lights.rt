@@ -11,8 +11,8 @@ use light_rows::block::light_box;
 // Buckets along an axis.
 pub const N_BUCKETS: usize = 12;
 
-// A vector's figure along an axis. An axis is its number, as the Rust indexes a vector by it: an enum would be made of
-// the number that a loop counts, and matched here at once.
+// A vector's figure along an axis. An axis is a number, since the definitions (component, bucket_of, cuts, Split) take
+// it as one, as the Rust indexes a vector by it: each of them would need an enum's number.
 #[tactic(auto, unfolding(crate::specs::Lights::component))]
 pub fn component(v: Vec3, dimension: usize) -> f32
     ensures { result ≡ component_of dimension v }
@@ -24,7 +24,7 @@ pub fn component(v: Vec3, dimension: usize) -> f32
     }
 }
 
-// The box around no centroid.
+// The box around no centroid. A constant was tried: the proof of the fold over it did not close.
 fn no_ends() -> Bounds3
     ensures { result ≡ no_ends }
 {
@@ -63,7 +63,7 @@ pub fn centroid_ends(block: &[u32], handles: &[u32]) -> Bounds3
         .fold(no_ends(), |ends, handle| widen(block, ends, *handle))
 }
 
-#[tactic(auto, unfolding(crate::specs::Lights::bucket_index))]
+#[tactic(auto, using(crate::proofs::BucketLaws::twelve), unfolding(crate::specs::Lights::bucket_index))]
 fn bucket_index(value: f32, min: f32, max: f32) -> usize
     ensures value { result ≡ bucket_index value min max }
     ensures upper_bound { result < n_buckets }
@@ -71,11 +71,11 @@ fn bucket_index(value: f32, min: f32, max: f32) -> usize
     if min == max {
         return 0;
     }
-    to_usize((value - min) / (max - min) * 12.0).min(N_BUCKETS - 1)
+    to_usize((value - min) / (max - min) * N_BUCKETS as f32).min(N_BUCKETS - 1)
 }
 
-// The bucket of a handle's centroid between the ends of an axis. Block, ends and axis are no struct, since a cut has
-// its axis (`Split`) and an axis that is being filled has no cut yet.
+// The bucket of a handle's centroid between the ends of an axis. Block, ends and axis are no struct, since `goes_left`
+// and `part` have the axis in the cut (`Split`) that their promises name: they would hold it twice, or take it apart.
 #[tactic(auto, unfolding(crate::specs::Lights::bucket_of))]
 pub fn bucket_of(block: &[u32], ends: Bounds3, dimension: usize, handle: u32) -> usize
     ensures value { result ≡ bucket_of block.now ends dimension handle }

@@ -44,8 +44,8 @@ fn part(block: &[u32], ends: Bounds3, split: Split, handles: &mut [u32], work: &
     left
 }
 
-// Parts the stretch: its left half comes first, and the answer is how many handles that has. The work, at least as long
-// as the stretch or refusal 3, keeps the handles that went right by their buckets.
+// Parts the stretch in place; how many handles are in front. Where all go one way, half of them. The work, at least as
+// long as the stretch or ShortTray, keeps the handles that went right by their buckets.
 pub fn partition_handles(
     block: &[u32],
     handles: &mut [u32],

@@ -4,7 +4,7 @@ ghost use Rattle.words.specs.Answers.{answered};
 ghost use Rattle.light_split.specs.Split.{combined_bounds, cuts};
 ghost use Rattle.light_split.specs.Split.{better as better_of, choose_split};
 
-use super::buckets::{fill_buckets, join_to, side_cost, union_range};
+use super::buckets::{Axis, fill_buckets, join_to, union_range};
 use super::lights::{N_BUCKETS, centroid_ends, component};
 use light_bounds::bounds::{Bounds3, union};
 use light_bounds::light_bounds::LightBounds;
@@ -53,26 +53,28 @@ fn better(best: Best, split: Split, cost: f32) -> Best
 }
 
 // The eleven cuts of an axis. A cut behind an empty bucket has the sides of the cut before it, so it costs the same and
-// does not win: it is left out. It goes by the bucket's number, which the cut is told by.
+// does not win: it is left out.
 fn best_cut(
     buckets: &[Option<LightBounds>; N_BUCKETS],
-    parent: Bounds3,
-    dimension: usize,
+    axis: Axis,
     mut best: Best,
 ) -> Result<Best, Refusal>
-    ensures { answered result ≡ cuts buckets.now parent dimension best 11 }
+    ensures { answered result ≡ cuts buckets.now axis.parent axis.dimension best 11 }
 {
     let mut left = None;
     let mut last = None;
-    for bucket in 0..N_BUCKETS - 1 {
-        if let Some(bounds) = buckets[bucket] {
+    for (bucket, here) in buckets[..N_BUCKETS - 1].iter().enumerate() {
+        if let Some(bounds) = *here {
             left = Some(join_to(left, bounds)?);
         }
-        if bucket == 0 || buckets[bucket].is_some() {
+        if bucket == 0 || here.is_some() {
             let right = union_range(&buckets[bucket + 1..])?;
-            let cost = side_cost(parent, dimension, left, &mut last)
-                + side_cost(parent, dimension, right, &mut last);
-            best = better(best, Split { dimension, bucket }, cost);
+            let cost = axis.side_cost(left, &mut last) + axis.side_cost(right, &mut last);
+            let split = Split {
+                dimension: axis.dimension,
+                bucket,
+            };
+            best = better(best, split, cost);
         }
     }
     Ok(best)
@@ -99,7 +101,7 @@ pub fn choose_split(block: &[u32], handles: &[u32]) -> Result<Split, Refusal>
             continue;
         }
         let buckets = fill_buckets(block, handles, ends, dimension)?;
-        best = best_cut(&buckets, parent, dimension, best)?;
+        best = best_cut(&buckets, Axis { parent, dimension }, best)?;
     }
     Ok(best.best)
 }

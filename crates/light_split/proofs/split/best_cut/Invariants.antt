@@ -11,5 +11,5 @@ use Rattle.light_split.proofs.split.best_cut.Given as goal
 abbrev pub invariant-loop-bucket : goal.invariant-loop-bucket
 invariant-loop-bucket l = record {
   left_is : union_range None (take l.bucket l.buckets) ≡ given l.left;
-  best_is : cuts l.buckets l.parent l.dimension l.initial.best l.bucket ≡ given l.best;
+  best_is : cuts l.buckets l.axis.parent l.axis.dimension l.initial.best l.bucket ≡ given l.best;
 }
