@@ -265,9 +265,9 @@ fn write_lines(front: &[u8], groups: &[u8], text: &[u8]) -> bool
     write(text)
 }
 
-// Reads a chunk of groups and writes its lines; whether there may be more. Chunk and lines are lent apart from front and
-// tree: they are written as these are read. Front and tree are no struct: `front` is there for the contract alone, whose
-// lines these are, and `tree` is what draws walk.
+// Reads a chunk of groups and writes its lines; whether there may be more. Chunk and lines are lent apart from front
+// and tree: they are written as these are read. Front and tree are no struct: `front` is there for the contract
+// alone, whose lines these are, and `tree` is what draws walk.
 fn write_chunk(
     front: &[u8],
     tree: Tree,

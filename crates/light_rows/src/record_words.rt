@@ -47,7 +47,8 @@ struct Triple {
 }
 
 // A record's words, fetched by name, those past the end as 0: the compiler lays the row into registers
-// (docs/DECISIONS.md). A record is written only where there is room for all its words, so they are copied from an array.
+// (docs/DECISIONS.md). A record is written only where there is room for all its words, so they are copied from an
+// array.
 #[derive(Drop)]
 struct Row {
     min: Triple,
@@ -230,9 +231,9 @@ pub fn read_record(words: &[u32], at: usize) -> Result<LightBounds, Refusal>
     Err(Refusal::Ragged)
 }
 
-// The record at a place of the little-endian bytes of a tree: none, or an unknown side, is BrokenTree. Not one function
-// with `read_record` over `Words`: it was tried, and a record was then weighed in 102 ns, not 94, since the place of each
-// word is tested. Here the record's bytes are cut out first, and their length is known.
+// The record at a place of the little-endian bytes of a tree: none, or an unknown side, is BrokenTree. Not one
+// function with `read_record` over `Words`: it was tried, and a record was then weighed in 102 ns, not 94, since the
+// place of each word is tested. Here the record's bytes are cut out first, and their length is known.
 pub fn read_record_bytes(bytes: &[u8], at: usize) -> Result<LightBounds, Refusal>
     ensures { answered result ≡ record_at 12 (words_of bytes.now) at }
 {

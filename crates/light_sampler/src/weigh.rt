@@ -11,9 +11,8 @@ use light_rows::nodes::bounds_at;
 use words::refusals::Refusal;
 
 // The weight of the node at a place: BrokenTree past the end and of an unknown side, the record's refusals, the
-// importance's.
-// Nodes and query are no struct: with a `Walk` of both a chance by name of 4,096 lamps took 1.82 of the Rust's time, and
-// 1.74 so, where 1.8 is the bar.
+// importance's. Nodes and query are no struct: with a `Walk` of both a chance by name of 4,096 lamps took 1.82 of the
+// Rust's time, and 1.74 so, where 1.8 is the bar.
 #[tactic(auto, using(words::proofs::AnswerLaws::steps), unfolding(crate::specs::Walks::weigh_at))]
 pub(crate) fn weigh_at(nodes: &[u8], query: Prepared, place: usize) -> Result<f32, Refusal>
     ensures { answered result ≡ weigh_at (words_of nodes.now) (by_prepared query) place }

@@ -1,7 +1,7 @@
-// A lamp list on standard input, its bounds block on standard output (specs/ListToBlock.antt): little-endian words in,
-// little-endian words out; or `refused N` and a line's end. Bytes that are no whole word make the list Ragged, unless it
-// is over the limits: Crowded. A must-fail edit needs the checked modules of a library, so all of the program stands
-// here and `lamps_to_block` only calls it.
+// A lamp list on standard input, its bounds block on standard output (specs/ListToBlock.antt): little-endian words
+// in, little-endian words out; or `refused N` and a line's end. Bytes that are no whole word make the list Ragged,
+// unless it is over the limits: Crowded. A must-fail edit needs the checked modules of a library, so all of the
+// program stands here and `lamps_to_block` only calls it.
 #![tactic(auto)]
 
 ghost use Rattle.std.specs.Prelude.{◌≡◌, ◌≤◌, length, get_or};

@@ -19,7 +19,8 @@ block : (c : In-Ok)
     → (c.in-Ok.m ≤ max_lamps)
     × (bytes_of (take (block_words c.in-Ok.m) c.build.new.block) ≡ converted c.args.input.words.now c.args.input.stray)
 block c =
-    block-bytes c.args.input.words.now c.args.input.stray _ _ c.in-Ok.m c.in-Ok.ensures.result_value c.build.ensures.block_after
+    let found = c.in-Ok.ensures.result_value in
+    block-bytes c.args.input.words.now c.args.input.stray _ _ c.in-Ok.m found c.build.ensures.block_after
 
 pub overflow_cast-m : goal.overflow_cast-m
 overflow_cast-m c = record { fits = omega (arith, (block (goal.at.overflow_cast-m c).In-Ok).0) }
