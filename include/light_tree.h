@@ -42,8 +42,8 @@
  * to nearest, and neither "flush to zero" nor "denormals are zero" set in the calling thread
  * (a renderer may set both), else answers are not the promised ones. light_floats_ok tells.
  *
- * STACK. light_build calls itself, 400 bytes for each fork on the way down, so m lamps take at most
- * 400 m bytes: under 1.7 MB for 4,096 of them. Besides, it and the others take under 5 KB.
+ * STACK. light_build calls itself, 288 bytes for each fork on the way down, so m lamps take at most
+ * 288 m bytes: under 1.2 MB for 4,096 of them. Besides, it and the others take under 5 KB.
  */
 #ifndef LIGHT_TREE_H
 #define LIGHT_TREE_H

@@ -35,7 +35,7 @@ struct Sums {
     double: f64,
 }
 
-// How many entries each stack holds.
+// How many entries each stack holds: lengths beside the lent work, since there is no heap.
 #[derive(Clone, Copy)]
 struct Heights {
     under: usize,

@@ -142,8 +142,8 @@ fn pattern(s: Scaled, kept: u64) -> u32
     ((2 + s.half) * 0x80_0000 + kept) as u32
 }
 
-// The pattern of the root of d * 2^e units of 2^-300, where `kept` gives what is kept of the root of digits. The bounds
-// of d and e are each width's own.
+// The pattern of the root of d * 2^e units of 2^-300, where `kept` gives what is kept of the root of digits. The
+// bounds of d and e are each width's own; 0 < d stands beside them, since a type of it would be taken apart at once.
 fn digits_root<F: Fn(Digits) -> u64>(d: u64, e: u64, kept: F) -> u32
     requires d_nonzero { (0 < d) × (d < 2 ^ 24) }
     requires le_e { (151 ≤ e) × (e ≤ 404) }

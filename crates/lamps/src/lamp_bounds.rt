@@ -32,7 +32,8 @@ pub struct AreaTriangleInput {
     pub geometric_normal: Vec3,
 }
 
-// What a lamp sends out: the greatest of its values, and the scale on them.
+// What a lamp sends out: the greatest of its values, and the scale on them. In `Lamp` these stay flat, under the Rust's
+// names (`LightBoundInput`), so each kind gathers its own.
 #[derive(Clone, Copy)]
 struct Emission {
     max: f32,

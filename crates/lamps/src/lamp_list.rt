@@ -14,6 +14,13 @@ use words::limits::{crowded, fits};
 use words::places::{wide, word_or_zero};
 use words::refusals::Refusal;
 
+// The kinds of lamps, as the head of each has them.
+const POINT_KIND: u32 = 1;
+
+const SPOT_KIND: u32 = 2;
+
+const GROUP_KIND: u32 = 3;
+
 // The words of a point, of a spot, of a group before its triangles, and of a triangle.
 const POINT_WORDS: usize = 6;
 
@@ -55,8 +62,9 @@ pub enum Lamp {
     },
 }
 
-// A lamp, the place where its triangles start, and the cursor past it. A point or a spot has no triangles: they start
-// where the next lamp does.
+// A lamp, the place where its triangles start, and the cursor past it; places and no slice, as the definitions have
+// them (`alone`, `group_at`, `triangles_of`). A point or a spot has no triangles: they start where the next lamp
+// does.
 #[derive(Clone, Copy)]
 pub struct Reading {
     pub lamp: Lamp,
@@ -90,9 +98,9 @@ impl Cursor {
     {
         let at = self.at;
         match kind_of(word_or_zero(list, at)) {
-            1 => point_at(list, at),
-            2 => spot_at(list, at),
-            3 => group_at(list, at),
+            POINT_KIND => point_at(list, at),
+            SPOT_KIND => spot_at(list, at),
+            GROUP_KIND => group_at(list, at),
             _ => Err(Refusal::Ragged),
         }
     }
@@ -107,7 +115,8 @@ impl Reading {
     }
 }
 
-// ---- one lamp
+// ---- one lamp. Each reader asks that its own words lie in the list: the counts differ, and the definitions take list
+// and place.
 
 // A lamp without triangles that ends before `end`.
 fn alone(lamp: Lamp, end: usize) -> Reading
@@ -231,7 +240,8 @@ pub fn check_list(list: &[u32]) -> Result<usize, Refusal>
     check_lamps(list)
 }
 
-// As many lamps as word 0 says, then the list's end; then the handles.
+// As many lamps as word 0 says, then the list's end; then the handles: that one is misplaced is kept as a flag up to
+// the list's end, since Ragged comes before Misplaced.
 fn check_lamps(list: &[u32]) -> Result<usize, Refusal>
     ensures { answered result ≡ count (placed_lamps list.now) }
 {

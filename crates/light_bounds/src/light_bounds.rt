@@ -14,6 +14,7 @@ use super::vecmath::{Vec3, dot, is_finite, is_finite_vec};
 use floats::choose::min;
 use words::refusals::Refusal;
 
+// The figures stay flat, under the Rust's names; `cone` gives two of them as one.
 #[derive(Clone, Copy)]
 pub struct LightBounds {
     pub bounds: Bounds3,
@@ -101,7 +102,7 @@ fn validate_range(record: LightBounds) -> Result<(), Refusal>
     Err(Refusal::OutOfRange)
 }
 
-// Whether a cosine lies from -1 to 1.
+// Whether a cosine lies from -1 to 1. By two tests: the fact of a float range's `contains` is `float_partial_cmp`.
 pub fn is_cosine(x: f32) -> bool
     ensures { result ≡ is_cosine x }
 {

@@ -39,7 +39,8 @@ fn split_stretch(block: &[u32], handles: &mut [u32], work: &mut [u32]) -> Result
     part_stretch(block, handles, work)
 }
 
-// The record around the trees at nodes 1 and `right`, read back from their nodes.
+// The record around the trees at nodes 1 and `right`, read back from their nodes. That a place fits a head's thirty
+// bits is asked of the sum that each function makes: right, at + right, at + 2n.
 fn union_children(nodes: &[u32], right: usize) -> Result<LightBounds, Refusal>
     requires { right < 2 ^ 30 }
     ensures { answered result ≡ union_at nodes.now right }
@@ -49,8 +50,7 @@ fn union_children(nodes: &[u32], right: usize) -> Result<LightBounds, Refusal>
     union(left_bounds, right_bounds)
 }
 
-// The node over two trees whose words stand behind it, the right one at node `right`: the record around both records,
-// read back from their nodes.
+// The node over two trees whose words stand behind it, the right one at node `right`.
 fn join_children(nodes: &mut [u32], right: usize, at: u32, parent: u32) -> Result<(), Refusal>
     requires { at + right < 2 ^ 30 }
     ensures result_value { answered result ≡ done (union_at nodes.old right) }
@@ -67,8 +67,9 @@ fn join_children(nodes: &mut [u32], right: usize, at: u32, parent: u32) -> Resul
     Ok(())
 }
 
-// Writes the tree of a stretch, its root at node `at` under `parent`, to nodes that are as many as it needs. Labels and
-// places fit a head, so every node is written.
+// Writes the tree of a stretch, its root at node `at` under `parent`, to nodes that are as many as it needs. Labels
+// and places fit a head, so every node is written. `parent` is the node's word, INVALID_INDEX at the root. Handles,
+// work and nodes are lent apart, since a part of each is lent on: so each function asks how long the work is.
 pub(crate) fn build_subtree(
     block: &[u32],
     handles: &mut [u32],

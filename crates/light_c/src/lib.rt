@@ -220,7 +220,7 @@ fn box_of(present: u32, min: Vec3, max: Vec3) -> Option<Bounds3>
     Some(Bounds3 { min, max })
 }
 
-// How many words were packed, as one number, which C can take.
+// How many words were packed, as one number, which C can take. A usize is cast: Rust has no `From` of it to u64.
 fn packed_code(answer: Result<Option<usize>, Refusal>) -> u64
     ensures { result ≡ packed_code (packed answer) }
 {

@@ -240,9 +240,9 @@ fn read_front(front: &mut [u8; 4 * BLOCK_WORDS]) -> usize
     4 + io::read_full(0, &mut front[4..end])
 }
 
-// Whether all of it was written. A program has no exit status here, so one that cannot write says so. No public
-// function in `text` for both programs: it could promise nothing, as `io::write_all` promises nothing, and the sentence
-// names the program.
+// Whether all of it was written, as `io::write_all` answers. A program has no exit status here, so one that cannot
+// write says so. No public function in `text` for both programs: it could promise nothing, as `io::write_all`
+// promises nothing, and the sentence names the program.
 fn write(text: &[u8]) -> bool {
     if io::write_all(1, text) {
         return true;

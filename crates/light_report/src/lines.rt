@@ -58,8 +58,8 @@ fn draw_group(tree: Tree, group: &[u8]) -> Result<Option<Line>, Refusal>
 
 // ---- how it is written, at a place of the lent slice, as `text` writes
 
-// Each asks for the room of a whole line at its place, since how long a line is is known only when it is written. No
-// type asks that: a struct of slice and place would have to promise of each call that it keeps the slice.
+// Each asks for the room of what it may write, a whole line but for `put_chance`, since a line's length is known only
+// then. No type asks that: a struct of slice and place would have to promise of each call that it keeps the slice.
 
 // Writes a space and a float's bits; the place behind them.
 fn put_chance(out: &mut [u8], at: usize, x: f32) -> usize

@@ -32,6 +32,7 @@ pub fn block_words(m: u32) -> usize
     1 + EXHAUSTIVE_BOUNDS_WORDS * wide(m)
 }
 
+// One behind the row's handle, written out as the definition is.
 fn record_place(row: u32) -> usize
     ensures { result ≡ record_place row }
 {

@@ -33,7 +33,8 @@ pub const NODE_BYTES: usize = 4 * NODE_WORDS;
 // The nodes of the most lamps: no walk takes more.
 pub const MAX_NODES: usize = 2 * MAX_LAMPS - 1;
 
-// Handles and left children are below this: a head has thirty bits for them.
+// Handles and left children are below this: a head has thirty bits for them. It is written out in words Heads too, as
+// the definition there is.
 pub const HEAD_ROOM: u32 = 0x4000_0000;
 
 // A head's two bits above them: which kind of node it is.
@@ -41,7 +42,8 @@ const LEAF_KIND: u32 = 1;
 
 const INTERIOR_KIND: u32 = 2;
 
-// The right child of a leaf, the parent of the root.
+// The right child of a leaf, the parent of the root: no Option, since it is the node's word, which build writes and
+// packing keeps.
 pub const INVALID_INDEX: u32 = 0xffff_ffff;
 
 // A node without its record.
@@ -115,7 +117,7 @@ fn put_node(words: &mut [u32], at: usize, node: Node, bounds: LightBounds)
 }
 
 // Writes a node at a place, or nothing where its row is not there or its head has no room for the handle or the left
-// child: whether it wrote. Build drops the answer: its labels and places fit. It is for callers that can't know that.
+// child: whether it wrote, by `node_fits`, for any node. Build drops the answer: its labels and places fit.
 #[tactic(auto, unfolding(crate::specs::AsCoded::NodeRow::node_written, crate::specs::AsCoded::NodeRow::node_fits))]
 pub fn write_node(words: &mut [u32], place: usize, node: Node, bounds: LightBounds) -> bool
     ensures value { result ≡ node_fits words.old place (node_value node) }

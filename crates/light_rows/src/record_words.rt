@@ -47,8 +47,7 @@ struct Triple {
 }
 
 // A record's words, fetched by name, those past the end as 0: the compiler lays the row into registers
-// (docs/DECISIONS.md). A record is written only where there is room for all its words, so they are copied from an
-// array.
+// (docs/DECISIONS.md).
 #[derive(Drop)]
 struct Row {
     min: Triple,
@@ -249,6 +248,7 @@ pub fn read_record_bytes(bytes: &[u8], at: usize) -> Result<LightBounds, Refusal
 
 // ---- writing
 
+// An array and no `Row`: a record is written only where there is room for all its words, so they are copied at once.
 #[tactic(auto, unfolding(crate::specs::RecordWords::record_list))]
 fn words_of_record(record: LightBounds) -> [u32; RECORD_WORDS]
     ensures { result ≡ record_list «record» }

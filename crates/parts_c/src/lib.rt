@@ -75,7 +75,8 @@ pub extern "C" fn floats_of_two(which: u32, x: f32, y: f32) -> f32
     }
 }
 
-// The casts to whole numbers and the word of a float, by a number of their own; 0 past the last.
+// The casts to whole numbers and the word of a float, by a number of their own; 0 past the last. A usize is cast, since
+// Rust has no `From` of it.
 #[unsafe(no_mangle)]
 pub extern "C" fn floats_to_whole(which: u32, x: f32) -> u64
     ensures { result ≡ to_whole which x }

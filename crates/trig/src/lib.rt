@@ -83,7 +83,7 @@ pub fn cos(x: f32) -> f32
     }
 }
 
-// The sine of x, likewise.
+// The sine of x, likewise. Two functions, as the Rust has: the series differ, and the sine has the factor x.
 #[tactic(auto, using(crate::proofs::Cases::turns_cases))]
 pub fn sin(x: f32) -> f32
     ensures { result ≡ sin_of x }

@@ -1,4 +1,5 @@
-// Filling and zeroing a stretch of a lent slice (specs/AsCoded/Fill.antt).
+// Filling and zeroing a stretch of a lent slice (specs/AsCoded/Fill.antt), told by its places: a part would leave each
+// caller to say what the rest keeps. Zeroing has a name, since most trays are left so.
 ghost use Rattle.std.specs.Prelude.{◌≡◌};
 ghost use Rattle.words.specs.AsCoded.Fill.{filled};
 

@@ -1,6 +1,6 @@
 // Floats and their words, at both widths. Every NaN pattern is read as the one NaN, and a NaN is written as 7fc00000,
-// or 7ff8000000000000 at 64 bits. Of one generic body every
-// number would be a parameter, and each comparison a conversion: so a width has an impl.
+// or 7ff8000000000000 at 64 bits. Of one generic body every number would be a parameter, and each comparison a
+// conversion: so a width has an impl.
 ghost use Rattle.std.specs.Prelude.{◌≡◌, ℕ};
 ghost use Rattle.std.specs.Float.{Float as IeeeFloat, binary32, binary64};
 ghost use Rattle.std.specs.Float.Ieee.{Format, of_bits, to_bits};

@@ -38,7 +38,7 @@ pub fn word_at(bytes: &[u8], place: usize) -> u32
     }
 }
 
-// Writes the word at a place; past the last whole word nothing is written.
+// Writes the word at a place, as the definition has it; past the last whole word nothing is written.
 pub fn set_word(bytes: &mut [u8], place: usize, w: u32)
     ensures { bytes.new ≡ set_word bytes.old place w }
 {
