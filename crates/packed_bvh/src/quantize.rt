@@ -4,7 +4,7 @@ ghost use Rattle.packed_bvh.specs.Quantize.{steps_of, quantize_bounds, quantize_
 ghost use Rattle.packed_bvh.specs.Quantize.{octahedral as octahedral_of, quantize_axis};
 
 use floats::choose::{abs, clamp, is_sign_negative};
-use floats::whole::to_u16;
+use floats::whole::{to_u16, to_u32};
 use light_bounds::vecmath::{Vec3, divide_vector};
 
 // ---- coordinates within an axis, in 65535 steps; 0 on an axis without extent
@@ -33,8 +33,12 @@ impl Axis {
             return 0;
         }
         let step = self.steps(value);
-        let n = to_u16(step);
-        if up && f32::from(n) < step { n + 1 } else { n }
+        let n = to_u32(step);
+        if up && (n as f32) < step {
+            (n + 1) as u16
+        } else {
+            n as u16
+        }
     }
 
     pub fn quantize_down(self, value: f32) -> u16
@@ -90,15 +94,17 @@ pub fn octahedral(v: Vec3) -> Vec3
 }
 
 // To the nearest of 65535 steps from -1 to 1.
-#[tactic(auto, using(crate::proofs::QuantizeCuts::axis_cuts))]
 pub fn quantize_axis(c: f32) -> u16
     ensures { result ≡ quantize_axis c }
 {
     let step = (c + 1.0) * 0.5 * 65535.0;
-    let n = to_u16(step);
-    if f32::from(n) + 0.5 <= step {
-        n.saturating_add(1)
+    let n = to_u32(step);
+    if n >= 65535 {
+        return 65535;
+    }
+    if (n as f32) + 0.5 <= step {
+        (n + 1) as u16
     } else {
-        n
+        n as u16
     }
 }
