@@ -1,5 +1,5 @@
 // Numbers packed into sixteen and fifteen bits (specs/Quantize.antt). Steps are counted in u32 and cast at the end: with
-// sums of u16 a tree of 4,096 lamps was packed in 1.01 of the Rust's time, so in 0.94.
+// sums of u16 packing 4,096 lamps took 1.01 of the Rust's time, and it takes 0.94.
 ghost use Rattle.std.specs.Prelude.{true, false, ◌≡◌};
 ghost use Rattle.packed_bvh.specs.Quantize.{steps_of, quantize_bounds, quantize_cos, sign as sign_of, folded};
 ghost use Rattle.packed_bvh.specs.Quantize.{octahedral as octahedral_of, quantize_axis};
