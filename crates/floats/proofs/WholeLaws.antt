@@ -1,13 +1,14 @@
 -- The library's `floor`, `ceil` and `round` are those of Whole.antt: a magnitude of n / d goes up to (n + d - 1) / d,
 -- which is the whole part, and one more where there is a rest. Assumes nothing.
-use Rattle.std.proofs.Common.{◌≡◌, ℕ, ◌+◌, ◌-◌, ◌*◌, ◌/◌, ◌∙◌, sym, ap, refl, arith}
-use Rattle.std.specs.Prelude.{Float, Bool, true, false, ℤ}
-use Rattle.std.specs.Float.{Format, nan, inf, fin, round_with}
+use Rattle.std.proofs.Common.{◌≡◌, ℕ, ◌+◌, ◌-◌, ◌*◌, ◌/◌, ◌∙◌, sym, ap, refl, subst, arith}
+use Rattle.std.specs.Prelude.{T, Float, Bool, true, false, ℤ}
+use Rattle.std.specs.Float.{Format, binary32, nan, inf, fin, round_with}
 use Rattle.std.specs.Float.{floor as library_floor, ceil as library_ceil, float_round}
-use Rattle.std.specs.Float.Ieee.{up, down, round}
+use Rattle.std.specs.Float.Ieee.{up, down, round, of_bits, is_nan}
 use Rattle.std.specs.Float.Ieee.Fits.{down_pos}
 use Rattle.ieee.specs.Whole.{next_whole, floor, ceil, round_away}
 use Rattle.ieee.specs.Laws.WholeLaws.{next_whole-units}
+use Rattle.ieee.specs.Laws.Nans.{only_nan}
 
 module _ (f : Format) (s : Bool) (m : ℕ) (e : ℤ) where
   cut : next_whole f false (fin s m e) ≡ round f s (m * up e / down e) 1
@@ -39,4 +40,15 @@ library_rounds f (inf s) = refl
 library_rounds f (fin false m e) = refl
 library_rounds f (fin true m e) = refl
 
-pub ruleset library = (library_floors, library_ceils, library_rounds)
+-- the one NaN is given back as such
+pub nan_floors : (x : Float) → is_nan x ≡ true → of_bits binary32 0x7fc0_0000 ≡ floor binary32 x
+unfolding of_bits floor next_whole
+nan_floors x h = subst (λ (y : Float). of_bits binary32 0x7fc0_0000 ≡ floor binary32 y)
+    (sym (only_nan x (subst T (sym h) tt))) refl
+
+pub nan_ceils : (x : Float) → is_nan x ≡ true → of_bits binary32 0x7fc0_0000 ≡ ceil binary32 x
+unfolding of_bits ceil next_whole
+nan_ceils x h = subst (λ (y : Float). of_bits binary32 0x7fc0_0000 ≡ ceil binary32 y)
+    (sym (only_nan x (subst T (sym h) tt))) refl
+
+pub ruleset library = (library_floors, library_ceils, library_rounds, nan_floors, nan_ceils)

@@ -12,3 +12,11 @@ pub(crate) fn shifted_to_even(a: u64, gone: u64) -> u64
     let half = 1u64 << (gone - 1);
     (a + (half - 1) + (a >> gone) % 2) >> gone
 }
+
+// 2 to the k.
+pub(crate) fn power(k: u32) -> u32
+    requires { k < 32 }
+    ensures { result ≡ 2 ^ k }
+{
+    1u32 << k
+}

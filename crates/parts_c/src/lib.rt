@@ -23,7 +23,6 @@ ghost use Rattle.parts_c.specs.PartCodes.{count_code, validate_words, importance
 
 use light_bounds::importance::importance;
 use light_bounds::light_bounds::{LightBounds, union, validate};
-use light_c::value_code;
 use light_rows::block::{check_handles, check_layout};
 use light_rows::query_words::{QUERY_WORDS, query_of};
 use light_rows::record_words::{RECORD_WORDS, read_record, write_record};
@@ -229,6 +228,16 @@ pub extern "C" fn bounds_importance(record: &[u32], query: &[u32]) -> u64
     ensures { result ≡ value_code (importance_words «record».now query.now) }
 {
     value_code(importance_words(record, query))
+}
+
+// A value's bits, or 2^32 and the refusal's number. light_c has its own: none of the code here calls light_c.
+fn value_code(answer: Result<f32, Refusal>) -> u64
+    ensures { result ≡ value_code (answered answer) }
+{
+    match answer {
+        Ok(x) => u64::from(x.word()),
+        Err(why) => 0x1_0000_0000 + u64::from(why.number()),
+    }
 }
 
 // The union of two records, its words written, or zeros where it is refused.

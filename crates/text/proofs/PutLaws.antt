@@ -1,18 +1,19 @@
--- Writing text into a slice: a word's digits, one text behind another, and all or none of a text. Assumes nothing.
-use Prim.Native.Nat.{ℕ, zero, suc, ◌+◌, ◌-◌, ◌*◌, ◌/◌, ◌%◌, ◌^◌, ◌≤◌, ◌<◌}
+-- Writing text into a slice: digits from the last to the first, bytes from the first to the last, one text behind
+-- another, and all or none of a text. Assumes nothing.
+use Prim.Native.Nat.{ℕ, zero, suc, ◌+◌, ◌-◌, ◌*◌, ◌/◌, ◌%◌, ◌≤◌, ◌<◌}
 use mathlib.Core.Path.{◌≡◌, refl, sym, ap, ◌∙◌}
 use mathlib.Core.Bool.{Bool, true, false, cond}
-use mathlib.Core.List.{List, [], ◌∷◌, ◌++◌, append_assoc}
-use native.Mathlib.Nat.{pow-le-pow_right}
+use mathlib.Core.List.{List, [], ◌∷◌, ◌++◌, append-nil, append_assoc}
+use native.Mathlib.Nat.{mod-lt, lt_of_lt_of_le}
 use native.Mathlib.Omega.{arith}
-use borrow.Author.Tests.{le-leb, lt-leb, leb-true, leb-false}
+use borrow.Author.Tests.{lt-ltb, le-ltb, le-leb, lt-leb, leb-true, leb-false}
 use borrow.Rule.Slice.PartMut.{put_mid}
 use lib.Dec.{leb}
-use lib.ListN.{length, take, drop, set, length-append}
-use lib.Seq.{sets, sets-eq, take_at, length-sets, length-take-le}
+use lib.ListN.{length, get_or, take, drop, set, length-set, length-append}
+use lib.Seq.{sets, sets-eq, set_comm, append_snoc, take-suc, take_at, length-take-le, take-length}
 use Rattle.std.proofs.lemmas.List.Edits.{paste_all}
 use Rattle.std.proofs.lemmas.Slice.{put_mid-paste}
-use Rattle.io.specs.Digits.{last_digits, hex_digit_ascii, IsDigitCount}
+use Rattle.io.specs.Digits.{last_digits, hex_digit_ascii}
 use Rattle.std.specs.Prelude.{Result, Ok, Err, MatchResult}
 use Rattle.words.specs.Answers.{Answer, given, refused, answered}
 use Rattle.words.specs.LittleEndian.{bytes_of}
@@ -23,9 +24,9 @@ use Rattle.words.specs.Laws.TrayLaws.{tray-full, tray-early}
 use Rattle.words.proofs.AnswerLaws.{given_injective, refused_injective, not-both}
 use Rattle.words.proofs.LittleEndianLaws.{length-bytes_of}
 use Rattle.words.proofs.Stores.{sets-append}
-use Rattle.text.specs.Text.{places, decimal_bytes, hex_bytes, refused_bytes, newline, refusal_line}
+use Rattle.text.specs.Text.{places_in, places, decimal_bytes, hex_bytes, refused_bytes, refusal_line}
 use Rattle.text.specs.AsCoded.Puts.{fitting, Put}
-use Rattle.text.specs.Laws.TextLaws.{places-few, places_fewest}
+use Rattle.text.specs.Laws.TextLaws.{places-few}
 
 pub length_digits : (b k n : ℕ) → length (last_digits b k n) ≡ k
 length_digits b zero n = refl
@@ -33,35 +34,142 @@ length_digits b (suc k) n =
     length-append (last_digits b k (n / b)) (hex_digit_ascii (n % b) ∷ [])
     ∙ rw (length_digits b k (n / b)) (omega arith)
 
--- ---- how many digits
+-- a store before a run of stores
+set_before : (l vs : List ℕ) (j i a : ℕ) → j < i → set (sets l i vs) j a ≡ sets (set l j a) i vs
+set_before l [] j i a h = refl
+set_before l (v ∷ vs) j i a h =
+    set_before (set l i v) vs j (suc i) a (omega arith) ∙ ap (λ (s : List ℕ). sets s (suc i) vs)
+    (set_comm l i j v a (λ e. omega (arith, h, e)))
 
--- the fewest digits that hold a number are so many, and no more
-fewest-below : (base width n j k : ℕ) → 0 < base → IsDigitCount base width n j → IsDigitCount base width n k → j < k → ⊥
-fewest-below base width n j k some few many h =
-    let more : base ^ j ≤ base ^ (k - 1) = pow-le-pow_right some (omega arith) in
-    let held : base ^ (k - 1) ≤ n = many.2 (omega (arith, h, few.0)) in
-    omega (arith, few.1)
+-- ---- digits
 
-fewest-same : (base width n j k : ℕ) → 0 < base → IsDigitCount base width n j → IsDigitCount base width n k → j ≡ k
-fewest-same base width n j k some first second =
-    let up : j < k → ⊥ = fewest-below base width n j k some first second in
-    let down : k < j → ⊥ = fewest-below base width n k j some second first in
-    omega (arith, up, down)
+-- the digits of n behind the first i are written, and the first i are those of `rest`
+pub record Spelled (before : List ℕ) (at b k n : ℕ) (out : List ℕ) (i rest : ℕ) : Type 0 where
+  pub based : 0 < b
+  pub few : b ≤ 16
+  pub room : at + k ≤ length before
+  pub within : i ≤ k
+  pub same : length out ≡ length before
+  pub tail : List ℕ
+  pub whole : last_digits b i rest ++ tail ≡ last_digits b k n
+  pub is : out ≡ sets before (at + i) tail
 
--- the digits of a word, as many as are counted
-pub decimal-laid : {n k : ℕ} {digits : List ℕ} → n < 2 ^ 32 → IsDigitCount 10 1 n k → digits ≡ last_digits 10 k n
-    → digits ≡ decimal_bytes n
-unfolding decimal_bytes
-decimal-laid {n} {k} h counted laid =
-    laid ∙ ap (λ (j : ℕ). last_digits 10 j n) (fewest-same 10 1 n k (places n) (omega arith) counted
-    (places_fewest n (omega (arith, h))))
+pub spelled_none : {before : List ℕ} {at b k n : ℕ} → (0 < b) × (b ≤ 16) × (at + k ≤ length before)
+    → Spelled before at b k n before k n
+spelled_none {b} {k} {n} (based, few, room) =
+    record {
+      based = based;
+      few = few;
+      room = room;
+      within = omega arith;
+      same = refl;
+      tail = [];
+      whole = append-nil (last_digits b k n);
+      is = refl;
+    }
 
-pub hex-laid : {n k : ℕ} {digits : List ℕ} → n < 2 ^ 32 → IsDigitCount 16 8 n k → digits ≡ last_digits 16 k n
-    → digits ≡ hex_bytes n
-unfolding hex_bytes
-hex-laid {n} {k} h counted laid =
-    let eight : IsDigitCount 16 8 n 8 = (omega arith, h, λ (l : 8 < 8). omega (arith, l)) in
-    laid ∙ ap (λ (j : ℕ). last_digits 16 j n) (fewest-same 16 8 n k 8 (omega arith) counted eight)
+spelled-digit : {before out : List ℕ} {at b k n i rest : ℕ} (j : ℕ) → i ≡ suc j → Spelled before at b k n out i rest
+    → Spelled before at b k n (set out (at + j) (hex_digit_ascii (rest % b))) j (rest / b)
+spelled-digit {before} {out} {at} {b} {k} {n} {i} {rest} j e s =
+    let up : at + i ≡ suc (at + j) = omega (arith, e) in
+    record {
+      based = s.based;
+      few = s.few;
+      room = s.room;
+      within = omega (arith, s.within, e);
+      same = length-set out (at + j) (hex_digit_ascii (rest % b)) ∙ s.same;
+      tail = hex_digit_ascii (rest % b) ∷ s.tail;
+      whole = sym (append_snoc (last_digits b j (rest / b)) (hex_digit_ascii (rest % b)) s.tail) ∙ rw e at s.whole;
+      is = rw (s.is, up) (set_before before s.tail (at + j) (suc (at + j)) (hex_digit_ascii (rest % b)) (omega arith));
+    }
+
+pub spelled-next : {before out : List ℕ} {at b k n i rest : ℕ} → 0 < i → Spelled before at b k n out i rest
+    → Spelled before at b k n (set out (at + (i - 1)) (hex_digit_ascii (rest % b))) (i - 1) (rest / b)
+spelled-next {i} h s = spelled-digit (i - 1) (omega (arith, h)) s
+
+pub spelled-digit-few : {before out : List ℕ} {at b k n i rest : ℕ} → Spelled before at b k n out i rest → rest % b < 16
+spelled-digit-few {rest} s = lt_of_lt_of_le (mod-lt rest s.based) s.few
+
+pub spelled-all : {before out : List ℕ} {at b k n i rest : ℕ} → i ≡ 0 → Spelled before at b k n out i rest
+    → out ≡ sets before at (last_digits b k n)
+spelled-all {before} {at} {b} {k} {n} {i} {rest} e s =
+    let here : at + 0 ≡ at = omega arith in
+    s.is ∙ rw (e, here, ← s.whole, e)
+
+-- ---- text
+
+-- the first i bytes of a text are written
+pub record Texted (before : List ℕ) (at : ℕ) (text out : List ℕ) (i : ℕ) : Type 0 where
+  pub room : at + length text ≤ length before
+  pub within : i ≤ length text
+  pub same : length out ≡ length before
+  pub is : out ≡ sets before at (take i text)
+
+pub texted-none : {before text : List ℕ} {at : ℕ} → at + length text ≤ length before → Texted before at text before 0
+texted-none room = record { room = room; within = omega arith; same = refl; is = refl }
+
+pub texted-next : {before text out : List ℕ} {at i : ℕ} → i < length text → Texted before at text out i
+    → Texted before at text (set out (at + i) (get_or text i 0)) (i + 1)
+texted-next {before} {text} {out} {at} {i} h t =
+    let up : i + 1 ≡ suc i = omega arith in
+    record {
+      room = t.room;
+      within = omega (arith, h);
+      same = length-set out (at + i) (get_or text i 0) ∙ t.same;
+      is = rw (
+        up,
+        take-suc text i 0 h,
+        sets-append before at (take i text)
+            (get_or text i 0 ∷ []),
+        length-take-le i text t.within,
+        t.is,
+      );
+    }
+
+pub texted-all : {before text out : List ℕ} {at i : ℕ} → length text ≤ i → Texted before at text out i
+    → out ≡ sets before at text
+texted-all {before} {text} {out} {at} {i} h t =
+    let e : i ≡ length text = omega (arith, h, t.within) in
+    t.is ∙ rw (e, take-length text)
+
+-- ---- decimal places
+
+-- k places are counted, and `rest` is what n has before them
+pub record Counted (n k rest : ℕ) : Type 0 where
+  pub some : 1 ≤ k
+  pub few : k ≤ 10
+  pub whole : k + places_in (10 - k) rest ≡ 1 + places_in 9 n
+
+pub counted-one : {n : ℕ} → Counted n 1 n
+counted-one = record { some = omega arith; few = omega arith; whole = refl }
+
+places-next : (more rest : ℕ) → 10 ≤ rest → places_in (suc more) rest ≡ 1 + places_in more (rest / 10)
+unfolding places_in
+places-next more rest h = simp (le-ltb rest 10 h)
+
+places-one : (more rest : ℕ) → rest < 10 → places_in more rest ≡ 1
+unfolding places_in
+places-one zero rest h = refl
+places-one (suc more) rest h = simp (lt-ltb rest 10 h)
+
+pub counted_next : {n k rest : ℕ} → k < 10 → 10 ≤ rest → Counted n k rest → Counted n (k + 1) (rest / 10)
+counted_next {n} {k} {rest} h g c =
+    let fewer : 10 - k ≡ suc (10 - (k + 1)) = omega (arith, h) in
+    let step : places_in (10 - k) rest ≡ 1 + places_in (10 - (k + 1)) (rest / 10) = rw fewer
+    (places-next (10 - (k + 1)) rest g) in
+    record { some = omega arith; few = omega (arith, h); whole = omega (arith, step, c.whole) }
+
+pub counted-all : {n k rest : ℕ} → Counted n k rest → places_in (10 - k) rest ≡ 1 → k ≡ places_in 9 n
+counted-all c e = omega (arith, e, c.whole)
+
+pub counted-small : {n k rest : ℕ} → rest < 10 → Counted n k rest → k ≡ places_in 9 n
+counted-small {n} {k} {rest} h c = counted-all c (places-one (10 - k) rest h)
+
+pub counted_ten : {n k rest : ℕ} → 10 ≤ k → Counted n k rest → k ≡ places_in 9 n
+unfolding places_in
+counted_ten {n} {k} {rest} h c =
+    let none : 10 - k ≡ 0 = omega (arith, h) in
+    counted-all c (rw none refl)
 
 -- ---- one text behind another
 
@@ -109,7 +217,22 @@ length_refusal n = simp (length-append, length_decimal) (omega arith)
 pub refusal-short : (n : ℕ) → length (refusal_line n) ≤ 19
 refusal-short n = rw (length_refusal n) (omega (arith, places-few 9 n))
 
+-- ---- a refusal's line
+
+pub refusal-put : (before : List ℕ) (at k n : ℕ) {said out : List ℕ} → k ≡ places n → said ≡ sets before at refused_bytes
+    → out ≡ sets said (at + 8) (last_digits 10 k n) → set out (at + 8 + k) 10 ≡ sets before at (refusal_line n)
+unfolding refusal_line decimal_bytes
+refusal-put before at k n {said} {out} e word number =
+    let first : Put before at refused_bytes said (at + 8) = record { is = word; past = refl } in
+    let second : Put said (at + 8) (last_digits 10 (places n) n) out (at + 8 + k) =
+    record { is = rw e at number; past = rw (length_digits 10 (places n) n, e) } in
+    (put_then (put_then first second) (put_one out (at + 8 + k) 10)).is
+
 -- ---- all of a text or none
+
+-- the room that a test has found
+pub room-told : {r : Bool} {a b : ℕ} → r ≡ leb a b → r ≡ true → a ≤ b
+room-told {r} {a} {b} is holds = leb-true a b (sym is ∙ holds)
 
 module _ (before : List ℕ) (at : ℕ) (text : List ℕ) where
   pub fitting-all : at + length text ≤ length before → fitting before at text ≡ text
@@ -119,14 +242,6 @@ module _ (before : List ℕ) (at : ℕ) (text : List ℕ) where
   pub fitting-none : length before < at + length text → fitting before at text ≡ []
   unfolding fitting
   fitting-none short = simp (lt-leb (at + length text) (length before) short)
-
-  pub fitting-short : length (fitting before at text) ≤ length text
-  unfolding fitting
-  fitting-short = go (leb (at + length text) (length before))
-    where
-      go : (b : Bool) → length (cond b text []) ≤ length text
-      go true = omega arith
-      go false = omega arith
 
   -- a part as long as the text is overwritten
   pub put_all : {laid : List ℕ} → leb (at + length text) (length before) ≡ true → laid ≡ text
@@ -147,6 +262,16 @@ module _ (before : List ℕ) (at : ℕ) (text : List ℕ) where
       → (before ≡ sets before at (fitting before at text)) × (0 ≡ length (fitting before at text))
   put-none is = rw (fitting-none (leb-false (at + length text) (length before) is)) (refl, refl)
 
+  -- the same of what is laid byte by byte, by the test of the room
+  module _ (count : ℕ) (long : length text ≡ count) where
+    pub laid_all : {after : List ℕ} → leb (at + count) (length before) ≡ true → after ≡ sets before at text
+        → (after ≡ sets before at (fitting before at text)) × (count ≡ length (fitting before at text))
+    laid_all is put = rw (fitting-all (rw long (leb-true (at + count) (length before) is))) (put, sym long)
+
+    pub laid-none : leb (at + count) (length before) ≡ false
+        → (before ≡ sets before at (fitting before at text)) × (0 ≡ length (fitting before at text))
+    laid-none is = rw (fitting-none (rw long (leb-false (at + count) (length before) is))) (refl, refl)
+
 -- where there is room, what was written stands there
 pub put-fits : {before text after : List ℕ} {at count : ℕ} → at + length text ≤ length before
     → after ≡ sets before at (fitting before at text) → count ≡ length (fitting before at text)
@@ -154,66 +279,6 @@ pub put-fits : {before text after : List ℕ} {at count : ℕ} → at + length t
 put-fits {before} {text} {after} {at} {count} room is long =
     let all = fitting-all before at text room in
     record { is = rw all at is; past = rw (long, all) }
-
--- ---- a refusal's line
-
--- the word and the digits are short
-pub line-begun : (before a : List ℕ) (n : ℕ) {p q : ℕ} → p ≡ length (fitting before 0 refused_bytes)
-    → q ≡ length (fitting a p (decimal_bytes n)) → p + q ≤ 18
-line-begun before a n {p} {q} p-is q-is =
-    omega (
-      arith,
-      fitting-short before 0 refused_bytes,
-      fitting-short a p (decimal_bytes n),
-      decimal-short n,
-      p-is,
-      q-is,
-    )
-
--- the word, the digits and the line's end, one behind another from the front of a slice with room for them
-module _ (before : List ℕ) (n : ℕ) (room : 19 ≤ length before) {a b c : List ℕ} {p q r : ℕ}
-    (a-is : a ≡ sets before 0 (fitting before 0 refused_bytes)) (p-is : p ≡ length (fitting before 0 refused_bytes))
-    (b-is : b ≡ sets a p (fitting a p (decimal_bytes n))) (q-is : q ≡ length (fitting a p (decimal_bytes n)))
-    (c-is : c ≡ sets b (p + q) (fitting b (p + q) newline)) (r-is : r ≡ length (fitting b (p + q) newline)) where
-  word : Put before 0 refused_bytes a (0 + p)
-  word = put-fits (omega (arith, room)) a-is p-is
-
-  eight : p ≡ 8
-  eight = omega (arith, word.past)
-
-  digits : Put a p (decimal_bytes n) b (p + q)
-  digits = put-fits (omega (arith, decimal-short n, eight, room, ap length word.is, length-sets before 0 refused_bytes))
-      b-is q-is
-
-  whole : Put before 0 (refusal_line n) c (p + q + r)
-  unfolding refusal_line
-  whole =
-      let same : 0 + p ≡ p = omega arith in
-      let line : p + q + 1 ≤ length b =
-      omega (
-        arith,
-        decimal-short n,
-        eight,
-        digits.past,
-        room,
-        ap length word.is,
-        ap length digits.is,
-        length-sets before 0 refused_bytes,
-        length-sets a p (decimal_bytes n),
-      ) in
-      put_then (put_then (rw same at word) digits) (put-fits (omega (arith, line)) c-is r-is)
-
-  pub line-laid : (p + q + r ≤ length c) × (p + q + r ≡ length (take (p + q + r) c)) × (p + q + r ≤ 19)
-      × (take (p + q + r) c ≡ refusal_line n)
-  line-laid =
-      let long : p + q + r ≡ length (refusal_line n) = omega (arith, whole.past) in
-      let within : p + q + r ≤ length c =
-      omega (arith, refusal-short n, room, ap length whole.is, length-sets before 0 (refusal_line n)) in (
-        within,
-        sym (length-take-le (p + q + r) c within),
-        omega (arith, refusal-short n),
-        handed_front before (refusal_line n) (p + q + r) (omega (arith, refusal-short n, room)) whole.is long,
-      )
 
 -- ---- words as bytes
 
@@ -241,7 +306,7 @@ module _ (words before : List ℕ) where
   abbrev left : Answer ℕ → List ℕ
   left answer = tray (λ (n : ℕ). bytes_of words) (4 * length words) answer before
 
-  words-put : {n : ℕ} {after : List ℕ} → given n ≡ written_words words (length before)
+  pub words-put : {n : ℕ} {after : List ℕ} → given n ≡ written_words words (length before)
       → after ≡ left (written_words words (length before))
       → (after ≡ sets before 0 (fitting before 0 (bytes_of words))) × (4 * n ≡ length (fitting before 0
       (bytes_of words)))
@@ -255,7 +320,7 @@ module _ (words before : List ℕ) where
       rw (fitting-all before 0 (bytes_of words) fits)
       (rw (← e) at is ∙ full ∙ sym (rw end at put), rw (long, same))
 
-  words_left : {m : ℕ} {after : List ℕ} → refused m ≡ written_words words (length before)
+  pub words_left : {m : ℕ} {after : List ℕ} → refused m ≡ written_words words (length before)
       → after ≡ left (written_words words (length before))
       → (after ≡ sets before 0 (fitting before 0 (bytes_of words))) × (0 ≡ length (fitting before 0 (bytes_of words)))
   words_left {m} {after} e is =

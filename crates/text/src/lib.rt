@@ -4,16 +4,77 @@
 // to a place: an `Option` of it would be `unwrap_or(0)` at each call.
 #![tactic(auto)]
 
-ghost use Rattle.std.specs.Prelude.{◌≡◌, length};
+ghost use Rattle.std.specs.Prelude.{◌≡◌, ◌+◌, ◌≤◌, ◌<◌, length};
 ghost use Rattle.std.proofs.lemmas.List.Edits.{sets};
+ghost use Rattle.io.specs.Digits.{last_digits, hex_digit_ascii as glyph_of};
 ghost use Rattle.words.specs.LittleEndian.{bytes_of};
 ghost use Rattle.words.specs.Refusals.{number};
-ghost use Rattle.text.specs.Text.{decimal_bytes, hex_bytes, refusal_line};
+ghost use Rattle.text.specs.Text.{places as places_of, decimal_bytes, hex_bytes, refusal_line};
 ghost use Rattle.text.specs.AsCoded.Puts.{fitting};
 
 use words::limits::fits;
 use words::little_endian::bytes_of_words;
 use words::refusals::Refusal;
+
+// ---- where there is room
+
+fn glyph(d: u32) -> u8
+    requires { d < 16 }
+    ensures { result ≡ glyph_of d }
+{
+    if d < 10 { 48 + d as u8 } else { 87 + d as u8 }
+}
+
+// Writes the last k digits of n, the most significant first.
+fn lay_digits(out: &mut [u8], at: usize, base: u32, k: usize, n: u32)
+    requires { (0 < base) × (base ≤ 16) × (at + k ≤ length out.old) }
+    ensures { out.new ≡ sets out.old at (last_digits base k n) }
+{
+    let mut i = k;
+    let mut rest = n;
+    while i > 0 {
+        i -= 1;
+        out[at + i] = glyph(rest % base);
+        rest /= base;
+    }
+}
+
+fn lay_text(out: &mut [u8], at: usize, text: &[u8])
+    requires { at + length text.now ≤ length out.old }
+    ensures { out.new ≡ sets out.old at text.now }
+{
+    let mut i = 0;
+    while i < text.len() {
+        out[at + i] = text[i];
+        i += 1;
+    }
+}
+
+// How many decimal digits a word has.
+fn places(n: u32) -> usize
+    ensures value { result ≡ places_of n }
+    ensures upper_bound { result ≤ 10 }
+{
+    let mut k = 1;
+    let mut rest = n;
+    while k < 10 && rest >= 10 {
+        rest /= 10;
+        k += 1;
+    }
+    k
+}
+
+// The line of refusal n, which has k digits.
+fn lay_refused(out: &mut [u8], at: usize, k: usize, n: u32)
+    requires { (k ≡ places_of n) × (k ≤ 10) × (at + (9 + k) ≤ length out.old) }
+    ensures { out.new ≡ sets out.old at (refusal_line n) }
+{
+    lay_text(out, at, b"refused ");
+    let number_at = at + 8;
+    lay_digits(out, number_at, 10, k, n);
+    let end = number_at + k;
+    out[end] = b'\n';
+}
 
 // ---- at a place
 
@@ -38,9 +99,12 @@ pub fn put_decimal(out: &mut [u8], at: usize, n: u32) -> usize
         ≡ sets out.old at (fitting out.old at (decimal_bytes n)) }
     ensures value { result ≡ length (fitting out.old at (decimal_bytes n)) }
 {
-    let mut digits = [0u8; 20];
-    let count = io::decimal(u64::from(n), &mut digits);
-    put_text(out, at, &digits[..count])
+    let count = places(n);
+    if fits(out.len(), at, count) {
+        lay_digits(out, at, 10, count, n);
+        return count;
+    }
+    0
 }
 
 // A word's eight hexadecimal digits.
@@ -49,9 +113,11 @@ pub fn put_hex(out: &mut [u8], at: usize, n: u32) -> usize
         ≡ sets out.old at (fitting out.old at (hex_bytes n)) }
     ensures value { result ≡ length (fitting out.old at (hex_bytes n)) }
 {
-    let mut digits = [0u8; 16];
-    let count = io::hex(u64::from(n), 8, &mut digits);
-    put_text(out, at, &digits[..count])
+    if fits(out.len(), at, 8) {
+        lay_digits(out, at, 16, 8, n);
+        return 8;
+    }
+    0
 }
 
 // A refusal's line.
@@ -60,11 +126,14 @@ pub fn put_refused(out: &mut [u8], at: usize, why: Refusal) -> usize
         ≡ sets out.old at (fitting out.old at (refusal_line (number why))) }
     ensures value { result ≡ length (fitting out.old at (refusal_line (number why))) }
 {
-    let mut line = [0u8; 19];
-    let number_at = put_text(&mut line, 0, b"refused ");
-    let end = number_at + put_decimal(&mut line, number_at, why.number());
-    let count = end + put_text(&mut line, end, b"\n");
-    put_text(out, at, &line[..count])
+    let n = why.number();
+    let k = places(n);
+    let count = 9 + k;
+    if fits(out.len(), at, count) {
+        lay_refused(out, at, k, n);
+        return count;
+    }
+    0
 }
 
 // ---- at the front

@@ -1,9 +1,20 @@
--- What the library lays into the array are the word's eight digits. Assumes nothing.
-use native.Mathlib.Omega.{arith}
-use Rattle.text.proofs.PutLaws.{hex-laid}
+-- The test of the room decides between all eight digits and none. Assumes nothing.
+use mathlib.Core.Path.{sym, ◌∙◌}
+use borrow.Author.Rules.{rules}
+use Rattle.text.specs.Text.{hex_bytes}
+use Rattle.text.proofs.PutLaws.{room-told, laid_all, laid-none, length_hex}
 use Rattle.text.proofs.put_hex.Goals as goal
+
+pub lay_digits-requires : goal.lay_digits-requires
+lay_digits-requires c = (search rules, search rules, room-told c.fits.ensures c.if-fits.true)
+
+pub returns-then-fits : goal.returns-then-fits
+unfolding hex_bytes
+returns-then-fits c =
+    let h = laid_all _ _ _ 8 (length_hex c.args.n) (sym c.fits.ensures ∙ c.if-fits.true) c.lay_digits.ensures in
+    record { out_after = h.0; value = h.1 }
 
 pub returns : goal.returns
 returns c =
-    rw (hex-laid (omega arith) c.hex-count.ensures.len c.hex-count.ensures.digits, c.from.ensures) at
-    c.put_text.ensures
+    let h = laid-none _ _ _ 8 (length_hex c.args.n) (sym c.fits.ensures ∙ c.if-fits.false) in
+    record { out_after = h.0; value = h.1 }

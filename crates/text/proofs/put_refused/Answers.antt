@@ -1,38 +1,23 @@
--- The line is laid into the array, and put from there. Assumes nothing.
-use Prim.Native.Nat.{ℕ, ◌+◌, ◌≤◌}
-use mathlib.Core.Path.{◌≡◌}
-use native.Mathlib.Omega.{arith}
-use lib.ListN.{length, take}
-use Rattle.text.specs.Text.{refusal_line}
-use Rattle.text.proofs.PutLaws.{line-laid, line-begun}
+-- The test of the room decides between all of the line and none. Assumes nothing.
+use Prim.Native.Nat.{◌+◌}
+use mathlib.Core.Path.{sym, ◌∙◌}
+use borrow.Author.Tests.{leb-true}
+use Rattle.text.proofs.PutLaws.{laid_all, laid-none, length_refusal}
 use Rattle.text.proofs.put_refused.Goals as goal
-use Rattle.text.proofs.put_refused.Goals.{After-put_text}
 
-pub overflow_add-end : goal.overflow_add-end
-overflow_add-end c =
-    let word = c.put_text-number_at.ensures in
-    record { fits = omega (arith, line-begun _ _ c.number.result word.value c.put_decimal.ensures.value) }
+pub lay_refused-requires : goal.lay_refused-requires
+lay_refused-requires c = let counted = c.places-k.ensures in
+    (counted.value, counted.upper_bound, leb-true _ _ (sym c.fits.ensures ∙ c.if-fits.true))
 
-module _ (c : After-put_text) where
-  abbrev count : ℕ
-  count = c.put_text-number_at.result + c.put_decimal.result + c.put_text.result
-
-  line : (count ≤ length c.put_text.new.out) × (count ≡ length (take count c.put_text.new.out)) × (count ≤ 19)
-      × (take count c.put_text.new.out ≡ refusal_line c.number.result)
-  line =
-      let word = c.put_text-number_at.ensures in
-      let digits = c.put_decimal.ensures in
-      line-laid _ c.number.result (omega arith) word.out_after word.value digits.out_after digits.value
-      c.put_text.ensures.out_after c.put_text.ensures.value
-
-pub overflow_add-count : goal.overflow_add-count
-overflow_add-count c = record { fits = omega (arith, (line (goal.at.overflow_add-count c).After-put_text).2) }
-
-pub slice_bounds-line-end : goal.slice_bounds-line-end
-slice_bounds-line-end c = (line (goal.at.slice_bounds-line-end c).After-put_text).0
-
-pub slice_bounds-put_text-end-5 : goal.slice_bounds-put_text-end-5
-slice_bounds-put_text-end-5 c = (line (goal.at.slice_bounds-put_text-end-5 c).After-put_text).1
+pub returns-then-fits : goal.returns-then-fits
+returns-then-fits c =
+    let h = laid_all _ _ _ (9 + c.places-k.result) (length_refusal _ ∙ rw c.places-k.ensures.value)
+    (sym c.fits.ensures ∙ c.if-fits.true) c.lay_refused.ensures in
+    rw (← c.number-n.ensures) (record { out_after = h.0; value = h.1 })
 
 pub returns : goal.returns
-returns c = rw (← c.number.ensures) (rw (line (goal.at.returns c).After-put_text).3 at c.put_text-2.ensures)
+returns c =
+    let h = laid-none _ _ _ (9 + c.places-k.result)
+    (length_refusal c.number-n.result ∙ rw c.places-k.ensures.value)
+    (sym c.fits.ensures ∙ c.if-fits.false) in
+    rw (← c.number-n.ensures) (record { out_after = h.0; value = h.1 })
