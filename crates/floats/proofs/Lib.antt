@@ -1,4 +1,3 @@
 pub mod Saturated
-pub mod WholeLaws
 pub mod WordLaws
 pub mod RootLaws

@@ -1,8 +1,6 @@
--- A number that is cast to fewer bits, or else the largest number of these: the lesser of both. Assumes nothing.
-use Rattle.std.proofs.Common.{◌≡◌, ℕ, ◌-◌, ◌^◌, ◌≤◌, ◌<◌, ◌∙◌, arith, pow_pos, lit≤, refl, le_of_lt, inl, inr}
-use Rattle.std.proofs.Math.Nat.{min-eq_left, min-eq_right}
-use Rattle.std.proofs.lemmas.Bool.{cases_lt}
-use Rattle.std.specs.Prelude.{Result, Ok, Err, min, ◌⊎◌}
+-- A number that is cast to fewer bits, or else the largest number of these. Assumes nothing.
+use Rattle.std.proofs.Common.{◌≡◌, ℕ, ◌-◌, ◌^◌, ◌≤◌, ◌<◌, ◌∙◌, arith, pow_pos, lit≤, refl}
+use Rattle.std.specs.Prelude.{Result, Ok, Err}
 use Rattle.std.specs.Result.{OkIff, result_unwrap_or}
 use Rattle.ieee.specs.Whole.{to_u16, to_u32, to_usize}
 use Rattle.ieee.specs.Laws.CastWords.{cast-kept, cast-most}
@@ -23,19 +21,4 @@ pub to_u16_saturated : {E : Type 0} (x : Float) (r : Result ℕ E)
 unfolding to_u16 to_usize
 to_u16_saturated x r h = saturated 16 64 (lit≤ tt) x (to_unsigned 64 x) refl r h
 
-pub least : (k j : ℕ) → k ≤ j → (x : Float) (n : ℕ) → n ≡ to_unsigned j x → min n (2 ^ k - 1) ≡ to_unsigned k x
-least k j l x n e = go (cases_lt (2 ^ k - 1) n)
-  where
-    go : (2 ^ k - 1 < n) ⊎ (n ≤ 2 ^ k - 1) → min n (2 ^ k - 1) ≡ to_unsigned k x
-    go (inl h) = min-eq_right (le_of_lt h) ∙ cast-most k j l x n e h
-    go (inr h) = min-eq_left h ∙ cast-kept k j l x n e h
-
-pub to_u32_least : (x : Float) → min (to_usize x) 0xffff_ffff ≡ to_u32 x
-unfolding to_u32 to_usize
-to_u32_least x = least 32 64 (lit≤ tt) x (to_unsigned 64 x) refl
-
-pub to_u16_least : (x : Float) → min (to_usize x) 0xffff ≡ to_u16 x
-unfolding to_u16 to_usize
-to_u16_least x = least 16 64 (lit≤ tt) x (to_unsigned 64 x) refl
-
-pub ruleset casts = (to_u32_least, to_u16_least)
+pub ruleset casts = (to_u32_saturated, to_u16_saturated)

@@ -1,4 +1,4 @@
-// Rounding by a shift.
+// Powers of two, and rounding, by a shift.
 ghost use Rattle.std.specs.Prelude.{◌≡◌, ◌^◌, ◌≤◌, ◌<◌};
 ghost use Rattle.std.specs.Float.Ieee.Nearest.{closest};
 

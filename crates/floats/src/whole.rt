@@ -1,52 +1,75 @@
-// Functions to whole numbers. `floor` and `ceil` are the library's, which WholeLaws proves to be those of R2.6, but for
-// a NaN, which the library hands back with its own bits: here every NaN is one.
+// Functions to whole numbers. A magnitude pattern a below 2^31 has the exponent's field a >> 23; from 150 on the value
+// is whole, and from 127 to 149 its last 150 - field digits are the fraction. The library's `floor`, `ceil` and `round`
+// hand a NaN on with its own bits, and `round` takes 8.4 ns by C, where this takes 4.7.
 ghost use Rattle.std.specs.Prelude.{◌≡◌};
 ghost use Rattle.std.specs.Float.{binary32};
 ghost use Rattle.std.specs.Float.Ieee.{of_bits, to_bits};
-ghost use Rattle.ieee.specs.Whole.{floor as floored, ceil as ceiled, round_away, to_u16, to_u32, to_usize};
+ghost use Rattle.ieee.specs.Whole.{next_whole, floor as floored, ceil as ceiled, round_away, to_u16, to_u32, to_usize};
 
 use super::shift::power;
 use words::floats::Float;
 
 // The greatest whole number at most x.
-#[tactic(auto, using(crate::proofs::WholeLaws::library))]
 pub fn floor(x: f32) -> f32
     ensures { result ≡ floored binary32 x }
 {
-    if x.is_nan() { f32::NAN } else { x.floor() }
+    let w = x.word();
+    f32::of_word(next_whole_word(w, w >= 0x8000_0000))
 }
 
 // The least whole number at least x.
-#[tactic(auto, using(crate::proofs::WholeLaws::library))]
 pub fn ceil(x: f32) -> f32
     ensures { result ≡ ceiled binary32 x }
 {
-    if x.is_nan() { f32::NAN } else { x.ceil() }
+    let w = x.word();
+    f32::of_word(next_whole_word(w, !(w >= 0x8000_0000)))
 }
 
-// The nearest whole number, halves away from zero. The library's takes 8.4 ns by C where this takes 4.7.
-#[tactic(auto, using(crate::proofs::WordLaws::backs))]
+// The nearest whole number, halves away from zero.
 pub fn round(x: f32) -> f32
     ensures { result ≡ round_away binary32 x }
 {
     f32::of_word(round_word(x.word()))
 }
 
-// The same of a pattern: half the weight of a one is added, and the fraction cut off.
-fn round_word(w: u32) -> u32
-    ensures { result ≡ to_bits binary32 (round_away binary32 (of_bits binary32 w)) }
+// The pattern of the next whole number, away from zero or toward it.
+fn next_whole_word(w: u32, away: bool) -> u32
+    ensures { result ≡ to_bits binary32 (next_whole binary32 away (of_bits binary32 w)) }
 {
     let a = w % 0x8000_0000;
-    // NaN
     if a > 0x7f80_0000 {
         return 0x7fc0_0000;
     }
-    // whole, or infinite: 2^23 and up
     if a >= 0x4b00_0000 {
         return w;
     }
     let sign = w - a;
-    // below 1: zero, or one from a half on
+    if a < 0x3f80_0000 {
+        if a == 0 || !away {
+            return sign;
+        }
+        return sign + 0x3f80_0000;
+    }
+    let part = power(150 - a / 0x80_0000);
+    if away {
+        let b = a + (part - 1);
+        return sign + (b - b % part);
+    }
+    sign + (a - a % part)
+}
+
+// The pattern of the nearest whole number, halves away from zero.
+fn round_word(w: u32) -> u32
+    ensures { result ≡ to_bits binary32 (round_away binary32 (of_bits binary32 w)) }
+{
+    let a = w % 0x8000_0000;
+    if a > 0x7f80_0000 {
+        return 0x7fc0_0000;
+    }
+    if a >= 0x4b00_0000 {
+        return w;
+    }
+    let sign = w - a;
     if a < 0x3f80_0000 {
         if a < 0x3f00_0000 {
             return sign;
@@ -95,12 +118,12 @@ fn to_usize_word(w: u32) -> usize
 pub fn to_u32(x: f32) -> u32
     ensures { result ≡ to_u32 x }
 {
-    to_usize(x).min(0xffff_ffff) as u32
+    u32::try_from(to_usize(x)).unwrap_or(u32::MAX)
 }
 
 #[tactic(auto, using(crate::proofs::Saturated::casts))]
 pub fn to_u16(x: f32) -> u16
     ensures { result ≡ to_u16 x }
 {
-    to_usize(x).min(0xffff) as u16
+    u16::try_from(to_usize(x)).unwrap_or(u16::MAX)
 }

@@ -1,15 +1,15 @@
--- A stretch that is parted: the items that pass a test, a list laid over the front of another, and the loop of
--- `partition.rt`. Assumes nothing.
-use Prim.Native.Nat.{ℕ, ◌+◌, ◌-◌, ◌/◌, ◌≤◌, ◌<◌, zero-le}
+-- A stretch that is parted: the items that pass a test, a list laid over the front of another, and the two loops
+-- of `partition.rt`. Assumes nothing.
+use Prim.Native.Nat.{ℕ, suc, ◌+◌, ◌-◌, ◌/◌, ◌≤◌, ◌<◌, zero-le}
 use mathlib.Core.Path.{◌≡◌, refl, ap, sym, ◌∙◌}
 use mathlib.Core.Bool.{Bool, true, false, cond, not, ◌||◌}
 use mathlib.Core.List.{List, [], ◌∷◌, ◌++◌, append-nil}
 use mathlib.Core.Logic.{◌⊎◌, ⊎_elim}
+use native.Mathlib.Nat.{sub_self, le_refl}
 use native.Mathlib.Omega.{arith}
 use lib.ListN.{length, get_or, take, drop, set, length-append, length-set, length-drop, take-append-drop}
 use lib.ListN.{drop_of_length-le}
-use borrow.Rule.Slice.PartMut.{post_of}
-use lib.Seq.{take_all, length-take-le, take-append_seam}
+use lib.Seq.{take_all, length-take-le, take-append_seam, paste, paste-zero, paste-suc}
 use borrow.Author.Tests.{lt-ltb, le-ltb, eq-eqb, ne_eqb}
 use lib.Dec.{eqb}
 use Rattle.words.proofs.ListLaws.{kept_in, kept_out, kept_lengths, laid_next, laid-get_or}
@@ -102,6 +102,51 @@ module _ {l r : ℕ → Bool} (other : (h : ℕ) → r h ≡ not (l h)) {hs work
               ap (λ (xs : List ℕ). laid (kept r xs) work) e,
         ),
       )
+
+-- ---- the loop that puts the work's front behind the first handles, up to place i
+
+pub record Behind (hs : List ℕ) (left : ℕ) (work l : List ℕ) (i : ℕ) : Type 0 where
+  pub after : left ≤ i
+  pub within : i ≤ length hs
+  pub room : length hs ≤ length work + left
+  pub same : length l ≡ length hs
+  pub is : l ≡ paste hs left work (i - left)
+
+pub behind-none : (hs work : List ℕ) (left : ℕ) → left ≤ length hs → length hs ≤ length work + left →
+    Behind hs left work hs left
+behind-none hs work left h room =
+    record {
+      after = le_refl left;
+      within = h;
+      room = room;
+      same = refl;
+      is = rw (sub_self left)
+          (paste-zero hs left work);
+    }
+
+pub behind-next : {hs work l : List ℕ} {left i : ℕ} → Behind hs left work l i → i < length hs
+    → Behind hs left work (set l i (get_or work (i - left) 0)) (i + 1)
+behind-next {hs} {work} {l} {left} {i} b h =
+    let j = i - left in
+    let e : i ≡ left + j = omega arith in
+    let next : suc j ≡ i + 1 - left = omega arith in
+    record {
+      after = omega arith;
+      within = omega arith;
+      room = b.room;
+      same = length-set l i (get_or work j 0) ∙ b.same;
+      is =
+          rw b.is (ap (λ (n : ℕ). set (paste hs left work j) n (get_or work j 0)) e
+          ∙ paste-suc hs left work j 0 (omega arith) (omega arith) ∙ ap (λ (n : ℕ). paste hs left work n) next);
+    }
+
+pub behind-all : {hs work l : List ℕ} {left i : ℕ} → Behind hs left work l i → length hs ≤ i →
+    l ≡ take left hs ++ take (length hs - left) work
+behind-all {hs} {work} {l} {left} {i} b h =
+    let e : i ≡ length hs = omega arith in
+    let over : length hs ≤ left + (i - left) = omega arith in
+    let past : drop (left + (i - left)) hs ≡ [] = drop_of_length-le hs over in
+    b.is ∙ rw (past, append-nil (take left hs ++ take (i - left) work), e)
 
 -- ---- the whole
 
@@ -226,11 +271,3 @@ parted_rejoined {ws} {hs} {work} {hs'} {work'} {s} {left} p =
       take-append_seam r
           (drop (length r) work),
     )
-
--- the work's front behind the first handles
-pub put_behind : (hs hs' work' new : List ℕ) (left : ℕ) → length hs' ≡ length hs → new ≡ take (length hs - left) work'
-    → take left hs' ++ (new ++ post_of left (length hs' - left) hs') ≡ take left hs' ++ take (length hs' - left) work'
-put_behind hs hs' work' new left same e =
-    let past : drop (length hs' - left) (drop left hs') ≡ [] =
-    drop_of_length-le (drop left hs') (omega (arith, length-drop left hs')) in
-    rw (past, append-nil new, e, same)

@@ -44,6 +44,19 @@ fn part(block: &[u32], ends: Bounds3, split: Split, handles: &mut [u32], work: &
     left
 }
 
+// The work's front behind the first handles. By place: of `copy_from_slice` with a length known only here the static
+// library would ask C for `memmove`, and it asks for `memcpy` and `memset` alone.
+fn put_behind(handles: &mut [u32], left: usize, work: &[u32])
+    requires left_in_bounds { left ≤ length handles.old }
+    requires handles_in_bounds { length handles.old ≤ length work.now + left }
+    ensures { handles.new ≡ take left handles.old ++
+        take (length handles.old - left) work.now }
+{
+    for i in left..handles.len() {
+        handles[i] = work[i - left];
+    }
+}
+
 // Parts the stretch in place; how many handles are in front. Where all go one way, half of them. The work, at least as
 // long as the stretch or ShortTray, keeps the handles that went right by their buckets.
 pub fn partition_handles(
@@ -65,7 +78,7 @@ pub fn partition_handles(
     }
     let ends = centroid_ends(block, handles);
     let left = part(block, ends, split, handles, work);
-    handles[left..].copy_from_slice(&work[..n - left]);
+    put_behind(handles, left, work);
     if left == 0 || left == n {
         return Ok(n / 2);
     }

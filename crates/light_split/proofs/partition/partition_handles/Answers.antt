@@ -4,12 +4,13 @@ use Prim.Native.Nat.{ℕ, ◌-◌, ◌≤◌}
 use mathlib.Core.List.{List, ◌++◌}
 use mathlib.Core.Path.{◌≡◌, sym, ◌∙◌}
 use mathlib.Core.Logic.{⊎_map}
+use native.Mathlib.Omega.{arith}
 use lib.ListN.{length, take}
 use Rattle.words.specs.Answers.{given}
 use Rattle.light_split.specs.declared.split.Split.{Split}
 use Rattle.light_split.specs.Partition.{partition_handles}
 use Rattle.light_split.specs.AsCoded.Parted.{parted_count, parted_handles, parted_work}
-use Rattle.light_split.proofs.PartitionLaws.{Parted, parted-of, parted_rejoined, put_behind, parted-short}
+use Rattle.light_split.proofs.PartitionLaws.{Parted, parted-of, parted_rejoined, parted-short}
 use Rattle.light_split.proofs.PartitionLaws.{parted-long, partition-half, partition-both}
 use Rattle.light_split.proofs.partition.partition_handles.Goals as goal
 use Rattle.light_split.proofs.partition.partition_handles.Goals.{After-part-left}
@@ -40,13 +41,17 @@ returns-then-work-n c =
     let h = parted-short args.block.now args.handles.now args.split args.work.now c.if-work-n.true in
     record { result_value = h.0; handles_after = h.1.0; work_after = h.1.1 }
 
+pub put_behind-requires : goal.put_behind-requires
+put_behind-requires c =
+    let p = parted (goal.at.put_behind-requires c).After-part-left in
+    record { left_in_bounds = omega arith; handles_in_bounds = omega (arith, c.if-work-n.false) }
+
 pub returns-then-left-eq0 : goal.returns-then-left-eq0
 returns-then-left-eq0 c =
     let args = c.args in
     let p = parted (goal.at.returns-then-left-eq0 c).After-part-left in
     let count = p.count in
-    let h = whole p c.if-work-n.false (put_behind args.handles.now _ _ _ _ p.same c.copy_from_slice.ensures.after) _
-    (partition-half args.block.now args.handles.now args.split
+    let h = whole p c.if-work-n.false c.put_behind.ensures _ (partition-half args.block.now args.handles.now args.split
     (⊎_map (λ e. sym count ∙ e) (λ e. sym count ∙ e.1) c.then-left-eq0.either)) in
     record { result_value = h.0; handles_after = h.1.0; work_after = h.1.1 }
 
@@ -55,8 +60,7 @@ returns c =
     let args = c.args in
     let p = parted (goal.at.returns c).After-part-left in
     let count = p.count in
-    let h = whole p c.if-work-n.false (put_behind args.handles.now _ _ _ _ p.same c.copy_from_slice.ensures.after) _
-    (partition-both args.block.now args.handles.now args.split
+    let h = whole p c.if-work-n.false c.put_behind.ensures _ (partition-both args.block.now args.handles.now args.split
     (λ e. c.if-left-eq0.false (count ∙ e))
     (λ e. c.if-left-n.false (count ∙ e)) ∙ sym count) in
     record { result_value = h.0; handles_after = h.1.0; work_after = h.1.1 }
