@@ -8,9 +8,7 @@ use Rattle.words.proofs.AnswerLaws.{given_injective, refused_injective, not-both
 use Rattle.words.specs.Answers.{Answer, given, refused, ◌then◌, answered}
 use Rattle.words.specs.Refusals.{number}
 use Rattle.words.specs.declared.refusals.Refusal.{Refusal}
-use Rattle.words.specs.declared.refusals.Refusal.TheVariants.{Ragged, Crowded, ShortTray, Misplaced, NotFinite}
-use Rattle.words.specs.declared.refusals.Refusal.TheVariants.{Inverted, NoDirection, OutOfRange, NoArea}
-use Rattle.words.specs.declared.refusals.Refusal.TheVariants.{LostUnion, BadU, BrokenTree, TooWide}
+use Rattle.words.specs.declared.refusals.Refusal.TheVariants.{NoDirection}
 use Rattle.light_bounds.specs.Importance.{NormalStep, lit, facing, normal_factor, with_normal, importance_by}
 use Rattle.light_bounds.specs.Importance.{finite_query, checked_importance, importance, weigh}
 use Rattle.light_bounds.specs.LightBounds.{validate}
@@ -60,19 +58,7 @@ weigh-prepared r h q e = ap (λ (x : Prepared). weigh_held r x) e ∙ weigh-held
 
 -- the one refusal of number 7
 seven : (why : Refusal) → number why ≡ 7 → why ≡ NoDirection
-seven NoDirection e = refl
-seven Ragged e = absurd (omega (arith, e))
-seven Crowded e = absurd (omega (arith, e))
-seven ShortTray e = absurd (omega (arith, e))
-seven Misplaced e = absurd (omega (arith, e))
-seven NotFinite e = absurd (omega (arith, e))
-seven Inverted e = absurd (omega (arith, e))
-seven OutOfRange e = absurd (omega (arith, e))
-seven NoArea e = absurd (omega (arith, e))
-seven LostUnion e = absurd (omega (arith, e))
-seven BadU e = absurd (omega (arith, e))
-seven BrokenTree e = absurd (omega (arith, e))
-seven TooWide e = absurd (omega (arith, e))
+seven why e = grind arith
 
 -- what `normalize` returned is the normal of what it answers
 pub held : (r : Normal) (n : Vec3) → answered r ≡ normalize n → r ≡ of_length (normalize n)

@@ -5,21 +5,7 @@ use mathlib.Core.Logic.{◌⊎◌, inl, inr}
 use native.Mathlib.Omega.{arith}
 use Rattle.words.specs.Refusals.{number}
 use Rattle.words.specs.declared.refusals.Refusal.{Refusal}
-use Rattle.words.specs.declared.refusals.Refusal.TheVariants.{
-  Ragged,
-  Crowded,
-  ShortTray,
-  Misplaced,
-  NotFinite,
-  Inverted,
-  NoDirection,
-  OutOfRange,
-  NoArea,
-  LostUnion,
-  BadU,
-  BrokenTree,
-  TooWide,
-}
+use Rattle.words.specs.declared.refusals.Refusal.TheVariants.{Ragged, Crowded, ShortTray, Misplaced}
 use Rattle.words.specs.Laws.TrayLaws.{tray-early}
 use Rattle.words.proofs.Reserves.{tray-zeroed}
 use Rattle.light_c.specs.Codes.{answer_reserve, summary_list}
@@ -34,19 +20,7 @@ early why (inr (inr (inr e))) = rw e (omega arith)
 
 late : (why : Refusal) → (why ≡ Ragged → ⊥) → (why ≡ Crowded → ⊥) → (why ≡ ShortTray → ⊥) → (why ≡ Misplaced → ⊥) →
     4 < number why
-late Ragged a b c d = absurd (a refl)
-late Crowded a b c d = absurd (b refl)
-late ShortTray a b c d = absurd (c refl)
-late Misplaced a b c d = absurd (d refl)
-late NotFinite a b c d = omega arith
-late Inverted a b c d = omega arith
-late NoDirection a b c d = omega arith
-late OutOfRange a b c d = omega arith
-late NoArea a b c d = omega arith
-late LostUnion a b c d = omega arith
-late BadU a b c d = omega arith
-late BrokenTree a b c d = omega arith
-late TooWide a b c d = omega arith
+late why a b c d = grind arith
 
 pub returns-clause-answer_after : goal.returns-clause-answer_after
 returns-clause-answer_after c = let answer = c.args.answer.now in
