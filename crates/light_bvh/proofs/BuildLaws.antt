@@ -7,9 +7,10 @@ use mathlib.Core.List.{List, [], ◌∷◌, ◌++◌, append-nil}
 use mathlib.Core.Option.{Option}
 use native.Mathlib.Numerals.{add-one}
 use native.Mathlib.Omega.{arith}
-use borrow.Author.Tests.{ltb-false, eq-eqb, ne_eqb, eqb-true}
+use borrow.Author.Tests.{lt-ltb, le-ltb, ltb-false, eq-eqb, ne_eqb, eqb-true}
 use lib.Dec.{T, eqb, ltb}
 use lib.ListN.{length, get_or, set, length-append, length-set}
+use Rattle.std.proofs.lemmas.Bool.{or_right}
 use Rattle.words.specs.Answers.{Answer, given, refused, ◌then◌}
 use Rattle.words.specs.AsCoded.Fill.{filled}
 use Rattle.words.specs.Heads.{kind_of, handle_of}
@@ -35,15 +36,30 @@ use Rattle.light_bvh.specs.Build.{nodes_reserve, work_reserve, is_short, build_c
 use Rattle.light_bvh.specs.AsCoded.Tables.{tabled_below}
 use Rattle.light_bvh.specs.Build.{built_bvh, build_light_bvh, nodes_written, table_written, work_written, summary}
 
--- ---- reserves that are not short
+-- ---- short reserves
 
 or-false : (a b : Bool) → a || b ≡ false → (a ≡ false) × (b ≡ false)
 or-false true b e = (e, absurd (subst T e tt))
 or-false false b e = (refl, e)
 
 module _ (m nodes table work : ℕ) where
-  -- have room
-  reserves-fit : is_short m nodes table work ≡ false →
+  pub short-nodes : nodes < nodes_reserve m → is_short m nodes table work ≡ true
+  short-nodes h = rw (lt-ltb nodes (nodes_reserve m) h)
+
+  pub short-table : table < m → is_short m nodes table work ≡ true
+  short-table h =
+      or_right (ltb nodes (nodes_reserve m)) (ltb table m || ltb work (work_reserve m)) (rw (lt-ltb table m h))
+
+  pub short_work : work < work_reserve m → is_short m nodes table work ≡ true
+  short_work h =
+      or_right (ltb nodes (nodes_reserve m)) (ltb table m || ltb work (work_reserve m))
+      (or_right (ltb table m) (ltb work (work_reserve m)) (lt-ltb work (work_reserve m) h))
+
+  pub not_short : nodes_reserve m ≤ nodes → m ≤ table → work_reserve m ≤ work → is_short m nodes table work ≡ false
+  not_short h k l = rw (le-ltb nodes (nodes_reserve m) h, le-ltb table m k) (le-ltb work (work_reserve m) l)
+
+  -- what is not short has room
+  pub reserves-fit : is_short m nodes table work ≡ false →
       (nodes_reserve m ≤ nodes) × (m ≤ table) × (work_reserve m ≤ work)
   reserves-fit h =
       let (n, h') = or-false (ltb nodes (nodes_reserve m)) (ltb table m || ltb work (work_reserve m)) h in
