@@ -157,6 +157,15 @@ put-fits {before} {text} {after} {at} {count} room is long =
 
 -- ---- a refusal's line
 
+pub refusal-put : (before : List ℕ) (at k n : ℕ) {said out : List ℕ} → k ≡ places n → said ≡ sets before at refused_bytes
+    → out ≡ sets said (at + 8) (last_digits 10 k n) → set out (at + 8 + k) 10 ≡ sets before at (refusal_line n)
+unfolding refusal_line decimal_bytes
+refusal-put before at k n {said} {out} e word number =
+    let first : Put before at refused_bytes said (at + 8) = record { is = word; past = refl } in
+    let second : Put said (at + 8) (last_digits 10 (places n) n) out (at + 8 + k) =
+    record { is = rw e at number; past = rw (length_digits 10 (places n) n, e) } in
+    (put_then (put_then first second) (put_one out (at + 8 + k) 10)).is
+
 -- the word and the digits are short
 pub line-begun : (before a : List ℕ) (n : ℕ) {p q : ℕ} → p ≡ length (fitting before 0 refused_bytes)
     → q ≡ length (fitting a p (decimal_bytes n)) → p + q ≤ 18
@@ -241,7 +250,7 @@ module _ (words before : List ℕ) where
   abbrev left : Answer ℕ → List ℕ
   left answer = tray (λ (n : ℕ). bytes_of words) (4 * length words) answer before
 
-  words-put : {n : ℕ} {after : List ℕ} → given n ≡ written_words words (length before)
+  pub words-put : {n : ℕ} {after : List ℕ} → given n ≡ written_words words (length before)
       → after ≡ left (written_words words (length before))
       → (after ≡ sets before 0 (fitting before 0 (bytes_of words))) × (4 * n ≡ length (fitting before 0
       (bytes_of words)))
@@ -255,7 +264,7 @@ module _ (words before : List ℕ) where
       rw (fitting-all before 0 (bytes_of words) fits)
       (rw (← e) at is ∙ full ∙ sym (rw end at put), rw (long, same))
 
-  words_left : {m : ℕ} {after : List ℕ} → refused m ≡ written_words words (length before)
+  pub words_left : {m : ℕ} {after : List ℕ} → refused m ≡ written_words words (length before)
       → after ≡ left (written_words words (length before))
       → (after ≡ sets before 0 (fitting before 0 (bytes_of words))) × (0 ≡ length (fitting before 0 (bytes_of words)))
   words_left {m} {after} e is =
