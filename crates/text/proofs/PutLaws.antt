@@ -157,7 +157,8 @@ put-fits {before} {text} {after} {at} {count} room is long =
 
 -- ---- a refusal's line
 
-pub refusal-put : (before : List ℕ) (at k n : ℕ) {said out : List ℕ} → k ≡ places n → said ≡ sets before at refused_bytes
+pub refusal-put : (before : List ℕ) (at k n : ℕ) {said out : List ℕ} → k ≡ places n →
+    said ≡ sets before at refused_bytes
     → out ≡ sets said (at + 8) (last_digits 10 k n) → set out (at + 8 + k) 10 ≡ sets before at (refusal_line n)
 unfolding refusal_line decimal_bytes
 refusal-put before at k n {said} {out} e word number =
