@@ -10,6 +10,7 @@ use native.Mathlib.Omega.{arith}
 use borrow.Author.Tests.{lt-ltb, le-ltb, ltb-false, eq-eqb, ne_eqb, eqb-true}
 use lib.Dec.{T, eqb, ltb}
 use lib.ListN.{length, get_or, set, length-append, length-set}
+use lib.Seq.{set_out}
 use Rattle.std.proofs.lemmas.Bool.{or_right}
 use Rattle.words.specs.Answers.{Answer, given, refused, ◌then◌}
 use Rattle.words.specs.AsCoded.Fill.{filled}
@@ -228,6 +229,11 @@ module _ {ws hs hs' : List ℕ} {m k i : ℕ} (g : Gathering ws m hs hs' k i) wh
         is = rw out g.is;
       }
 
+  pub gathering-all : m ≤ i → (k ≡ length (bounded_handles ws m)) × (hs' ≡ laid (bounded_handles ws m) hs)
+  gathering-all h =
+      let e : i ≡ m = omega arith in
+      (g.count ∙ rw e, g.is ∙ rw e)
+
 -- ---- the handle table
 
 module _ (ws : List ℕ) (i : ℕ) (table : List ℕ) where
@@ -235,6 +241,11 @@ module _ (ws : List ℕ) (i : ℕ) (table : List ℕ) where
       → tabled_below ws (i + 1) table ≡ set (tabled_below ws i table) (handle_of (get_or ws (node_place i) 0)) i
   unfolding tabled_below
   tabled-leaf e = rw (add-one i, eq-eqb (kind_of (get_or ws (node_place i) 0)) 1 e)
+
+  pub tabled-past : kind_of (get_or ws (node_place i) 0) ≡ 1 →
+      length (tabled_below ws i table) ≤ handle_of (get_or ws (node_place i) 0)
+      → tabled_below ws (i + 1) table ≡ tabled_below ws i table
+  tabled-past e h = tabled-leaf e ∙ set_out (tabled_below ws i table) (handle_of (get_or ws (node_place i) 0)) i h
 
   pub tabled-other : (kind_of (get_or ws (node_place i) 0) ≡ 1 → ⊥)
       → tabled_below ws (i + 1) table ≡ tabled_below ws i

@@ -1,12 +1,12 @@
 -- How a split and a tree refuse. A split and a union by 10 alone: each step of a split joins records, and a join
 -- refuses where a union does. So a tree refuses late: by 10, or a stretch without handles, which no build meets, by 12.
 -- Assumes nothing.
-use Prim.Native.Nat.{ℕ, zero, suc, ◌<◌}
+use Prim.Native.Nat.{ℕ, zero, suc, ◌≤◌, ◌<◌}
 use mathlib.Core.Path.{◌≡◌, refl, subst, sym, ◌∙◌}
 use mathlib.Core.List.{List, [], ◌∷◌}
 use native.Mathlib.Omega.{arith}
 use lib.Ieee.{eq}
-use lib.ListN.{get_or, set, take, drop}
+use lib.ListN.{length, get_or, set, take, drop}
 use Rattle.std.specs.Prelude.{None, Some}
 use Rattle.words.specs.Answers.{Answer, given, refused}
 use Rattle.words.proofs.AnswerLaws.{Only, Late, only-given, only-refused, only-cond, only_then, refused_injective}
@@ -24,6 +24,7 @@ use Rattle.light_split.specs.declared.split.Best.{Best}
 use Rattle.light_split.proofs.BucketLaws.{union-refused}
 use Rattle.light_bvh.specs.Subtree.{forked, tree_by, build_subtree}
 use Rattle.light_bvh.specs.AsCoded.Stretches.{union_at}
+use Rattle.light_bvh.proofs.SubtreeLaws.{halves}
 
 -- ---- a split: whatever holds of 10 holds of its refusal
 
@@ -114,3 +115,16 @@ pub late-tree : (ws : List ℕ) (n : ℕ) (hs : List ℕ) → Late (build_subtre
 unfolding build_subtree
 late-tree ws zero hs = late-by ws hs _ (λ l. only-refused (omega arith))
 late-tree ws (suc n) hs = late-by ws hs _ (λ l. late-tree ws n l)
+
+-- of a stretch with handles, as every build meets it, by 10 alone
+pub ten-tree : (ws : List ℕ) (n : ℕ) (hs : List ℕ) → 1 ≤ length hs → length hs ≤ n → Ten (build_subtree ws n hs)
+unfolding build_subtree tree_by forked
+ten-tree ws zero hs some few = absurd (omega arith)
+ten-tree ws (suc n) [] some few = absurd (omega arith)
+ten-tree ws (suc n) (h ∷ []) some few = only-given
+ten-tree ws (suc n) (h ∷ i ∷ hs) some few =
+    let all = h ∷ i ∷ hs in
+    only_then (ten-split ws all) (λ s. let both = halves ws all s (omega arith) in
+    only_then (ten-tree ws n (partition_handles ws all s).0 both.left (omega (arith, both.right, both.sum, few))) (λ l.
+    only_then (ten-tree ws n (partition_handles ws all s).1 both.right (omega (arith, both.left, both.sum, few))) (λ r.
+    only_then (only-union (λ (n : ℕ). n ≡ 10) refl (bounds l) (bounds r)) (λ b. only-given))))
