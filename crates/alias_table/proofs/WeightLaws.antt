@@ -26,6 +26,12 @@ bad_infinite nan h = refl
 bad_infinite (inf s) h = refl
 bad_infinite (fin s m e) h = absurd (subst T (sym h) tt)
 
+pub bad-above : (w : Float) → lt w (inf false) ≡ false → bad w ≡ true
+unfolding lt
+bad-above nan h = refl
+bad-above (inf s) h = refl
+bad-above (fin s m e) h = absurd (subst T h tt)
+
 pub bad-below : (w : Float) → lt w zerof ≡ true → bad w ≡ true
 bad-below w h = rw h (or-true (not (finite w)))
 

@@ -1,5 +1,5 @@
 -- Laws of a lamp's bounds that its code uses. Assumes nothing.
-use Prim.Native.Nat.{ℕ, zero, suc, ◌+◌, ◌/◌, ◌≤◌, ◌<◌}
+use Prim.Native.Nat.{ℕ, zero, suc, ◌+◌, ◌-◌, ◌/◌, ◌≤◌, ◌<◌}
 use mathlib.Core.Path.{◌≡◌, refl, ap, sym, subst, ◌∙◌}
 use mathlib.Core.Bool.{Bool}
 use mathlib.Core.List.{List, ◌++◌}
@@ -15,7 +15,7 @@ use Rattle.ieee.specs.Single.{single}
 use Rattle.trig.specs.Series.{turns, series_step, series}
 use Rattle.trig.specs.Trig.{cos}
 use Rattle.words.proofs.AnswerLaws.{then_assoc}
-use Rattle.words.specs.Answers.{Answer, given, ◌then◌}
+use Rattle.words.specs.Answers.{Answer, given, refused, ◌then◌}
 use Rattle.light_bounds.specs.declared.light_bounds.LightBounds.{LightBounds}
 use Rattle.light_rows.specs.RecordWords.{vec_at}
 use Rattle.lamps.specs.LampList.{triangle_words}
@@ -26,6 +26,33 @@ pub cos-half-pi : cos half_pi ≡ single 0xb33b_bd2e
 unfolding of_bits to_bits of_int span climb size odd units round neg sum add sub mul div lt eq le fabs narrow turns
     series_step series cos
 cos-half-pi = refl
+
+module _ (emission scale : Float) (side : Bool) (ts : List ℕ) where
+  -- no triangle is left
+  pub union_from-end : (i n : ℕ) (result : Answer LightBounds) → n ≡ 0 →
+      union_from emission scale side ts i n result ≡ result
+  unfolding union_from
+  union_from-end i n result e = rw e
+
+  -- the first triangle's record as it is
+  pub union_from-first : (n : ℕ) → 0 < n → union_from emission scale side ts 0 n (refused 9)
+      ≡ triangle_record emission scale side (triangle_at ts 0) then λ current. union_from emission scale side ts
+      triangle_words (n - 1) (given current)
+  unfolding union_from ◌then◌
+  union_from-first zero h = absurd (omega arith)
+  union_from-first (suc k) h = let e : suc k - 1 ≡ k = omega arith in rw e
+
+  -- a later one in a union
+  pub union_from-next : (i n : ℕ) (r : LightBounds) → 0 < n → union_from emission scale side ts i n (given r)
+      ≡ (triangle_record emission scale side (triangle_at ts i) then join_next (given r)) then λ s. union_from emission
+      scale side ts (i + triangle_words)
+      (n - 1) (given s)
+  unfolding union_from
+  union_from-next i zero r h = absurd (omega arith)
+  union_from-next i (suc k) r h =
+      let e : suc k - 1 ≡ k = omega arith in
+      rw e (sym (then_assoc (triangle_record emission scale side (triangle_at ts i)) (join_next (given r))
+      (λ s. union_from emission scale side ts (i + triangle_words) k (given s))))
 
 -- a triangle is what its thirteen words say
 triangle-words : (a b : List ℕ) (i j : ℕ) →

@@ -7,9 +7,11 @@ use mathlib.Core.List.{List, [], ◌∷◌, ◌++◌, append-nil}
 use mathlib.Core.Option.{Option}
 use native.Mathlib.Numerals.{add-one}
 use native.Mathlib.Omega.{arith}
-use borrow.Author.Tests.{ltb-false, eq-eqb, ne_eqb, eqb-true}
+use borrow.Author.Tests.{lt-ltb, le-ltb, ltb-false, eq-eqb, ne_eqb, eqb-true}
 use lib.Dec.{T, eqb, ltb}
 use lib.ListN.{length, get_or, set, length-append, length-set}
+use lib.Seq.{set_out}
+use Rattle.std.proofs.lemmas.Bool.{or_right}
 use Rattle.words.specs.Answers.{Answer, given, refused, ◌then◌}
 use Rattle.words.specs.AsCoded.Fill.{filled}
 use Rattle.words.specs.Heads.{kind_of, handle_of}
@@ -35,15 +37,30 @@ use Rattle.light_bvh.specs.Build.{nodes_reserve, work_reserve, is_short, build_c
 use Rattle.light_bvh.specs.AsCoded.Tables.{tabled_below}
 use Rattle.light_bvh.specs.Build.{built_bvh, build_light_bvh, nodes_written, table_written, work_written, summary}
 
--- ---- reserves that are not short
+-- ---- short reserves
 
 or-false : (a b : Bool) → a || b ≡ false → (a ≡ false) × (b ≡ false)
 or-false true b e = (e, absurd (subst T e tt))
 or-false false b e = (refl, e)
 
 module _ (m nodes table work : ℕ) where
-  -- have room
-  reserves-fit : is_short m nodes table work ≡ false →
+  pub short-nodes : nodes < nodes_reserve m → is_short m nodes table work ≡ true
+  short-nodes h = rw (lt-ltb nodes (nodes_reserve m) h)
+
+  pub short-table : table < m → is_short m nodes table work ≡ true
+  short-table h =
+      or_right (ltb nodes (nodes_reserve m)) (ltb table m || ltb work (work_reserve m)) (rw (lt-ltb table m h))
+
+  pub short_work : work < work_reserve m → is_short m nodes table work ≡ true
+  short_work h =
+      or_right (ltb nodes (nodes_reserve m)) (ltb table m || ltb work (work_reserve m))
+      (or_right (ltb table m) (ltb work (work_reserve m)) (lt-ltb work (work_reserve m) h))
+
+  pub not_short : nodes_reserve m ≤ nodes → m ≤ table → work_reserve m ≤ work → is_short m nodes table work ≡ false
+  not_short h k l = rw (le-ltb nodes (nodes_reserve m) h, le-ltb table m k) (le-ltb work (work_reserve m) l)
+
+  -- what is not short has room
+  pub reserves-fit : is_short m nodes table work ≡ false →
       (nodes_reserve m ≤ nodes) × (m ≤ table) × (work_reserve m ≤ work)
   reserves-fit h =
       let (n, h') = or-false (ltb nodes (nodes_reserve m)) (ltb table m || ltb work (work_reserve m)) h in
@@ -212,6 +229,11 @@ module _ {ws hs hs' : List ℕ} {m k i : ℕ} (g : Gathering ws m hs hs' k i) wh
         is = rw out g.is;
       }
 
+  pub gathering-all : m ≤ i → (k ≡ length (bounded_handles ws m)) × (hs' ≡ laid (bounded_handles ws m) hs)
+  gathering-all h =
+      let e : i ≡ m = omega arith in
+      (g.count ∙ rw e, g.is ∙ rw e)
+
 -- ---- the handle table
 
 module _ (ws : List ℕ) (i : ℕ) (table : List ℕ) where
@@ -219,6 +241,11 @@ module _ (ws : List ℕ) (i : ℕ) (table : List ℕ) where
       → tabled_below ws (i + 1) table ≡ set (tabled_below ws i table) (handle_of (get_or ws (node_place i) 0)) i
   unfolding tabled_below
   tabled-leaf e = rw (add-one i, eq-eqb (kind_of (get_or ws (node_place i) 0)) 1 e)
+
+  pub tabled-past : kind_of (get_or ws (node_place i) 0) ≡ 1 →
+      length (tabled_below ws i table) ≤ handle_of (get_or ws (node_place i) 0)
+      → tabled_below ws (i + 1) table ≡ tabled_below ws i table
+  tabled-past e h = tabled-leaf e ∙ set_out (tabled_below ws i table) (handle_of (get_or ws (node_place i) 0)) i h
 
   pub tabled-other : (kind_of (get_or ws (node_place i) 0) ≡ 1 → ⊥)
       → tabled_below ws (i + 1) table ≡ tabled_below ws i

@@ -8,7 +8,7 @@ use native.Mathlib.Omega.{arith}
 use borrow.Author.Tests.{eq-eqb, le-leb}
 use lib.Dec.{ltb}
 use lib.ListN.{length, get_or, take, length-append}
-use lib.Seq.{sets, length-sets}
+use lib.Seq.{sets, length-sets, length-take-le}
 use Rattle.std.specs.Prelude.{Some, None}
 use Rattle.words.specs.Answers.{Answer, given, refused, ◌then◌}
 use Rattle.words.specs.LittleEndian.{words_of, bytes_of}
@@ -18,6 +18,7 @@ use Rattle.words.specs.Laws.TrayLaws.{tray-early, tray-front}
 use Rattle.words.proofs.AnswerLaws.{given_injective, refused_injective, not-both, Early}
 use Rattle.words.proofs.AnswerLaws.{only-given, only-refused, only-cond, only-number}
 use Rattle.words.proofs.LittleEndianLaws.{length-words_of, length-bytes_of}
+use Rattle.light_rows.specs.Block.{block_words}
 use Rattle.light_bvh.specs.Build.{LightBVH, nodes_reserve, nodes_written, table_written, summary}
 use Rattle.text.specs.Text.{refusal_line}
 use Rattle.text.specs.AsCoded.Puts.{fitting, Put}
@@ -40,6 +41,15 @@ words-read bytes before (whole, room) =
     simp (eq-eqb (length bytes % 4) 0 whole, le-leb (length bytes / 4) (length before) (omega (arith, room)))
     (tray-front (λ (n : ℕ). words_of bytes) (length bytes / 4) (length bytes / 4) (length bytes / 4) before
     (length-words_of bytes))
+
+-- they stand at the front of the slice that its bytes were read into
+pub block_read : (m : ℕ) (input after : List ℕ) → block_bytes m ≤ length input
+    → take (length (take (block_bytes m) input) / 4) after ≡ words_of (take (block_bytes m) input)
+    → take (block_words m) after ≡ words_of (take (block_bytes m) input)
+block_read m input after room e =
+    let n : length (take (block_bytes m) input) / 4 ≡ block_words m = rw (length-take-le (block_bytes m) input room)
+    (omega arith) in
+    rw n at e
 
 -- what is refused before build leaves the trays as they are
 lamps-early : (input : List ℕ) → Early (block_lamps input)

@@ -10,6 +10,7 @@ use lib.Dec.{eqb, leb, ltb}
 use lib.Ieee.{Float}
 use lib.ListN.{length, get_or}
 use Rattle.std.specs.Prelude.{Some, None}
+use Rattle.ieee.specs.Choose.{fmin}
 use Rattle.ieee.specs.Single.{◌⊗◌, zerof, onef}
 use Rattle.words.specs.Answers.{Answer, ◌then◌, given, refused}
 use Rattle.words.specs.Heads.{kind_of}
@@ -21,8 +22,8 @@ use Rattle.light_bounds.specs.declared.importance.Prepared.{Prepared}
 use Rattle.light_rows.specs.Nodes.{LightBVHNode, leaf, interior, invalid_index, parent, node_of, node_at}
 use Rattle.light_rows.specs.Nodes.{node_place, node_words}
 use Rattle.light_rows.specs.Laws.TreeLaws.{node_at-past}
-use Rattle.light_sampler.specs.Fork.{neither, left, right}
-use Rattle.light_sampler.specs.Sampler.{leaf_of, from_leaf}
+use Rattle.light_sampler.specs.Fork.{neither, left, right, most}
+use Rattle.light_sampler.specs.Sampler.{from_root, leaf_of, from_leaf}
 use Rattle.light_sampler.specs.AsCoded.Turns.{by_prepared, leaf_found}
 use Rattle.light_sampler.specs.Walks.{Walked, ended, after_check, Weighing, by_query, turn, taken}
 use Rattle.light_sampler.specs.Walks.{onward, descend, nought, part, rise, risen, upward, ascend}
@@ -91,10 +92,10 @@ by-held : (h : Prepared) (q : Query) → h ≡ prepared q → by_query q ≡ by_
 by-held h q e = λ i b. sym (weigh-prepared b h q e) i
 
 module _ (ws : List ℕ) (h : Prepared) (q : Query) (held : h ≡ prepared q) where
-  turn-held : (i r : ℕ) (u : Float) → turn ws (by_query q) i r u ≡ turn ws (by_prepared h) i r u
+  pub turn-held : (i r : ℕ) (u : Float) → turn ws (by_query q) i r u ≡ turn ws (by_prepared h) i r u
   turn-held i r u = ap (λ (by : Weighing). turn ws by i r u) (by-held h q held)
 
-  rise-held : (i p : ℕ) → rise ws (by_query q) i p ≡ rise ws (by_prepared h) i p
+  pub rise-held : (i p : ℕ) → rise ws (by_query q) i p ≡ rise ws (by_prepared h) i p
   rise-held i p = ap (λ (by : Weighing). rise ws by i p) (by-held h q held)
 
 -- ---- down
@@ -134,6 +135,13 @@ module _ (ws : List ℕ) (q : Query) (n i : ℕ) (pmf u : Float) where
         (descend ws q (suc n) i pmf u).outcome ≡ (descend ws q n r (pmf ⊗ s) v).outcome
     unfolding descend onward taken
     descend-right e = rw (← stands, turn-held ws h q held i r u, ← e)
+
+-- from the root, where there are nodes
+pub from-root : (ws : List ℕ) (q : Query) (u : Float) (n : ℕ) → (n ≡ 0 → ⊥) →
+    (from_root ws q u n).outcome ≡ (descend ws q n 0 onef (fmin u most)).outcome
+unfolding from_root
+from-root ws q u zero h = absurd (h refl)
+from-root ws q u (suc n) h = refl
 
 -- ---- up
 

@@ -1,4 +1,5 @@
--- Laws of the twelve buckets: one more record, one bucket more, and a float of its word. Assumes nothing.
+-- Laws of the twelve buckets: the refusal of a union, one more record, one bucket more, and a float of its word.
+-- Assumes nothing.
 use Prim.Native.Nat.{ℕ, ◌+◌, ◌≤◌, ◌<◌}
 use mathlib.Core.Path.{◌≡◌, refl, ap, subst, sym, ◌∙◌}
 use mathlib.Core.Bool.{true}
@@ -11,12 +12,27 @@ use lib.Ieee.Bits.{of_bits-to_bits}
 use lib.ListN.{length, get_or, set, drop, drop_of_length-le}
 use lib.Seq.{drop-cons}
 use Rattle.std.specs.Prelude.{None, Some}
-use Rattle.words.specs.Answers.{given, ◌then◌}
+use Rattle.words.specs.Answers.{Answer, given, refused, ◌then◌}
 use Rattle.words.proofs.AnswerLaws.{then_is, then-refused}
+use Rattle.words.proofs.AnswerLaws.{Only, only-given, only-refused, only_then, only-number}
+use Rattle.light_bounds.specs.LightBounds.{union, operand, validate}
 use Rattle.light_bounds.specs.declared.bounds.Bounds3.{Bounds3}
 use Rattle.light_bounds.specs.declared.light_bounds.LightBounds.{LightBounds}
 use Rattle.light_split.specs.Buckets.{Bucket, join_to, fill_buckets, union_range}
 use Rattle.light_split.specs.Lights.{light_of, bucket_of}
+
+-- ---- a union refuses by 10 alone
+
+ten-operand : (x : Answer (Unit {0})) → Only (λ (n : ℕ). n ≡ 10) (operand x)
+ten-operand (given u) = only-given
+ten-operand (refused n) = only-refused refl
+
+ten-union : (a b : LightBounds) → Only (λ (n : ℕ). n ≡ 10) (union a b)
+unfolding union
+ten-union a b = only_then (ten-operand (validate a)) (λ _. only_then (ten-operand (validate b)) (λ _. only-given))
+
+pub union-refused : (a b : LightBounds) (n : ℕ) → union a b ≡ refused n → union a b ≡ refused 10
+union-refused a b n e = e ∙ ap refused (only-number (ten-union a b) e)
 
 -- ---- one more
 
@@ -60,6 +76,11 @@ pub ruleset joins = (union_next, union_some, union_none, union_end, then_is, the
 
 pub of_its_word : (x : Float) (w : ℕ) → fits binary32 x ≡ true → w ≡ to_bits binary32 x → of_bits binary32 w ≡ x
 of_its_word x w f e = ap (of_bits binary32) e ∙ of_bits-to_bits binary32 x (subst T (sym f) tt)
+
+-- floats of one word are equal
+pub same_word : (x y : Float) → fits binary32 x ≡ true → fits binary32 y ≡ true →
+    to_bits binary32 x ≡ to_bits binary32 y → x ≡ y
+same_word x y f g e = sym (of_its_word x (to_bits binary32 x) f refl) ∙ of_its_word y (to_bits binary32 x) g e
 
 -- ---- twelve as a float is that of its word
 

@@ -1,3 +1,4 @@
 pub mod BucketLaws
+pub mod LightLaws
 pub mod PartitionLaws
 pub mod SplitLaws

@@ -1,10 +1,11 @@
 -- Laws of the cuts of an axis, as the loop that takes them uses them: the two sides of a cut, one cut more, a cut
--- behind an empty bucket, a side that is lost; and of the axes that are left. Assumes nothing.
+-- behind an empty bucket, a side that is lost; of the box of a stretch, its three axes, and the axes that are left.
+-- Assumes nothing.
 use Prim.Native.Nat.{ℕ, zero, suc, ◌+◌, ◌-◌, ◌≤◌, ◌<◌}
 use mathlib.Core.Path.{◌≡◌, refl, ap, subst, sym, ◌∙◌}
 use mathlib.Core.Bool.{Bool, true, false, cond, ◌&&◌, and-false}
 use mathlib.Core.List.{List, [], ◌∷◌, ◌++◌}
-use Rattle.std.specs.Prelude.{None, Some}
+use Rattle.std.specs.Prelude.{None, Some, fold}
 use Rattle.std.specs.Option.{is_some}
 use native.Mathlib.Numerals.{add-one}
 use native.Mathlib.Omega.{arith}
@@ -17,9 +18,10 @@ use Rattle.ieee.specs.Laws.OrderLaws.{lt→le, not_le_of_lt}
 use Rattle.ieee.specs.Single.{◌⊕◌, zerof}
 use Rattle.words.specs.Answers.{Answer, given, refused, ◌then◌}
 use Rattle.words.proofs.AnswerLaws.{then_assoc, then_is, then-refused}
+use Rattle.light_bounds.specs.Bounds.{box_union}
 use Rattle.light_bounds.specs.declared.bounds.Bounds3.{Bounds3}
 use Rattle.light_bounds.specs.declared.light_bounds.LightBounds.{LightBounds}
-use Rattle.light_split.specs.Lights.{component, centroid_ends}
+use Rattle.light_split.specs.Lights.{light_of, component, centroid_ends}
 use Rattle.light_split.specs.Buckets.{Bucket, join_to, union_range, union_bucket_range, side_cost, cut_cost}
 use Rattle.light_split.specs.Buckets.{fill_buckets, empty_buckets}
 use Rattle.light_split.specs.Split.{split, combined_bounds, no_best, better, cuts, axis, choose_split}
@@ -188,7 +190,40 @@ module _ (bs : List Bucket) (parent : Bounds3) (d : ℕ) (twelve : length bs ≡
         sym (cuts_lost (suc n) 11 k
         (rw (e, cut_cost-sides n, rw (add-one n) at f, sym (g ∙ ap (union_range None) (behind_all n h)))) h)
 
+-- ---- the box of a stretch
+
+abbrev pub join_box : List ℕ → Bounds3 → ℕ → Bounds3
+join_box ws b h = box_union b (light_of ws h).bounds
+
+pub combined-none : (ws hs : List ℕ) → length hs ≡ 0 → combined_bounds ws hs ≡ (light_of ws 0).bounds
+unfolding combined_bounds
+combined-none ws [] e = refl
+combined-none ws (h ∷ hs) e = absurd (omega arith)
+
+pub combined-first : (ws hs : List ℕ) → 0 < length hs →
+    combined_bounds ws hs ≡ fold (join_box ws) (light_of ws (get_or hs 0 0)).bounds (drop 1 hs)
+unfolding combined_bounds
+combined-first ws [] l = absurd (omega arith)
+combined-first ws (h ∷ hs) l = refl
+
 -- ---- the axes
+
+then-last : {A B : Type 0} (x : Answer A) (f g : A → Answer A) (h : A → Answer B)
+    → x then (λ (a : A). f a then λ (b : A). g b then h) ≡ (x then λ (a : A). f a then λ (b : A). g b) then h
+unfolding ◌then◌
+then-last (given a) f g h = sym (then_assoc (f a) g h)
+then-last (refused k) f g h = refl
+
+-- all three, then the best cut
+pub choose_axes : (ws hs : List ℕ) → choose_split ws hs
+    ≡ (axis ws hs (centroid_ends ws hs) (combined_bounds ws hs) 0 no_best then
+    λ (b : Best). axis ws hs (centroid_ends ws hs) (combined_bounds ws hs) 1 b then
+    λ (b : Best). axis ws hs (centroid_ends ws hs) (combined_bounds ws hs) 2 b) then λ (b : Best). given b.best
+unfolding choose_split
+choose_axes ws hs =
+    then-last (axis ws hs (centroid_ends ws hs) (combined_bounds ws hs) 0 no_best)
+    (axis ws hs (centroid_ends ws hs) (combined_bounds ws hs) 1)
+    (axis ws hs (centroid_ends ws hs) (combined_bounds ws hs) 2) (λ (b : Best). given b.best)
 
 -- what is chosen where n axes are left
 unfoldable pub axes : List ℕ → List ℕ → Bounds3 → Bounds3 → ℕ → Best → Answer Split

@@ -92,9 +92,9 @@ fn kr(diagonal: Vec3, dimension: usize) -> f32
 
 // An m_omega that was worked out, and the words of the cosines that it is of.
 #[derive(Clone, Copy)]
-pub(crate) struct Omega {
-    cosines: (u32, u32),
-    m_omega: f32,
+pub struct Omega {
+    pub cosines: (u32, u32),
+    pub m_omega: f32,
     ghost right: { m_omega ≡ m_omega_of (of_bits binary32 cosines.0) (of_bits binary32 cosines.1) },
 }
 

@@ -28,7 +28,7 @@ refusal-room : (n : ℕ) → length (answer_bytes (refused n)) ≤ 4 * block_roo
 unfolding answer_bytes
 refusal-room n = omega (arith, refusal-short n)
 
-block_room_lem : (list : List ℕ) (room : ℕ) → length (answer_bytes (build_light_bounds list room)) ≤ 4 * block_room
+pub block_room_lem : (list : List ℕ) (room : ℕ) → length (answer_bytes (build_light_bounds list room)) ≤ 4 * block_room
 unfolding answer_bytes
 block_room_lem list room = go (build_light_bounds list room) refl
   where

@@ -1,5 +1,5 @@
 -- What the packing writes, word behind word and node behind node, and which refusals it has. Assumes nothing.
-use Prim.Native.Nat.{ℕ, zero, suc, ◌+◌, ◌*◌, ◌/◌, ◌%◌, ◌-◌, ◌≤◌, ◌<◌}
+use Prim.Native.Nat.{ℕ, zero, suc, ◌+◌, ◌*◌, ◌/◌, ◌%◌, ◌-◌, ◌≤◌, ◌<◌, zero-le}
 use mathlib.Core.Path.{◌≡◌, refl, ap, sym, subst, ◌∙◌}
 use mathlib.Core.Bool.{Bool, true, false, cond, ◌&&◌, ◌||◌}
 use mathlib.Core.List.{List, [], ◌∷◌, ◌++◌}
@@ -21,6 +21,7 @@ use Rattle.words.proofs.AnswerLaws.{Early, Late, then-given}
 use Rattle.words.proofs.AnswerLaws.{only-given, only-refused, only-cond, only_then}
 use Rattle.words.proofs.AnswerLaws.{only-number, not-both, given_injective}
 use Rattle.words.proofs.LittleEndianLaws.{length-bytes_of, bytes_of-append}
+use Rattle.words.proofs.FillLaws.{filled_within}
 use Rattle.words.proofs.Reserves.{tray-zeroed}
 use Rattle.words.proofs.Stores.{sets-append, drop-sets}
 use Rattle.light_bounds.specs.Bounds.{box_check}
@@ -132,6 +133,11 @@ node-checked count all ws i {n} {b} {t} {d} is read valid directed =
     (own_checks (payload_check n) (parent_check count n) (left_check i n) (payload_word n) (parent n)
     (λ (w p : ℕ). compact_words all b d w p))
 
+pub node-refused : (count : ℕ) (all : Bounds3) (ws : List ℕ) (i k : ℕ) → node_at ws i ≡ refused k
+    → pack_node count all ws i ≡ refused k
+unfolding pack_node ◌then◌
+node-refused count all ws i k e = rw e
+
 -- ---- refusals are late
 
 late-node : (ws : List ℕ) (i : ℕ) → Late (node_at ws i)
@@ -193,6 +199,14 @@ count-known bytes n e = go (ltb max_nodes (length bytes / node_bytes)) refl (eqb
 pub reserve-some : (n : ℕ) → 0 < n → packed_reserve n ≡ packed_place n
 reserve-some zero h = absurd (omega arith)
 reserve-some (suc n) h = refl
+
+pub reserve-small : (n : ℕ) → n ≤ max_nodes → packed_reserve n ≤ 65536
+reserve-small zero h = zero-le
+reserve-small (suc n) h = omega arith
+
+-- nothing is zeroed where there are no nodes
+pub filled_none : (l : List ℕ) (n : ℕ) → n ≡ 0 → l ≡ filled l 0 (4 * packed_reserve n) 0
+filled_none l n e = rw e (sym (filled_within l 0 0 0 zero-le zero-le))
 
 -- ---- the loop over the nodes
 
@@ -329,14 +343,35 @@ late-agreed n k (some all) =
     only-cond (eqb n 0 || eqb k 0) (only-refused (omega arith)) (only_then (late-box all) (λ _. only-given))
 
 module _ (n k : ℕ) where
+  pub agreed-empty : (all : Bounds3) → n ≡ 0 → agreed n k (some all) ≡ refused 12
+  unfolding agreed
+  agreed-empty all e = rw (eq-eqb n 0 e)
+
+  pub agreed-dark : (all : Bounds3) → (n ≡ 0 → ⊥) → k ≡ 0 → agreed n k (some all) ≡ refused 12
+  unfolding agreed
+  agreed-dark all h e = rw (ne_eqb n 0 h, eq-eqb k 0 e)
+
   pub agreed-valid : (all : Bounds3) → (n ≡ 0 → ⊥) → (k ≡ 0 → ⊥) → box_check all ≡ given tt
       → agreed n k (some all) ≡ given (some all)
   unfolding agreed ◌then◌
   agreed-valid all some-node some-lamp e = rw (ne_eqb n 0 some-node, ne_eqb k 0 some-lamp, e)
 
+  pub agreed-refused : (all : Bounds3) → (n ≡ 0 → ⊥) → (k ≡ 0 → ⊥) → (j : ℕ) → box_check all ≡ refused j
+      → agreed n k (some all) ≡ refused j
+  unfolding agreed ◌then◌
+  agreed-refused all some-node some-lamp j e = rw (ne_eqb n 0 some-node, ne_eqb k 0 some-lamp, e)
+
   pub agreed-nothing : n ≡ 0 → k ≡ 0 → agreed n k none ≡ given none
   unfolding agreed
   agreed-nothing h e = rw (eq-eqb n 0 h, eq-eqb k 0 e)
+
+  pub agreed-lamps : n ≡ 0 → (k ≡ 0 → ⊥) → agreed n k none ≡ refused 12
+  unfolding agreed
+  agreed-lamps h e = rw (eq-eqb n 0 h, ne_eqb k 0 e)
+
+  pub agreed-nodes : (n ≡ 0 → ⊥) → agreed n k none ≡ refused 12
+  unfolding agreed
+  agreed-nodes h = rw (ne_eqb n 0 h)
 
 -- counted nodes: the room is short, or it is enough
 module _ (nodes : List ℕ) (room : ℕ) {n : ℕ} (counted : given n ≡ node_count nodes) where
