@@ -1,3 +1,4 @@
 pub mod Saturated
+pub mod WholeLaws
 pub mod WordLaws
 pub mod RootLaws

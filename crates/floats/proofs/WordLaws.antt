@@ -9,9 +9,11 @@ use Rattle.std.specs.Float.Ieee.Bits.{of_bits-to_bits}
 use Rattle.ieee.specs.Choose.{fabs}
 use Rattle.ieee.specs.Narrow.{narrow}
 use Rattle.ieee.specs.Sqrt.{sqrt, root_of}
+use Rattle.ieee.specs.Whole.{round_away}
 use Rattle.ieee.specs.Laws.AbsLaws.{abs_greater}
 use Rattle.ieee.specs.Laws.FormatLaws.{sqrt-fits}
 use Rattle.ieee.specs.Laws.NarrowLaws.{narrow-fits}
+use Rattle.ieee.specs.Laws.WholeLaws.{round_away-fits}
 use Rattle.ieee.specs.Laws.SqrtWords.{sqrt-own, sqrt-none, sqrt_subnormal, sqrt-normal}
 use lib.Ieee.{top, hid, ones, low}
 
@@ -26,7 +28,10 @@ narrow_back x = of_bits-to_bits binary32 _ (narrow-fits x)
 pub root_back : (f : Format) (x : Float) → fits f x ≡ true → of_bits f (to_bits f (sqrt f x)) ≡ sqrt f x
 root_back f x h = of_bits-to_bits f (sqrt f x) (sqrt-fits f x (subst T (sym h) tt))
 
-pub ruleset backs = (read_back, narrow_back, root_back)
+pub round_back : (x : Float) → of_bits binary32 (to_bits binary32 (round_away binary32 x)) ≡ round_away binary32 x
+round_back x = of_bits-to_bits binary32 _ (round_away-fits binary32 x)
+
+pub ruleset backs = (read_back, narrow_back, root_back, round_back)
 
 -- ---- the size of a float, as `abs` takes it
 

@@ -1,11 +1,10 @@
 // The library functions of docs/REQUIREMENTS.md R2 on floats, at every bit pattern: NaN, infinities, both zeros and
 // subnormals included. Each promise is an equation with a definition of crates/ieee/specs, which reads as its line
-// there. `widen` is the library's. The others are written out:
+// there. `widen` is the library's, and so are `floor` and `ceil` but for a NaN. The others are written out:
 // - `min`, `max`: the library's leave open which of two equal values is given, as 0 and -0; R2.4 asks for the first.
 // - `clamp`, `is_sign_negative`: the library's ask their caller for ends in order, and for no NaN; by R1.6 nothing is.
 // - `sqrt`: R2.3 and R16.5 fix its steps, and the library's is one operation of the processor.
-// - `floor`, `ceil`, `round`: the library's hand a NaN on with its own bits, and `round` is slower.
-// - `abs`, `narrow` and the casts to whole numbers: the library's are slower, by the figures beside them.
+// - `abs`, `round`, `narrow` and the casts to whole numbers: the library's are slower, by the figures beside them.
 #![tactic(auto)]
 
 pub mod choose;

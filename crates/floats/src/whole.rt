@@ -1,61 +1,37 @@
-// Functions to whole numbers. A magnitude pattern a below 2^31 has the exponent's field a >> 23; from 150 on the value
-// is whole, and from 127 to 149 its last 150 - field digits are the fraction. The library's `floor`, `ceil` and `round`
-// hand a NaN on with its own bits, and `round` takes 8.4 ns by C, where this takes 4.7.
+// Functions to whole numbers. `floor` and `ceil` are the library's, which WholeLaws proves to be those of R2.6, behind a
+// test: the library hands a NaN on with its own bits, and here every NaN is one. A magnitude pattern a below 2^31 has
+// the exponent's field a >> 23; from 150 on the value is whole, and from 127 to 149 its last 150 - field digits are the
+// fraction.
 ghost use Rattle.std.specs.Prelude.{◌≡◌};
 ghost use Rattle.std.specs.Float.{binary32};
 ghost use Rattle.std.specs.Float.Ieee.{of_bits, to_bits};
-ghost use Rattle.ieee.specs.Whole.{next_whole, floor as floored, ceil as ceiled, round_away, to_u16, to_u32, to_usize};
+ghost use Rattle.ieee.specs.Whole.{floor as floored, ceil as ceiled, round_away, to_u16, to_u32, to_usize};
 
 use super::shift::power;
 use words::floats::Float;
 
 // The greatest whole number at most x.
+#[tactic(auto, using(crate::proofs::WholeLaws::library))]
 pub fn floor(x: f32) -> f32
     ensures { result ≡ floored binary32 x }
 {
-    let w = x.word();
-    f32::of_word(next_whole_word(w, w >= 0x8000_0000))
+    if x.is_nan() { f32::NAN } else { x.floor() }
 }
 
 // The least whole number at least x.
+#[tactic(auto, using(crate::proofs::WholeLaws::library))]
 pub fn ceil(x: f32) -> f32
     ensures { result ≡ ceiled binary32 x }
 {
-    let w = x.word();
-    f32::of_word(next_whole_word(w, !(w >= 0x8000_0000)))
+    if x.is_nan() { f32::NAN } else { x.ceil() }
 }
 
-// The nearest whole number, halves away from zero.
+// The nearest whole number, halves away from zero. The library's takes 8.4 ns by C, and this 4.7.
+#[tactic(auto, using(crate::proofs::WordLaws::backs))]
 pub fn round(x: f32) -> f32
     ensures { result ≡ round_away binary32 x }
 {
     f32::of_word(round_word(x.word()))
-}
-
-// The pattern of the next whole number, away from zero or toward it.
-fn next_whole_word(w: u32, away: bool) -> u32
-    ensures { result ≡ to_bits binary32 (next_whole binary32 away (of_bits binary32 w)) }
-{
-    let a = w % 0x8000_0000;
-    if a > 0x7f80_0000 {
-        return 0x7fc0_0000;
-    }
-    if a >= 0x4b00_0000 {
-        return w;
-    }
-    let sign = w - a;
-    if a < 0x3f80_0000 {
-        if a == 0 || !away {
-            return sign;
-        }
-        return sign + 0x3f80_0000;
-    }
-    let part = power(150 - a / 0x80_0000);
-    if away {
-        let b = a + (part - 1);
-        return sign + (b - b % part);
-    }
-    sign + (a - a % part)
 }
 
 // The pattern of the nearest whole number, halves away from zero.
