@@ -186,7 +186,7 @@ fn node_count(lamps: usize) -> usize {
     (2 * lamps).saturating_sub(1)
 }
 
-/// Of so many lamps the deepest tree takes 37 kB of stack, 288 bytes a fork.
+/// Of so many lamps the deepest tree takes 37 kB of stack, 288 bytes a fork, and 5 kB besides.
 const LAMPS_IN_PLACE: usize = 128;
 /// More than twice what the deepest tree of 4,096 lamps takes.
 const BUILD_STACK: usize = 4 << 20;
